@@ -1,4 +1,4 @@
-//! The program `arachne`: it runs, evaluates and checks programs of the task language, and judges samples of a load.
+//! The program `arachne`: runs, evaluates and checks programs of the task language, and judges samples of a load.
 #![tactic(auto)]
 
 use arachne_commands::{Status, run};

@@ -1,4 +1,4 @@
-//! Parses the arguments of `arachne` into a request.
+//! Parses the command-line arguments of `arachne` into a request.
 ghost use Rattle.std.specs.Prelude.{◌≡◌, IfOk, IfErr, IfSome, map, None, Ok, Some, true, false};
 ghost use Rattle.arachne_cli.specs.CommandLine.{IsAllowed, IsNoOrderAmong, IsNoOrderMet, IsUnasked, asked_by, check_command, eval_command, is_set, machine_command, names_flag, no_order_met, number_option, number_under, order_words, orders_rule, policy_asked, policy_command, program, request_met, run_alone, run_asked, run_command, task_commands, with_orders};
 ghost use Rattle.arachne_cli.specs.Orders.{orders_of};
@@ -16,49 +16,50 @@ use clap::{Arg, ArgAction, ArgMatches, Command, Error};
 use std::alloc::{AllocError, Global};
 use std::convert::AsStr;
 
-/// The request that the command line makes.
+/// The request that the command-line arguments make.
 #[derive(Debug, Drop)]
 pub enum Request {
     /// Run a program on several cores.
     Run(RunSettings),
-    /// One of the commands that need one kernel thread only.
+    /// Run a command that needs only the calling kernel thread.
     Serial(SerialRequest),
 }
 
-/// A command that needs one kernel thread only.
+/// A command that needs only the calling kernel thread.
 #[derive(Clone, Copy, Debug)]
 pub enum SerialRequest {
-    /// Evaluate a program and, with `names`, print a line for each of its threads.
+    /// Evaluate a program. If `names` is true, also print a line for each of its task threads.
     Eval { names: bool },
-    /// Say whether a program may run.
+    /// Check if a program may run.
     Check,
-    /// Print the core policy's advice for samples of a load, with these settings.
+    /// Print the advice of the core policy, which says when to add or remove a core, for each sample of a load.
     Policy(Settings),
 }
 
-/// The settings of a run on the command line: its cores, places, seed, steps per slice, and the form of the output.
+/// The settings of a run as the command line gives them. Any numbers are accepted here; `run` refuses those that are
+/// out of its range.
 #[derive(Debug, Drop)]
 pub struct RunSettings {
-    /// The number of cores. The command line accepts any number; the run later refuses a number that it can't have.
+    /// The number of cores.
     pub cores: u64,
-    /// The seed of the random generators (one for each core) by which forks choose a core.
+    /// The seed of the random generators, one for each core, by which a fork chooses the child's core.
     pub seed: u64,
-    /// The maximum number of steps of a slice. The command line accepts any number, as for `cores`.
+    /// The greatest number of steps of a slice, after which another thread may run.
     pub quantum: u64,
-    /// The number of threads for which each core has a place. The command line accepts any number, as for `cores`.
+    /// The number of thread slots of each core.
     pub slots: u64,
-    /// True if a line for each thread is printed.
+    /// True if the output must have a line for each task thread.
     pub names: bool,
-    /// The orders that close and open cores while the program runs.
+    /// The orders to close or open cores while the program runs.
     pub orders: Sequence<CoreOrder>,
 }
 
-/// The reason why the command line makes no request.
+/// The reason why the arguments make no request.
 #[derive(Debug, Drop)]
 pub enum NotAsked {
-    /// The argument of this index, among those for orders, is the first that is not a valid order.
+    /// An order is malformed. `index` is the index of the first such argument among those for orders, counted from 0.
     NoOrder { index: usize },
-    /// The parser of command lines refused the arguments, or memory was refused. The error has the text to print.
+    /// The parser refused the arguments, or memory was refused. The error has the text to print.
     Refused(Error),
 }
 
@@ -72,7 +73,7 @@ impl From<AllocError> for NotAsked {
     }
 }
 
-/// Returns the command line of the program.
+/// Returns the parser of the program's whole command line.
 #[tactic(auto, unfolding(crate::specs::CommandLine::program))]
 fn command<'a>(alloc: Global) -> Result<Command<'a>, AllocError>
     ensures { IfOk result (λ command. app_of command ≡ program) }
@@ -83,7 +84,7 @@ fn command<'a>(alloc: Global) -> Result<Command<'a>, AllocError>
     Ok(arachne)
 }
 
-/// Returns the program with the subcommands that read a task text.
+/// Returns a parser with only the subcommands that read a program's text.
 #[tactic(auto, unfolding(crate::specs::CommandLine::task_commands))]
 fn task_commands<'a>(alloc: Global) -> Result<Command<'a>, AllocError>
     ensures { IfOk result (λ command. app_of command ≡ task_commands) }
@@ -95,7 +96,7 @@ fn task_commands<'a>(alloc: Global) -> Result<Command<'a>, AllocError>
     Ok(arachne)
 }
 
-/// Returns the program with `run` as its only subcommand.
+/// Returns a parser with only the subcommand `run`.
 #[tactic(auto, unfolding(crate::specs::CommandLine::run_alone))]
 fn run_alone<'a>(alloc: Global) -> Result<Command<'a>, AllocError>
     ensures { IfOk result (λ command. app_of command ≡ run_alone) }
@@ -112,7 +113,7 @@ fn run_alone<'a>(alloc: Global) -> Result<Command<'a>, AllocError>
     Ok(arachne)
 }
 
-/// Returns the flag that asks for the names of threads.
+/// Returns the flag `--names`, which asks for a line for each task thread.
 fn names_flag<'a>(alloc: Global) -> Arg<'a>
     ensures rule { rule_of result ≡ names_flag }
     ensures local { result.global ≡ false }
@@ -123,7 +124,7 @@ fn names_flag<'a>(alloc: Global) -> Arg<'a>
         .help("Print a line for each thread")
 }
 
-/// Returns the argument that takes any number of orders to close or open cores.
+/// Returns the argument `ORDER`, which may be repeated: an order to close or open a core.
 fn order_words<'a>(alloc: Global) -> Arg<'a>
     ensures rule { rule_of result ≡ orders_rule }
     ensures local { result.global ≡ false }
@@ -136,7 +137,7 @@ fn order_words<'a>(alloc: Global) -> Arg<'a>
         )
 }
 
-/// Returns the subcommand that runs a program.
+/// Returns the subcommand `run`.
 #[tactic(auto, unfolding(crate::specs::CommandLine::run_command))]
 fn run_command<'a>(alloc: Global) -> Result<Command<'a>, AllocError>
     ensures app { IfOk result (λ command. app_of command ≡ run_command) }
@@ -156,7 +157,7 @@ fn run_command<'a>(alloc: Global) -> Result<Command<'a>, AllocError>
     Ok(run)
 }
 
-/// Returns the subcommand that runs a program, with only the options for its cores, its seed and its quantum.
+/// Returns the subcommand `run` with only the options `--cores`, `--seed` and `--quantum`.
 #[tactic(auto, unfolding(crate::specs::CommandLine::machine_command))]
 fn machine_command<'a>(alloc: Global) -> Result<Command<'a>, AllocError>
     ensures app { IfOk result (λ command. app_of command ≡ machine_command) }
@@ -194,7 +195,7 @@ fn machine_command<'a>(alloc: Global) -> Result<Command<'a>, AllocError>
     Ok(run)
 }
 
-/// Returns the subcommand that evaluates a program.
+/// Returns the subcommand `eval`.
 #[tactic(auto, unfolding(crate::specs::CommandLine::eval_command))]
 fn eval_command<'a>(alloc: Global) -> Result<Command<'a>, AllocError>
     ensures app { IfOk result (λ command. app_of command ≡ eval_command) }
@@ -210,7 +211,7 @@ fn eval_command<'a>(alloc: Global) -> Result<Command<'a>, AllocError>
     Ok(eval)
 }
 
-/// Returns the subcommand that checks a program.
+/// Returns the subcommand `check`.
 #[tactic(auto, unfolding(crate::specs::CommandLine::check_command))]
 fn check_command<'a>(alloc: Global) -> Command<'a>
     ensures app { app_of result ≡ check_command }
@@ -223,7 +224,7 @@ fn check_command<'a>(alloc: Global) -> Command<'a>
         )
 }
 
-/// Returns an option for a number up to `most`, with `standard` as its default.
+/// Returns an option whose name is `name`, for a number up to `most`. Its default value is `standard`.
 fn number_option<'a>(
     alloc: Global,
     name: &'a str,
@@ -242,7 +243,7 @@ fn number_option<'a>(
         .help(help)
 }
 
-/// Returns the subcommand that judges samples.
+/// Returns the subcommand `policy`.
 #[tactic(auto, unfolding(crate::specs::CommandLine::policy_command))]
 fn policy_command<'a>(alloc: Global) -> Result<Command<'a>, AllocError>
     ensures app { IfOk result (λ command. app_of command ≡ policy_command) }
@@ -280,7 +281,7 @@ fn policy_command<'a>(alloc: Global) -> Result<Command<'a>, AllocError>
     Ok(policy)
 }
 
-/// Returns whether a flag is set.
+/// Returns whether the flag named `flag` is set.
 fn is_flag_set(matches: &ArgMatches<'_>, flag: &str) -> bool
     ensures { result ≡ is_set flag.now (rows_of (found_of matches.now)) }
 {
@@ -290,7 +291,7 @@ fn is_flag_set(matches: &ArgMatches<'_>, flag: &str) -> bool
     }
 }
 
-/// Returns the number of an option, if it has a number that fits 64 bits.
+/// Returns the value of the option named `option`, or `None` if it has no value that fits 64 bits.
 fn number_in(matches: &ArgMatches<'_>, option: &str) -> Option<u64>
     ensures { result ≡ number_under option.now (rows_of (found_of matches.now)) }
 {
@@ -303,7 +304,7 @@ fn number_in(matches: &ArgMatches<'_>, option: &str) -> Option<u64>
     }
 }
 
-/// Returns the request to judge samples, if it is for at most 64 cores.
+/// Returns the request of `policy` that `matches` holds, or `None` if it asks for more than 64 cores.
 fn policy_in(matches: &ArgMatches<'_>) -> Option<Request>
     ensures asked { result ≡ policy_asked (rows_of (found_of matches.now)) }
     ensures allowed { IfSome result IsAllowed }
@@ -321,9 +322,9 @@ fn policy_in(matches: &ArgMatches<'_>) -> Option<Request>
     })))
 }
 
-/// Parses orders to close or open cores.
+/// Parses all orders to close or open cores.
 ///
-/// Fails with the index of the first word that is no order, or if memory is refused.
+/// Returns `Err` with the index of the first malformed word, or if memory is refused.
 fn orders_in(alloc: Global, words: &[&str]) -> Result<Sequence<CoreOrder>, NotAsked>
     ensures orders { IfOk result (λ orders. orders_of (map (λ word. word.now) words.now) ≡ Ok orders) }
     ensures none { IfErr result (IsNoOrderAmong (map (λ word. word.now) words.now)) }
@@ -340,7 +341,7 @@ fn orders_in(alloc: Global, words: &[&str]) -> Result<Sequence<CoreOrder>, NotAs
     Ok(Sequence::from(orders))
 }
 
-/// Returns the orders among the parsed arguments. Fails as `orders_in` does.
+/// Returns the orders that `matches` holds. Returns `Err` as `orders_in` does.
 fn orders_met(alloc: Global, matches: &ArgMatches<'_>) -> Result<Sequence<CoreOrder>, NotAsked>
     ensures orders { IfOk result (λ orders. orders_of (order_words (rows_of (found_of matches.now))) ≡ Ok orders) }
     ensures none { IfErr result (IsNoOrderAmong (order_words (rows_of (found_of matches.now)))) }
@@ -351,7 +352,8 @@ fn orders_met(alloc: Global, matches: &ArgMatches<'_>) -> Result<Sequence<CoreOr
     }
 }
 
-/// Returns the request for a run. Fails if one of its orders is malformed, or if memory is refused.
+/// Returns the request of `run` that `matches` holds. Returns `Err` if one of its orders is malformed, or if memory is
+/// refused.
 fn run_in(alloc: Global, matches: &ArgMatches<'_>) -> Result<Option<Request>, NotAsked>
     ensures asked { IfOk result (λ request. request ≡ run_asked (rows_of (found_of matches.now))) }
     ensures allowed { IfOk result (λ request. IfSome request IsAllowed) }
@@ -362,7 +364,7 @@ fn run_in(alloc: Global, matches: &ArgMatches<'_>) -> Result<Option<Request>, No
     Ok(run_by(matches, orders))
 }
 
-/// Returns the request for a run with these orders.
+/// Returns the request of `run` that `matches` holds, with `orders` as its orders.
 fn run_by(matches: &ArgMatches<'_>, orders: Sequence<CoreOrder>) -> Option<Request>
     ensures asked { result ≡ with_orders (rows_of (found_of matches.now)) orders }
     ensures allowed { IfSome result IsAllowed }
@@ -381,7 +383,7 @@ fn run_by(matches: &ArgMatches<'_>, orders: Sequence<CoreOrder>) -> Option<Reque
     }))
 }
 
-/// Returns the request of the subcommand, if the program has that subcommand.
+/// Returns the request that `matches` holds for its subcommand, or `None` if the program has no such subcommand.
 fn request_in(alloc: Global, matches: &ArgMatches<'_>) -> Result<Option<Request>, NotAsked>
     ensures asked { IfOk result (λ request. request ≡ request_met (subcommand_rows_of matches.now)) }
     ensures allowed { IfOk result (λ request. IfSome request IsAllowed) }
@@ -402,9 +404,9 @@ fn request_in(alloc: Global, matches: &ArgMatches<'_>) -> Result<Option<Request>
     }
 }
 
-/// Parses the arguments. The first of them is the program's own name.
+/// Parses the command-line arguments, of which the first is the program's own name.
 ///
-/// Fails if the program has no such arguments, if an order is malformed, or if memory is refused.
+/// Returns `Err` if the parser refuses the arguments, if an order is malformed, or if memory is refused.
 pub fn read_words<'a, S: AsStr>(alloc: Global, words: &'a [S]) -> Result<Request, NotAsked>
     ensures asked { IfOk result (λ request. asked_by (map S.text words.entry.now) ≡ Some request) }
     ensures allowed { IfOk result IsAllowed }

@@ -1,4 +1,4 @@
-//! Writes the program's output or an error message, and returns its exit status.
+//! Writes the program's output, or an error message, at the end of the program, and determines its exit status.
 ghost use Rattle.std.specs.Prelude.{◌≡◌, ◌≢◌, ◌≤◌, IfErr, OnOk, OnErr};
 ghost use Rattle.std.specs.Io.KnownBytes.{Appends};
 ghost use Rattle.std.specs.IoError.{error_kind};
@@ -13,17 +13,17 @@ use clap::error::ErrorKind;
 use std::fmt::Write as _;
 use std::io::{self, ErrorKind as StreamFault, Write};
 
-/// The exit statuses of the program: success, a fault, or a wrong command line.
+/// The exit status after success. `FAULT` is that after a fault, and `WORDS` that after wrong arguments.
 pub const DONE: u8 = 0;
 
 pub const FAULT: u8 = 1;
 
 pub const WORDS: u8 = 2;
 
-/// A capacity in bytes that is enough for the error message of any fault.
+/// The size in bytes of a buffer that holds the error message of any fault.
 const LINE: usize = 64;
 
-/// Writes the whole output, and flushes it once. Fails at the first error of the writer.
+/// Writes all of `text` to `output`, and flushes `output` once. Returns `Err` at the first error of the writer.
 pub fn finish<W: Write>(output: &mut W, text: &str) -> Result<(), Fault>
     ensures ok { OnOk result (Appends (W.contents output.old) (W.contents output.new) text.now) }
     ensures front { OnErr result (AppendsFront (W.contents output.old) (W.contents output.new) text.now) }
@@ -36,7 +36,7 @@ pub fn finish<W: Write>(output: &mut W, text: &str) -> Result<(), Fault>
     }
 }
 
-/// Writes an error message, as far as the writer takes it. Returns the exit status 1. Takes no memory.
+/// Writes an error message to `faults`, and ignores errors of that writer. Returns the exit status 1. Takes no memory.
 pub fn refuse<W: Write>(faults: &mut W, line: FaultLine) -> u8
     ensures status { result ≡ 1 }
     ensures line { AppendsFront (W.contents faults.old) (W.contents faults.new) (line_text line) }
@@ -48,7 +48,8 @@ pub fn refuse<W: Write>(faults: &mut W, line: FaultLine) -> u8
     FAULT
 }
 
-/// Writes why the command line could not be read. Returns the exit status: 1 if memory was refused, otherwise 2.
+/// Writes to `faults` why the arguments of the process could not be read. Returns the exit status: 1 if memory was
+/// refused, otherwise 2.
 pub fn refuse_words<W: Write>(faults: &mut W, error: &io::Error) -> u8
     ensures memory { error_kind error.now ≡ StreamFault.OutOfMemory
         → (result ≡ 1) × AppendsFront (W.contents faults.old) (W.contents faults.new) (fault_line Fault.Memory) }
@@ -61,7 +62,7 @@ pub fn refuse_words<W: Write>(faults: &mut W, error: &io::Error) -> u8
     WORDS
 }
 
-/// Writes why the command line makes no request. Returns the exit status: 1 if memory was refused, otherwise 2.
+/// Writes to `faults` why the arguments make no request. Returns the exit status: 1 if memory was refused, otherwise 2.
 pub fn refuse_request<W: Write>(faults: &mut W, why: &NotAsked) -> u8
     ensures some { 1 ≤ result }
     ensures most { result ≤ 2 }

@@ -1,4 +1,4 @@
-//! The errors of the commands `eval`, `check` and `policy`, and the line that the program prints for each.
+//! The errors of the commands `eval`, `check` and `policy`, and the error message for each.
 ghost use Rattle.std.specs.Prelude.{◌≡◌};
 ghost use Rattle.arachne_cli.specs.Fault.{fault_number, fault_place, line_of};
 ghost use Rattle.arachne_cli.specs.declared.fault.Fault.TheVariants.{InText, InProgram, Memory};
@@ -7,18 +7,19 @@ use arachne_lang::{CheckFault, TextFault};
 use std::alloc::AllocError;
 use std::fmt;
 
-/// The reason why a command fails.
+/// The reason why a command failed.
 ///
-/// The program's exit status is 2 for `NoOrder`, else 1.
+/// The exit status of the program is 2 for `NoOrder`, and 1 for any other fault.
 #[derive(Clone, Copy, Debug)]
 pub enum Fault {
-    /// The program's text has this syntax error.
+    /// The input is not the text of a program, or not the text of samples, because of this error.
     InText(TextFault),
-    /// The text is a program, but the checker has refused it for this fault.
+    /// The input is the text of a program, but the checker has refused the program for this reason.
     InProgram(CheckFault),
-    /// The first sample that cannot be judged is on this line.
+    /// The sample on line `line` of the input (counted from 1) is the first that cannot be judged.
     BadSample { line: usize },
-    /// The argument of this index, among those for orders of a run, is the first that is not a valid order.
+    /// An order of a run is malformed. `index` is the index of the first such argument among those for orders, counted
+    /// from 0.
     NoOrder { index: usize },
     /// Memory was refused.
     Memory,
@@ -55,7 +56,7 @@ impl From<AllocError> for Fault {
 }
 
 impl Fault {
-    /// Returns the line that reports the fault.
+    /// Returns the error message for this fault.
     pub fn line(self) -> FaultLine
         ensures { result ≡ line_of self }
     {
@@ -65,7 +66,7 @@ impl Fault {
         }
     }
 
-    /// Returns the number of the fault in the printed line.
+    /// Returns the number that identifies the kind of this fault in the error message.
     fn number(self) -> u8
         ensures { result ≡ fault_number self }
     {
@@ -92,7 +93,7 @@ impl Fault {
         }
     }
 
-    /// Returns the byte, line or node of the fault, for the printed line.
+    /// Returns the position of this fault, for the error message.
     fn place(self) -> Place
         ensures { result ≡ fault_place self }
     {
@@ -118,14 +119,14 @@ impl Fault {
     }
 }
 
-/// The line of text that reports a fault.
+/// The error message of a fault, such as `fault 2 at 17`: the number of its kind, and its position.
 #[derive(Clone, Copy)]
 pub struct FaultLine {
     pub number: u8,
     pub place: Place,
 }
 
-/// The byte, line or node of a fault.
+/// The position of a fault: a byte of the text, a node of the program, a line of the samples, or an order.
 #[derive(Clone, Copy)]
 pub enum Place {
     Nowhere,

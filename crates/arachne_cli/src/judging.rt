@@ -1,4 +1,4 @@
-//! The command `policy`: judges samples of a load one after another.
+//! The command `policy`, which judges samples of a load one after another.
 
 ghost use Rattle.std.specs.Prelude.{◌≡◌, ◌≢◌, ◌≤◌, length, IfOk, IfErr, string_bytes};
 ghost use Rattle.arachne_policy.specs.declared.limits.TheConstants.{MAX_CORES};
@@ -12,8 +12,9 @@ use arachne_policy::{Estimator, Sample};
 use std::alloc::Global;
 use std::fmt::Write;
 
-/// The settings for judging samples: the load above which a core is requested, the hysteresis for giving a core back,
-/// and the maximum number of cores.
+/// The settings of the core policy. `up` is the load, in thousandths of a thread, above which it asks for a core.
+/// `hysteresis` is how far the utilisation must fall, in thousandths of a core, before it gives a core back. `max` is
+/// the greatest number of cores.
 #[derive(Clone, Copy, Debug, PartialEq, Eq)]
 pub struct Settings {
     pub up: u64,
@@ -21,14 +22,13 @@ pub struct Settings {
     pub max: u8,
 }
 
-/// Parses the samples in a text and judges them. Returns the output of `policy`. The whole text is parsed before any
-/// sample is judged.
+/// Parses all samples in `text`, and then judges them. Returns the output of `policy`.
 pub fn judgement(alloc: Global, text: &[u8], settings: Settings) -> Result<String, Fault>
     requires within { length text.now ≤ input_limit }
     requires most { settings.max ≤ MAX_CORES }
     ensures answers { IfOk result (λ output. IsAnswer (SerialRequest.Policy settings) text.now (string_bytes output)) }
     ensures cause { IfErr result (λ fault. (fault ≢ Fault.Write) × IsCause (SerialRequest.Policy settings) text.now fault) }
-    // The text has been read already.
+    // This error can't occur, since the text was already read.
     ensures not_read { IfErr result (λ fault. fault ≢ Fault.Read) }
 {
     let samples = match read_samples(alloc, text) {
@@ -38,9 +38,9 @@ pub fn judgement(alloc: Global, text: &[u8], settings: Settings) -> Result<Strin
     judge(alloc, settings, samples.as_slice())
 }
 
-/// Returns a line for each sample, with the core policy's advice on it after the samples before it.
+/// Returns a line for each sample, with the core policy's advice. The advice also depends on the earlier samples.
 ///
-/// Fails at the first sample that cannot be judged, or if memory is refused.
+/// Returns `Err` at the first sample that cannot be judged, or if memory is refused.
 fn judge(alloc: Global, settings: Settings, samples: &[Sample]) -> Result<String, Fault>
     requires { settings.max ≤ MAX_CORES }
     ensures good { IfOk result (λ text. AreGood settings samples.now) }

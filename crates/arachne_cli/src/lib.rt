@@ -1,4 +1,5 @@
-//! The command line of `arachne`, and its commands that need one kernel thread only: `eval`, `check` and `policy`.
+//! The command line of `arachne`, and those of its commands that need only one kernel thread: `eval`, `check` and
+//! `policy`.
 #![tactic(auto)]
 
 mod command_line;

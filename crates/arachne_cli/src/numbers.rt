@@ -1,23 +1,23 @@
-//! Reads a number or a word at the front of a text, for the modules `samples` and `orders`.
+//! Parses a number or a word at the front of a text, for the modules `samples` and `orders`.
 ghost use Rattle.std.specs.Prelude.{◌≡◌, ◌+◌, ◌*◌, ◌^◌};
 ghost use Rattle.arachne_lang.specs.Reading.{digits_at, figures_at, number_at, word_at};
 ghost use Rattle.arachne_cli.specs.Reading.{Gives};
 
 use arachne_lang::TextFault;
 
-/// The error of a reading function, with the text from the fault on.
+/// The error of a parsing function, which carries the text from the error on.
 #[derive(Clone, Copy)]
 pub enum ReadingStop<'t> {
-    /// The text breaks the grammar, or ends too early.
+    /// At the front of this text the grammar is broken, or the text ends too early.
     Departs(&'t [u8]),
-    /// The next digit takes a number out of its range.
+    /// The digit at the front of this text takes a number out of its range.
     Overflows(&'t [u8]),
 }
 
 impl<'t> ReadingStop<'t> {
     ghost use Rattle.arachne_cli.specs.Reading.{fault_within};
 
-    /// Returns this error with the index of its byte in the whole `text`.
+    /// Converts this error to one with a byte index into the whole text `text`.
     pub fn fault(self, text: &[u8]) -> TextFault
         ensures { result ≡ fault_within text.now self.entry }
     {
@@ -32,7 +32,7 @@ impl<'t> ReadingStop<'t> {
     }
 }
 
-/// Reads this word. Returns the text after the word.
+/// Parses `word` at the front of `text`. Returns the text after it.
 pub fn word<'t>(text: &'t [u8], word: &[u8]) -> Result<&'t [u8], ReadingStop<'t>>
     ensures { Gives (λ rest. rest.now) result (word_at word.now text.now) }
 {
@@ -45,7 +45,7 @@ pub fn word<'t>(text: &'t [u8], word: &[u8]) -> Result<&'t [u8], ReadingStop<'t>
     }
 }
 
-/// Reads a number and then `end`. Returns the number and the text after `end`.
+/// Parses the number at the front of `text`, and then the bytes `end`. Returns the number, and the text after `end`.
 pub fn number<'t>(text: &'t [u8], end: &[u8]) -> Result<(u64, &'t [u8]), ReadingStop<'t>>
     ensures { Gives (λ read. (read.0, read.1.now)) result (number_at (2 ^ 64) end.now text.now) }
 {
@@ -54,9 +54,9 @@ pub fn number<'t>(text: &'t [u8], end: &[u8]) -> Result<(u64, &'t [u8]), Reading
     Ok((value, rest))
 }
 
-/// Reads the number at the front of the text. Returns the number and the text after it.
+/// Parses the number at the front of `text`. Returns the number, and the text after it.
 ///
-/// If the first digit is a zero, the number ends there.
+/// If the first digit is 0, it is the whole number.
 pub fn figures(text: &[u8]) -> Result<(u64, &[u8]), ReadingStop<'_>>
     ensures { Gives (λ read. (read.0, read.1.now)) result (figures_at (2 ^ 64) text.now) }
 {
@@ -67,7 +67,8 @@ pub fn figures(text: &[u8]) -> Result<(u64, &[u8]), ReadingStop<'_>>
     }
 }
 
-/// Reads the remaining digits of a number whose first digits have this value.
+/// Parses the remaining digits of a number whose digits so far have the value `value`. Returns the number, and the text
+/// after it.
 fn digits(value: u64, text: &[u8]) -> Result<(u64, &[u8]), ReadingStop<'_>>
     ensures { Gives (λ read. (read.0, read.1.now)) result (digits_at (2 ^ 64) value text.now) }
 {

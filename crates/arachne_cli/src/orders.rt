@@ -1,4 +1,4 @@
-//! Parses an order to grant or release a core, such as `250:grant:3`: after 250 slices, grant core 3.
+//! Parses an order to grant or release a core. For instance, `250:grant:3` means: after 250 slices, grant core 3.
 
 ghost use Rattle.std.specs.Prelude.{◌≡◌, ◌↔◌, ℕ, List, Some, option_map};
 ghost use Rattle.arachne_policy.specs.declared.orders.CoreOrder.{CoreOrder as Order};
@@ -8,7 +8,7 @@ ghost use Rattle.arachne_cli.specs.Orders.{FitsWords, HasReadKind, order_word};
 use crate::numbers::{figures, number, word};
 use arachne_policy::{CoreOrder, OrderKind};
 
-/// Parses one order, such as `250:grant:3`.
+/// Parses one order, such as `250:grant:3`. Returns `None` if it is malformed.
 pub fn read_order(spelled: &str) -> Option<CoreOrder>
     ensures { (order : Order) → (result ≡ Some order) ↔ (FitsWords order × (order_word order ≡ spelled.now)) }
 {
@@ -27,7 +27,8 @@ pub fn read_order(spelled: &str) -> Option<CoreOrder>
     Some(CoreOrder { after, kind, core })
 }
 
-/// Reads the kind of an order and its colon. Returns the kind and the text after the colon.
+/// Parses the word `grant` or `release`, and the colon after it. Returns the kind of order, and the text after the
+/// colon.
 fn kind(text: &[u8]) -> Option<(OrderKind, &[u8])>
     ensures { HasReadKind text.now (option_map {U = Kind × List ℕ} (λ read. (read.0, read.1.now)) result) }
 {

@@ -1,4 +1,4 @@
-//! Makes the text that `eval` prints: a program's value, the sums of its ledgers, and its threads.
+//! Formats the output of `eval`: a program's value, the sums of its ledgers, and its threads.
 ghost use Rattle.std.specs.Prelude.{◌≡◌, ◌++◌, OnOk, IfOk, string_bytes};
 ghost use Rattle.std.specs.List.{flat_map};
 ghost use Rattle.arachne_cli.specs.Output.{output_of, summary_of, ledger_lines, thread_line, name_text};
@@ -7,7 +7,7 @@ use arachne_lang::{Line, Meaning, Name};
 use std::alloc::{AllocError, Global};
 use std::fmt::Write;
 
-/// Returns the output for the result of a program (its value, totals and threads). With `names` it has a line for each
+/// Returns the output of `eval` for the result `meaning` of a program. If `names` is true, it has a line for each
 /// thread.
 pub fn render(alloc: Global, meaning: &Meaning, names: bool) -> Result<String, AllocError>
     ensures { IfOk result (λ text. string_bytes text ≡ output_of names meaning.now) }
@@ -25,7 +25,7 @@ pub fn render(alloc: Global, meaning: &Meaning, names: bool) -> Result<String, A
     Ok(text)
 }
 
-/// Returns the lines for a value, the totals of the ledgers and the number of threads.
+/// Returns the lines for the value of a program, the sum of each ledger, and the number of threads.
 pub fn summary(
     alloc: Global,
     value: u64,
@@ -41,7 +41,7 @@ pub fn summary(
     Ok(text)
 }
 
-/// Writes a line for each thread.
+/// Appends to `text` a line for each thread.
 fn write_threads(text: &mut String, threads: &[Line]) -> Result<(), AllocError>
     ensures { OnOk result (string_bytes text.new ≡ string_bytes text.old ++ flat_map thread_line threads.now) }
 {
@@ -51,7 +51,7 @@ fn write_threads(text: &mut String, threads: &[Line]) -> Result<(), AllocError>
     Ok(())
 }
 
-/// Writes a line for each ledger.
+/// Appends to `text` a line for the sum of each ledger.
 #[tactic(auto, using(crate::proofs::Lines::ledger_lines_append))]
 fn write_totals(text: &mut String, totals: &[u64]) -> Result<(), AllocError>
     ensures { OnOk result (string_bytes text.new ≡ string_bytes text.old ++ ledger_lines 0 totals.now) }
@@ -62,7 +62,8 @@ fn write_totals(text: &mut String, totals: &[u64]) -> Result<(), AllocError>
     Ok(())
 }
 
-/// Writes the line of the thread with this name. `holds` is the number of times that the thread held each lock.
+/// Appends to `text` the line of the thread with the name `name`. `holds` has, for each lock, the number of times that
+/// the thread held the lock.
 #[tactic(auto, using(crate::proofs::Lines::after_spaces_append))]
 pub fn write_thread(text: &mut String, name: &Name, holds: &[u64]) -> Result<(), AllocError>
     ensures { OnOk result (string_bytes text.new ≡ string_bytes text.old ++ thread_line (record { name = name.now; holds = holds.now })) }
@@ -76,7 +77,7 @@ pub fn write_thread(text: &mut String, name: &Name, holds: &[u64]) -> Result<(),
     Ok(())
 }
 
-/// Writes a thread's name.
+/// Appends the name of a thread to `text`.
 fn write_name(text: &mut String, name: &Name) -> Result<(), AllocError>
     ensures { OnOk result (string_bytes text.new ≡ string_bytes text.old ++ name_text name.now) }
 {

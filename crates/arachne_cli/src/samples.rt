@@ -1,4 +1,4 @@
-//! Reads the input of the command `policy`: one sample of a load per line, of five numbers each.
+//! Parses the input of the command `policy`: one sample of a load per line, with five numbers each.
 
 ghost use Rattle.std.specs.Prelude.{◌≡◌, ◌⊎◌, List, IfOk, IfErr, IsErrAnd, MatchResult};
 ghost use Rattle.arachne_lang.specs.declared.text_fault.TextFault.{TextFault as Fault};
@@ -11,18 +11,18 @@ use arachne_lang::TextFault;
 use arachne_policy::Sample;
 use std::alloc::Global;
 
-/// Reads the samples of the whole text, a line of five numbers each.
+/// Parses all samples in `text`, one per line. Returns `Err` with the first error of the text, or if memory is refused.
 ///
-/// Takes time linear in the bytes, and memory only for the samples.
+/// Takes time linear in the length of the text, and memory only for the samples.
 pub fn read_samples(alloc: Global, text: &[u8]) -> Result<Vec<Sample>, TextFault>
-    // The text is the spelling of the samples, whose numbers are in range.
+    // If samples are returned, their numbers are in range, and `text` is their text.
     ensures accepted { IfOk result (λ samples. AreInRange samples.items × (samples_text samples.items ≡ text.now)) }
-    // Any spelling of samples in range is read, unless memory is refused.
+    // If `text` is the text of samples whose numbers are in range, they are returned, unless memory is refused.
     ensures every_text { (samples : List Measured) → AreInRange samples → samples_text samples ≡ text.now
         → MatchResult result (λ read. read.items ≡ samples) IsOfMemory }
-    // A fault that is returned is the first fault of the text, unless memory is refused.
+    // If an error is returned, it is the first error of `text`, or says that memory was refused.
     ensures first_fault { IfErr result (λ fault. (fault ≡ TextFault.Memory) ⊎ IsFirstFault text.now fault) }
-    // A text with a first fault is refused with that fault, unless memory is refused.
+    // If `text` has a first error, that error is returned, unless memory is refused.
     ensures every_fault { (first : Fault) → IsFirstFault text.now first → IsErrAnd result (λ fault. (fault ≡ TextFault.Memory) ⊎ (fault ≡ first)) }
 {
     let mut samples = Vec::new(alloc);
@@ -40,7 +40,7 @@ pub fn read_samples(alloc: Global, text: &[u8]) -> Result<Vec<Sample>, TextFault
     Ok(samples)
 }
 
-/// Reads the sample of a line. Returns the sample and the text after it.
+/// Parses one line. Returns its sample, and the text after the line.
 #[tactic(auto, unfolding(crate::specs::Reading::sample_at))]
 fn line(text: &[u8]) -> Result<(Sample, &[u8]), ReadingStop<'_>>
     ensures { Gives (λ read. (read.0, read.1.now)) result (sample_at text.now) }

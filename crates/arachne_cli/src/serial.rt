@@ -1,4 +1,4 @@
-//! A program with the commands `eval`, `check` and `policy`, without `run`.
+//! The commands `eval`, `check` and `policy` as functions, and the program that has only these.
 ghost use Rattle.std.specs.Prelude.{◌≡◌, ◌≢◌, ◌≤◌, ◌+◌, Bool, List, ℕ, length, map, IfOk, IfErr, IfSome, None, true, string_bytes};
 ghost use Rattle.std.specs.Io.KnownBytes.{Consumes, Keeps};
 ghost use Rattle.arachne_lang.specs.Program.{source_of};
@@ -17,7 +17,7 @@ use std::alloc::Global;
 use std::convert::AsStr;
 use std::io::{Read, Write};
 
-/// Reads the input, and returns the output of a command for it.
+/// Reads all of `input`, and returns the output of the command `request` for it.
 pub fn answer<I: Read>(
     alloc: Global,
     request: SerialRequest,
@@ -36,7 +36,7 @@ pub fn answer<I: Read>(
     }
 }
 
-/// Parses, checks and evaluates a program. Returns the output of `eval`.
+/// Parses, checks and evaluates the program in `text`. Returns the output of `eval`.
 fn evaluation(alloc: Global, text: &[u8], names: bool) -> Result<String, Fault>
     requires { length text.now ≤ input_limit }
     ensures answers { IfOk result (λ output. IsAnswer (SerialRequest.Eval names) text.now (string_bytes output)) }
@@ -49,7 +49,7 @@ fn evaluation(alloc: Global, text: &[u8], names: bool) -> Result<String, Fault>
     Ok(output)
 }
 
-/// Parses and checks a program. Returns the output of `check`.
+/// Parses and checks the program in `text`. Returns the output of `check`.
 fn verdict(alloc: Global, text: &[u8]) -> Result<String, Fault>
     requires { length text.now ≤ input_limit }
     ensures answers { IfOk result (λ output. IsAnswer SerialRequest.Check text.now (string_bytes output)) }
@@ -61,7 +61,7 @@ fn verdict(alloc: Global, text: &[u8]) -> Result<String, Fault>
     Ok(output)
 }
 
-/// Parses and checks a program.
+/// Parses and checks the program in `text`, and returns the program.
 pub fn checked_program(alloc: Global, text: &[u8]) -> Result<Program, Fault>
     requires { length text.now ≤ input_limit }
     ensures program { IfOk result (λ program. IsProgramOf text.now (source_of program)) }
@@ -74,11 +74,11 @@ pub fn checked_program(alloc: Global, text: &[u8]) -> Result<Program, Fault>
     Ok(program)
 }
 
-/// Runs the command that the arguments name, if it isn't `run`. Returns the exit status.
+/// Runs the command that the arguments `words` name, unless it is `run`. Returns the exit status.
 ///
-/// The first argument is the program's own name. The status is 0 if all went well, and 1 if there was a fault, whose
-/// line goes to the stream `faults`. The status is 2 if the arguments were not understood or ask for a run. Nothing is
-/// written to the output before the whole output is known.
+/// The first argument must be the program's own name. The status is 0 after success. It is 1 after a fault, whose
+/// message is then written to `faults`. It is 2 if the arguments were refused or ask for `run`. The output is complete
+/// before its first byte is written.
 pub fn drive<S: AsStr, I: Read, W: Write, E: Write>(
     alloc: Global,
     words: &[S],
@@ -86,15 +86,15 @@ pub fn drive<S: AsStr, I: Read, W: Write, E: Write>(
     output: &mut W,
     faults: &mut E,
 ) -> u8
-    // The output that the words ask for is written, and nothing is written to the faults stream.
+    // If the status is 0, the output that the arguments ask for is written to `output`, and nothing to `faults`.
     ensures done { result ≡ 0 → IsAnswered (map S.text words.entry.now) (I.remaining input.old) (W.contents output.old) (W.contents output.new) }
     ensures quiet { result ≡ 0 → Keeps (E.contents faults.old) (E.contents faults.new) }
-    // A fault's line is on the faults stream, as far as the stream took it.
+    // If the status is 1, the fault's message is written to `faults`, or as much of it as that writer took.
     ensures fault { result ≡ 1 → HasToldFault (map S.text words.entry.now) (I.remaining input.old)
         (W.contents output.old) (W.contents output.new) (E.contents faults.old) (E.contents faults.new) }
     ensures reads { (bytes : List ℕ) × Consumes (I.remaining input.old) (I.remaining input.new) bytes × (length bytes ≤ input_limit + 1) }
     ensures unread { result ≡ 2 → Keeps (I.remaining input.old) (I.remaining input.new) }
-    // Words that the program takes and that make such a request are not refused.
+    // If the parser accepts the arguments and they make a request for a command other than `run`, the status is not 2.
     ensures words { result ≡ 2 → is_taken (map S.text words.entry.now) ≡ true → asked_serially (map S.text words.entry.now) ≡ None }
     ensures refused { result ≡ 2 → Keeps (W.contents output.old) (W.contents output.new) }
     ensures status { result ≤ 2 }
@@ -114,7 +114,7 @@ pub fn drive<S: AsStr, I: Read, W: Write, E: Write>(
     }
 }
 
-/// Writes that this program has no command `run`. Returns the exit status.
+/// Writes to `faults` that this program has no command `run`. Returns the exit status 2.
 fn refuse_run<W: Write>(faults: &mut W) -> u8
     ensures { result ≡ 2 }
 {

@@ -1,4 +1,4 @@
-//! Reads a whole input up to its limit, and writes bytes.
+//! Reads all of an input of limited length, and writes all of some bytes.
 ghost use Rattle.std.specs.Prelude.{◌≡◌, ◌≢◌, ◌≤◌, ◌+◌, List, ℕ, length, OnOk, OnErr, IfOk, IfErr, IfSome};
 ghost use Rattle.std.specs.Io.KnownBytes.{Appends, Consumes};
 ghost use Rattle.arachne_cli.specs.declared.command_line.SerialRequest.{SerialRequest};
@@ -9,15 +9,15 @@ use crate::fault::Fault;
 use std::alloc::Global;
 use std::io::{Read, Write};
 
-/// The maximum number of bytes of an input.
+/// The greatest length of an input, in bytes.
 pub const INPUT_LIMIT: usize = 33_554_432;
 
-/// The maximum number of bytes of a read.
+/// The greatest number of bytes that one read asks for.
 const CHUNK: usize = 65_536;
 
-/// Reads the whole input, and at most one byte more than the limit.
+/// Reads all of `input`. Consumes at most one byte more than `INPUT_LIMIT`.
 ///
-/// Fails at the first error of the reader, if memory is refused, or if the input is longer than the limit.
+/// Returns `Err` at the first error of the reader, if memory is refused, or if the input is longer than `INPUT_LIMIT`.
 pub fn read_input<R: Read>(alloc: Global, input: &mut R) -> Result<Vec<u8>, Fault>
     ensures whole { IfOk result (λ bytes. IfSome (R.remaining input.old) (λ text. bytes.items ≡ text)) }
     ensures within { IfOk result (λ bytes. length bytes.items ≤ input_limit) }
@@ -42,9 +42,9 @@ pub fn read_input<R: Read>(alloc: Global, input: &mut R) -> Result<Vec<u8>, Faul
     Err(Fault::TooLong)
 }
 
-/// Writes all of the bytes.
+/// Writes all of `bytes` to `writer`.
 ///
-/// Fails at the first error of the writer, or if a write takes no byte. After a failure a prefix of the bytes has been
+/// Returns `Err` at the first error of the writer, or if a write takes no byte. Then only a prefix of `bytes` was
 /// written.
 pub fn write_bytes<W: Write>(writer: &mut W, bytes: &[u8]) -> Result<(), Fault>
     ensures ok { OnOk result (Appends (W.contents writer.old) (W.contents writer.new) bytes.now) }

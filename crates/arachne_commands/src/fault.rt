@@ -1,4 +1,4 @@
-//! The reasons why `arachne` fails, and the line that it prints for each.
+//! The reasons why `arachne` fails, and the error message for each.
 ghost use Rattle.std.specs.Prelude.{◌≡◌};
 ghost use Rattle.arachne_cli.specs.declared.fault.Fault.TheVariants.{Memory};
 ghost use Rattle.arachne_commands.specs.Fault.{line_of, run_number, run_place};
@@ -9,12 +9,12 @@ use arachne_policy::{OrderFault, OrderFaultKind};
 use arachne_run::{RunFault, WorkerFault};
 use std::alloc::AllocError;
 
-/// The reason why `arachne` fails: an error of `eval`, `check` or `policy`, or one of `run`.
+/// The reason why `arachne` failed: a fault of `eval`, `check` or `policy`, or one of `run`.
 #[derive(Clone, Copy, Debug)]
 pub enum Fault {
-    /// An error that `eval`, `check` and `policy` can have.
+    /// A fault that `eval`, `check` or `policy` can have too.
     Cli(CliFault),
-    /// The run was refused, or has no report.
+    /// The run was refused, or it ended without a report.
     InRun(RunFault),
 }
 
@@ -43,7 +43,7 @@ impl From<AllocError> for Fault {
 }
 
 impl Fault {
-    /// Returns the line that the program prints for the fault.
+    /// Returns the error message for this fault.
     pub fn line(self) -> FaultLine
         ensures { result ≡ line_of self }
     {
@@ -57,7 +57,7 @@ impl Fault {
     }
 }
 
-/// Returns the number of a run's fault.
+/// Returns the number that identifies the kind of `fault` in the error message.
 fn run_number(fault: RunFault) -> u8
     ensures { result ≡ run_number fault }
 {
@@ -80,7 +80,7 @@ fn run_number(fault: RunFault) -> u8
     }
 }
 
-/// Returns the byte, line or node of a run's fault.
+/// Returns the position of `fault`, for the error message.
 fn run_place(fault: RunFault) -> Place
     ensures { result ≡ run_place fault }
 {

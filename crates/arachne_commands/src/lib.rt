@@ -1,4 +1,4 @@
-//! The commands of `arachne` (`run`, `eval`, `check`, `policy`) as functions of any arguments, reader and writers.
+//! The commands of `arachne` (`run`, `eval`, `check` and `policy`), as functions of any arguments, reader and writers.
 #![tactic(auto)]
 
 mod fault;

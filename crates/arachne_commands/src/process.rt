@@ -1,4 +1,4 @@
-//! Runs the program on the arguments and the standard streams of its process.
+//! Runs `arachne` with the arguments and the standard streams of the process.
 ghost use Rattle.std.specs.Prelude.{◌≡◌, ◌≢◌, ◌≤◌, ◌+◌, List, ℕ, length, map, None, true};
 ghost use Rattle.std.specs.Io.KnownBytes.{Consumes, Keeps};
 ghost use Rattle.std.specs.IoError.{error_kind};
@@ -21,7 +21,8 @@ use std::sync::Wait;
 use std::thread::Threads;
 use std::time::Clock;
 
-/// The exit status of the program. Only `run` makes a value of this type, so `main` must return it.
+/// The exit status of the program. Only functions of this module make a value, so a `main` that returns one must have
+/// called them.
 pub struct Status {
     code: u8,
 }
@@ -35,7 +36,7 @@ impl Termination for Status {
     }
 }
 
-/// Runs the program on the arguments, the standard input and the standard output of its process.
+/// Runs `arachne` with the arguments, the standard input and the standard output of the process. Errors go to `faults`.
 pub fn run<R: Threads + Wait + Clock + Sync + Env + Alloc<A = Global> + Input + Print, E: Write>(
     rt: &R,
     faults: &mut E,
@@ -47,7 +48,7 @@ pub fn run<R: Threads + Wait + Clock + Sync + Env + Alloc<A = Global> + Input + 
     }
 }
 
-/// Runs the program on these arguments and streams, with the status and the contract of `drive`.
+/// Runs `arachne` with these arguments and streams. Status and contract are those of `drive`.
 pub fn run_on<R: Threads + Wait + Clock + Sync, S: AsStr, I: Read, W: Write, E: Write>(
     rt: &R,
     alloc: Global,
@@ -73,7 +74,7 @@ pub fn run_on<R: Threads + Wait + Clock + Sync, S: AsStr, I: Read, W: Write, E: 
     }
 }
 
-/// Ends the program if its arguments cannot be read, with the status and the contract of `refuse_words`.
+/// Ends the program when its arguments could not be read. Status and contract are those of `refuse_words`.
 pub fn run_without_words<E: Write>(error: &io::Error, faults: &mut E) -> Status
     ensures memory { error_kind error.now ≡ ErrorKind.OutOfMemory
         → (result.code ≡ 1) × AppendsFront (E.contents faults.old) (E.contents faults.new) (fault_line Fault.Memory) }

@@ -1,4 +1,4 @@
-//! Runs a command on any arguments and streams.
+//! Runs a command of `arachne` on any arguments and streams.
 ghost use Rattle.std.specs.Prelude.{◌≡◌, ◌≢◌, ◌≤◌, length, IfOk, IfErr, IfSome, ◌+◌, List, ℕ, map, None, true, string_bytes};
 ghost use Rattle.std.specs.Io.KnownBytes.{Consumes, Keeps};
 ghost use Rattle.arachne_cli.specs.declared.fault.Fault.TheVariants.{Read as ReadFailed, Write as WriteFailed};
@@ -20,7 +20,7 @@ use std::sync::Wait;
 use std::thread::Threads;
 use std::time::Clock;
 
-/// Reads the input, and returns the output of a command for it.
+/// Reads all of `input`, and returns the output of the command `request` for it.
 fn answer<R: Threads + Wait + Clock + Sync, I: Read>(
     rt: &R,
     alloc: Global,
@@ -41,7 +41,7 @@ fn answer<R: Threads + Wait + Clock + Sync, I: Read>(
     }
 }
 
-/// Parses, checks and runs a program. Returns the output of `run`.
+/// Parses, checks and runs the program in `text`. Returns the output of `run`.
 fn run_of<R: Threads + Wait + Clock + Sync>(
     rt: &R,
     alloc: Global,
@@ -60,12 +60,13 @@ fn run_of<R: Threads + Wait + Clock + Sync>(
     Ok(output)
 }
 
-/// Runs the command that the arguments name, on these streams. Returns the exit status.
+/// Runs the command that the arguments `words` name, on these streams. Returns the exit status.
 ///
-/// The first argument is the program's own name. The status is 0 if all went well, and 1 if there was a fault, whose
-/// line goes to the stream `faults`. The status is 2 if an order of a run is malformed, with the line of that fault, or
-/// if the arguments were not understood, with the text of `clap`. Nothing is written to the output before all of it is
-/// known. A run may wait, and starts kernel threads.
+/// The first argument must be the program's own name. The status is 0 after success. It is 1 after a fault, whose
+/// message is then written to `faults`. It is 2 if an order of a run is malformed, with that fault's message, or if the
+/// arguments were refused, with the text of `clap`. The output is complete before its first byte is written.
+///
+/// The command `run` starts kernel threads and may block.
 pub fn drive<R: Threads + Wait + Clock + Sync, S: AsStr, I: Read, W: Write, E: Write>(
     rt: &R,
     alloc: Global,
@@ -74,17 +75,18 @@ pub fn drive<R: Threads + Wait + Clock + Sync, S: AsStr, I: Read, W: Write, E: W
     output: &mut W,
     faults: &mut E,
 ) -> u8
-    // The output that the words ask for is written, and nothing is written to the faults stream.
+    // If the status is 0, the output that the arguments ask for is written to `output`, and nothing to `faults`.
     ensures done { result ≡ 0 → IsAnswered (map S.text words.entry.now) (I.remaining input.old) (W.contents output.old) (W.contents output.new) }
     ensures quiet { result ≡ 0 → Keeps (E.contents faults.old) (E.contents faults.new) }
-    // A fault's line is on the faults stream, as far as the stream took it.
+    // If the status is 1, the fault's message is written to `faults`, or as much of it as that writer took.
     ensures fault { result ≡ 1 → HasToldFault (map S.text words.entry.now) (I.remaining input.old)
         (W.contents output.old) (W.contents output.new) (E.contents faults.old) (E.contents faults.new) }
     ensures reads { (bytes : List ℕ) × Consumes (I.remaining input.old) (I.remaining input.new) bytes × (length bytes ≤ input_limit + 1) }
     ensures unread { result ≡ 2 → Keeps (I.remaining input.old) (I.remaining input.new) }
-    // Words that the program takes and that make a request are not refused.
+    // If the parser accepts the arguments and they make a request, the status is not 2.
     ensures words { result ≡ 2 → is_taken (map S.text words.entry.now) ≡ true → asked_by (map S.text words.entry.now) ≡ None }
-    // If the program takes the words of a run, its first malformed order word is reported.
+    // If the status is 2 although the parser accepts the arguments, the fault's message is about the first malformed
+    // order.
     ensures no_order { result ≡ 2 → is_taken (map S.text words.entry.now) ≡ true
         → HasToldNoOrder (map S.text words.entry.now) (E.contents faults.old) (E.contents faults.new) }
     ensures refused { result ≡ 2 → Keeps (W.contents output.old) (W.contents output.new) }

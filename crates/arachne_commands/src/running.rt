@@ -1,5 +1,10 @@
+<<<<<<< ours
 //! Runs a program on the cores that the command line asks for.
 ghost use Rattle.std.specs.Prelude.{◌≡◌, ◌≤◌, IfOk, IfErr, IsOk};
+=======
+//! Runs a program with the settings that the command line gives.
+ghost use Rattle.std.specs.Prelude.{◌≡◌, ◌≤◌, true, IfOk, IfErr, IsOk, None, Some, Err, length, vec_len};
+>>>>>>> theirs
 ghost use Rattle.arachne_core.specs.declared.layout.TheConstants.{CORES};
 ghost use Rattle.arachne_lang.specs.Program.{source_of};
 ghost use Rattle.arachne_lang.specs.Meaning.{meaning_of};
@@ -18,7 +23,7 @@ use std::sync::Wait;
 use std::thread::Threads;
 use std::time::Clock;
 
-/// Runs a program with these settings, over a table on atomic words.
+/// Runs `program` with these settings, with a table of atomic words that all workers share.
 pub fn run_program<'p, R: Threads + Wait + Clock + Sync>(
     rt: &R,
     alloc: Global,
@@ -37,7 +42,43 @@ pub fn run_program<'p, R: Threads + Wait + Clock + Sync>(
     )
 }
 
+<<<<<<< ours
 /// Returns the setup of a run with these settings, and the random generators of its cores.
+=======
+/// Runs `program` as `run` does, with a table of atomic words.
+///
+/// This function fixes only the type of the table, and its caller only the type of the jobs. A call of `run` that fixes
+/// both is too much for the prover.
+fn run_on_words<
+    'p,
+    H: Threads + Wait + Clock + Sync,
+    T: JobOf<'p> + Send,
+    R: Rng + Drop + Send,
+    G: Gate + Sync,
+>(
+    rt: &H,
+    alloc: Global,
+    program: &'p Program,
+    setup: Setup,
+    choosers: Vec<R>,
+    gate: &G,
+) -> Result<Report, RunFault>
+where
+    T::Child: Send,
+    T::Ticket: Send,
+    T::Spares: Send,
+    requires { IsChecked (source_of program.now) }
+    ensures report { IfOk result (IsReportOf program.now (length setup.orders.items)) }
+    ensures refused { (fault : RunFault) → refusal_in setup (vec_len choosers) ≡ Some fault → result ≡ Err fault }
+    ensures of_setup { IfErr result (λ fault. is_of_setup fault ≡ true → IsSetupFault setup.cores setup.quantum setup.slots (vec_len choosers) setup.orders.items fault) }
+    ensures in_order { IsOk result → AreInOrder setup.cores setup.orders.items }
+    ensures order_refused { refusal_in setup (vec_len choosers) ≡ None → (AreInOrder setup.cores setup.orders.items → ⊥) → IfErr result (IsFirstOrderFault setup.cores setup.orders.items) }
+{
+    run::<H, T, WordContexts<T>, R, G>(rt, alloc, program, setup, choosers, gate)
+}
+
+/// Returns the setup of a run with these settings, and a random generator for each core.
+>>>>>>> theirs
 fn set_up(
     alloc: Global,
     settings: RunSettings,
@@ -62,17 +103,18 @@ fn set_up(
     Ok((setup, choosers))
 }
 
-/// Returns the number of random generators to make for `cores` cores: one for each, but none if there are too many
+/// Returns the number of random generators to make for `cores` cores: one for each, or none if there are too many
 /// cores.
 ///
-/// With too many cores the run fails before it needs any.
+/// If there are too many cores, the run fails before it needs a generator.
 fn served(cores: u64) -> u64
     ensures { cores ≤ CORES → result ≡ cores }
 {
     if cores > u64::from(CORES) { 0 } else { cores }
 }
 
-/// Returns the random generators of `cores` cores, by which forks choose a core. The seed of core k is `seed + k`.
+/// Returns a random generator for each of `cores` cores, by which a fork chooses the child's core. The seed of core k
+/// is `seed + k`, modulo 2^64.
 fn choosers(alloc: Global, seed: u64, cores: u64) -> Result<Vec<Xoshiro256PlusPlus>, AllocError>
     ensures { IfOk result (λ choosers. choosers.items ≡ choosers_of seed cores) }
 {

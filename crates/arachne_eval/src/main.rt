@@ -1,4 +1,4 @@
-//! A program with the commands `eval`, `check` and `policy` of `arachne`, and without `run`.
+//! A program with the commands `eval`, `check` and `policy` of `arachne`, but not `run`.
 #![tactic(auto)]
 
 use arachne_cli::{drive, process_words, refuse_words};

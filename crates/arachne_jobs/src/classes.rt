@@ -1,11 +1,11 @@
-//! Finds out if a program forks exclusive threads, which have a core for themselves.
+//! Finds out if a program forks exclusive threads, each of which needs a core for itself.
 ghost use Rattle.std.specs.Prelude.{◌≡◌};
 ghost use Rattle.arachne_program.specs.Program.{tree_of};
 ghost use Rattle.arachne_jobs.specs.Classes.{forks_exclusive};
 
 use arachne_program::{Class, Expr};
 
-/// Returns whether an expression forks a thread that has a core for itself.
+/// Returns whether `expr`, or an expression inside it, forks a thread that needs a core for itself.
 pub fn has_exclusive(expr: &Expr) -> bool
     ensures { result ≡ forks_exclusive (tree_of expr.now) }
 {

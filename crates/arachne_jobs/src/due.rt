@@ -1,20 +1,20 @@
-//! The amount that a worker must still add to a ledger for the tallies of its threads.
+//! The amount that a worker must still add to a ledger (a shared sum), on behalf of the threads that it has run.
 ghost use Rattle.std.specs.Prelude.{◌≡◌, true, false};
 ghost use Rattle.arachne_machine.specs.Tallying.{GainsAt};
 ghost use Rattle.arachne_jobs.specs.Dues.{IsOfAnother, due_to};
 
 use arachne_machine::Tallying;
 
-/// An amount that a worker must still add to a ledger, and the number of that ledger.
+/// An amount that a worker must still add to a ledger (a sum that no thread reads), and the number of that ledger.
 #[derive(Clone, Copy, Debug)]
 pub struct Due {
     pub ledger: u64,
-    /// The amount modulo 2^64, as a ledger's sum is. If it is 0, the worker need add nothing.
+    /// The amount, modulo 2^64. If it is 0, the worker must add nothing.
     pub amount: u64,
 }
 
 impl Due {
-    /// Returns an amount of 0, for which nothing need be added.
+    /// Returns an amount of 0, for which the worker must add nothing.
     pub fn none() -> Due
         ensures { result.amount ≡ 0 }
     {
@@ -28,8 +28,8 @@ impl Due {
 impl Tallying for Due {
     ghost due_to = { due_to };
 
-    /// Adds an amount to what must be added to `ledger`. Returns false, with nothing changed, if there already is an
-    /// amount for another ledger.
+    /// Adds `amount` to what the worker must still add to the ledger of number `ledger`. If another ledger's amount is
+    /// still to be added, returns false and changes nothing.
     #[inline(always)]
     fn take(&mut self, ledger: u64, amount: u64) -> bool
         ensures taken { result ≡ true → GainsAt (due_to self.old) ledger amount (due_to self.new) }

@@ -1,22 +1,23 @@
-//! The ends of join cells that a job has: the sending end for its own outcome, and a receiving end for each child.
+//! The ends of join cells that a job has. By a join cell, the outcome of a child gets to its parent.
 use crate::left::LeftInCell;
 use crate::waiting::WaitCell;
 use crate::wanted::{OutcomeReceiver, OutcomeSender, Wanted};
 use arachne_join::SendingEnd;
 
-/// One end of a join cell that a job has.
+/// One end of a join cell that a job has. The cell carries the outcome of one thread from it to its parent.
 #[derive(Drop)]
 pub enum End {
-    /// The sending end by which the job leaves its own outcome.
+    /// The sending end of the cell into which the job puts its own outcome.
     Leaves(OutcomeSender),
-    /// The receiving end by which the job gets a child's outcome.
+    /// The receiving end of the cell from which the job takes a child's outcome.
     Awaits(OutcomeReceiver),
-    /// The receiving end for a child that waits for a place. Its cell is in `Job::waits`.
+    /// An end of a cell that is in `Job::waits`: the cell of a child, or of this job itself, that was queued for a
+    /// thread slot.
     Waits,
 }
 
-/// The cell in which a child waits or has waited for a place. Whoever takes the child out of the cell gets the cell's
-/// sending end with it.
+/// A cell in which a child waits, or has waited, for a thread slot. `end` is the cell's sending end; a job has it only
+/// for its own cell, from which a worker took the job.
 #[derive(Drop)]
 pub struct WaitEnd<'p> {
     pub(crate) cell: WaitCell<'p>,

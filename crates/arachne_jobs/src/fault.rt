@@ -1,16 +1,15 @@
-//! The reasons why a job of a run can't go on, and conversions from the errors of `arachne_machine`.
+//! The reasons why a job of a run fails, and conversions from the errors of `arachne_machine`.
 use arachne_machine::{DetachedOutcome, NotJoined, NotPlaced};
 use std::alloc::AllocError;
 use thiserror::Error;
 
-/// The reason why a job can't go on.
+/// The reason why a call of a job failed.
 #[derive(Clone, Copy, Debug, PartialEq, Eq, Error)]
 pub enum JobFault {
     /// Memory was refused.
     #[error("out of memory")]
     Memory,
-    /// The job got an outcome that isn't of the awaited child or isn't one of its program, or a call that its pause
-    /// doesn't allow.
+    /// The job was given an outcome that isn't the awaited child's, or its present pause doesn't allow the call.
     #[error("the outcome of another thread")]
     Foreign,
 }

@@ -1,4 +1,4 @@
-//! A job: a thread of the program with its ends of join cells, as a value of the context table.
+//! A job: a thread of the program that has a thread slot of its own, with its ends of join cells.
 ghost use Rattle.std.specs.Prelude.{◌≡◌, ◌≤◌, ◌<◌, ℕ, List, [], false, true, vec_capacity, vec_len, IfErr, IfNone, IfOk, IfSome, IsSome, OnErr, OnOk, None, Some};
 ghost use Rattle.arachne_program.specs.declared.program.Program.{Program};
 ghost use Rattle.arachne_program.specs.Program.{source_of};
@@ -31,19 +31,20 @@ use arachne_program::{Name, Program};
 use std::alloc::{AllocError, Global};
 use std::marker::Model;
 
-/// A thread of the program, with its ends of join cells. By the first end it leaves its own outcome. By each other end
-/// it gets the outcome of a child that it has forked and not joined, the newest child's last.
+/// A thread of the program, with its ends of join cells. The first end is for the job's own outcome. Each other end is
+/// for the outcome of a child that the job has forked and not joined, with the newest child's last.
 ///
-/// Contracts see the thread, and the id under which its parent runs.
+/// In contracts, a `Job` is the thread and its parent's id.
 #[derive(Drop)]
 pub struct Job<'p> {
     thread: Thread<'p>,
-    /// The job's ends of cells and its parent's id. The type has no lifetime.
+    /// The job's ends of join cells, and its parent's id. This type has no lifetime, so that any later job can reuse
+    /// the box.
     ties: Box<Ties>,
-    /// The box into which the job's outcome is written.
+    /// The box into which the job's outcome will be written.
     contents: Box<Contents>,
-    /// The cells in which children wait or have waited: one for each end `End::Waits` in `ties`, in the order of these
-    /// ends.
+    /// The cells in which children wait, or have waited, for a slot: one for each `End::Waits` in `ties`, in the same
+    /// order.
     waits: Vec<WaitEnd<'p>>,
 }
 
@@ -201,7 +202,7 @@ impl<'p> RunJob for Job<'p> {
             self.place(child)?;
             return Ok(None);
         }
-        // Room is reserved first: the child can't be taken back once its ticket is in the queue.
+        // Memory is reserved first, because the child can't be taken back when its ticket is in the queue.
         if reserve_both(&mut self.ties.ends, &mut self.waits).is_err() {
             self.place(child)?;
             return Ok(None);
@@ -229,7 +230,7 @@ impl<'p> RunJob for Job<'p> {
         let mut waits = Vec::with_capacity(alloc, 1).ok()?;
         let mut ties = spares.ties.take(alloc, None).ok()?;
         let contents = spares.threads.take_contents().ok()?;
-        // The child is taken out of its cell last: if memory is refused before, the child goes on waiting for its
+        // The child is taken out of its cell last. If memory was refused before that, the child still waits for its
         // parent.
         let Some((waiting, cell, end)) = ticket.take() else {
             spares.ties.keep(ties);
@@ -298,7 +299,7 @@ impl<'p> JobOf<'p> for Job<'p> {
 }
 
 impl<'p> Job<'p> {
-    /// Makes a job of this thread. Returns it with the receiving end for its outcome.
+    /// Makes a job of `thread`. Returns the job, and the receiving end from which the parent takes the job's outcome.
     #[inline(always)]
     fn of(
         alloc: Global,
@@ -323,7 +324,8 @@ impl<'p> Job<'p> {
         Ok((job, receiver))
     }
 
-    /// Runs the job for at most `left` steps. A tally whose amount `openings` can collect doesn't stop the job.
+    /// Runs the job for at most `left` steps. If the thread adds to a ledger (a shared sum) and `openings` can collect
+    /// the amount, the job runs on.
     #[inline(always)]
     fn advance_over(
         &mut self,
@@ -352,7 +354,7 @@ impl<'p> Job<'p> {
         Ok(paused?)
     }
 
-    /// Runs the job for at most `left` steps.
+    /// Runs the job for at most `left` steps. If it begins to wait for a child, tries to join that child.
     fn advance(
         &mut self,
         left: &mut u32,
@@ -385,8 +387,8 @@ impl<'p> Job<'p> {
         }
     }
 
-    /// Lets the child run in this thread's place: at once if the thread awaits the child, otherwise once it awaits the
-    /// child.
+    /// Puts `child` inside this job's thread slot, to run there as a call would. The child runs at once if the job
+    /// waits for it, and otherwise when the job waits for it.
     fn place(&mut self, child: Thread<'p>) -> Result<(), JobFault>
         requires pending { IsPlacing (pause_of self.old.thread) }
         requires child { MayBePlaced self.old.thread child }
@@ -400,7 +402,7 @@ impl<'p> Job<'p> {
         Ok(())
     }
 
-    /// Adds the receiving end for the outcome of one more child.
+    /// Adds `receiver`, the receiving end for the outcome of one more child.
     fn expect(&mut self, receiver: OutcomeReceiver) -> Result<(), JobFault>
         requires { IsOf (program_of self.old.thread) receiver.opening.key }
         ensures { self.new ≡ self.old }
@@ -410,8 +412,8 @@ impl<'p> Job<'p> {
         Ok(())
     }
 
-    /// Joins the awaited child if it has ended, or lets it run in this job's place if it still waits for a place.
-    /// Returns false if neither is so: then the job can't go on.
+    /// Joins the awaited child if it has ended. If the child still waits for a thread slot, runs it inside this job's
+    /// slot instead. Returns false if neither is possible, so that the job must block.
     fn join(&mut self, spares: &mut JobSpares<'p>) -> Result<bool, JobFault>
         requires { IsAwaiting self.old.thread }
         ensures tag { tag_of self.new.thread ≡ tag_of self.old.thread }
@@ -433,8 +435,8 @@ impl<'p> Job<'p> {
         }
     }
 
-    /// Takes the outcome or the waiting child out of the awaited child's cell, which the job then gives up. If the cell
-    /// has neither, the job keeps it.
+    /// Takes the outcome, or the waiting child, out of the awaited child's cell, and drops this job's end of the cell.
+    /// If the cell has neither, the job keeps the end.
     fn find(&mut self, spares: &mut JobSpares<'p>) -> Result<Found<'p>, JobFault>
         ensures same { self.new ≡ self.old }
         ensures found { IfOk result (IsFoundOf (program_of self.old.thread)) }
@@ -469,7 +471,7 @@ impl<'p> Job<'p> {
     }
 }
 
-/// Reserves memory for one more item in each of two lists.
+/// Reserves memory for one more item in `one`, and for one in `other`.
 fn reserve_both<A: Drop, B: Drop>(one: &mut Vec<A>, other: &mut Vec<B>) -> Result<(), AllocError>
     ensures one { one.new.items ≡ one.old.items }
     ensures other { other.new.items ≡ other.old.items }

@@ -1,22 +1,22 @@
-//! The content of the cell of a child that waits for a place.
+//! The contents of the join cell of a child that waits for a thread slot.
 use crate::wanted::Wanted;
 use arachne_core::ThreadId;
 use arachne_join::Fits;
 use arachne_machine::{DetachedOutcome, Thread};
 
-/// A child that waits, and the id under which its parent runs.
+/// A child that waits for a thread slot, and its parent's id.
 #[derive(Drop)]
 pub struct Waiting<'p> {
     pub(crate) thread: Thread<'p>,
     pub(crate) parent: ThreadId,
 }
 
-/// The content of the cell in which a child waits or has waited.
+/// The contents of a cell in which a child waits, or has waited, for a thread slot.
 #[derive(Drop)]
 pub enum LeftInCell<'p> {
     /// The child, which has not begun.
     Child(Waiting<'p>),
-    /// The child's outcome.
+    /// The outcome of the child, which has ended.
     Outcome(DetachedOutcome),
 }
 
@@ -28,13 +28,13 @@ impl<'p> Fits<Wanted> for LeftInCell<'p> {
     ghost may_wait = { MayWait };
 }
 
-/// The content that a parent finds in the cell of a child that it awaits.
+/// The contents of the awaited child's cell, as its parent found them.
 #[derive(Drop)]
 pub enum Found<'p> {
-    /// The child has ended.
+    /// The child has ended with this outcome.
     Outcome(DetachedOutcome),
-    /// The child still waited. It was taken out of its cell.
+    /// The child still waited for a thread slot. The parent has taken it out of the cell.
     Child(Thread<'p>),
-    /// Neither: the child is at a place of its own, or a worker has taken it to give it one.
+    /// Nothing. The child has a slot of its own, or a worker has taken the child in order to give it one.
     Nothing,
 }

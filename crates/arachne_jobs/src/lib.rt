@@ -1,11 +1,12 @@
-//! The jobs of a run: threads of a task program, with the join cells through which parents get their children's
-//! outcomes.
+//! The jobs of a run: threads of a task program, with the join cells by which parents get their children's outcomes.
 //!
-//! A *job* is a thread with a place of its own. It leaves its outcome in one join cell, and gets its children's
-//! outcomes from others. A forked child that finds no free place may *wait* in its cell. A *ticket* in a queue stands
-//! for the child, until a worker with a free place, or the parent that awaits the child, takes it out of the cell. A
-//! *tag* is the number by which a run knows a thread. The traits in the module `slice` are all that workers see of a
-//! job.
+//! A *job* is a thread with a thread slot of its own (a *place*). It puts its outcome into one join cell, and takes its
+//! children's outcomes from others. If no slot is free, a forked child may *wait* in its cell. A *ticket*, an entry for
+//! that child, is then in a queue. The child is taken out of the cell by the first to come: a worker that has taken the
+//! ticket and has a free slot, or the parent when it waits for the child.
+//!
+//! A *tag* is the number by which a run identifies a thread. Workers see a job only through the traits in the module
+//! `slice`.
 #![tactic(auto)]
 
 mod classes;

@@ -1,5 +1,5 @@
-//! Decides at a fork if the child may get a place of its own, and collects the amounts that threads tally, for the
-//! threads of one worker.
+//! Decides at each fork if the child may get a thread slot of its own, and collects the amounts that a worker's threads
+//! add to ledgers (shared sums).
 ghost use Rattle.std.specs.Prelude.{◌≡◌, ◌↔◌, ◌≤◌, ◌+◌, ◌%◌, ◌^◌, false, true, if◌then◌else◌, IsTrue};
 ghost use Rattle.arachne_jobs.specs.declared.openings.TheConstants.{LARGE};
 
@@ -9,23 +9,23 @@ use crate::tags::Tags;
 use arachne_machine::Placing;
 use arachne_program::Class;
 
-/// The data of a worker that the slices of its threads change: its unused tags, the number of random words that must
-/// still be drawn from the core's generator for forks without a pause, and the amount that must still be added to a
-/// ledger.
+/// The data of a worker that its threads change while they run. `tags` are its unused tags. `draws` counts the forks
+/// without a pause for which a random word must still be drawn from the core's generator. `due` is the amount that must
+/// still be added to a ledger.
 #[derive(Drop)]
 pub struct Openings {
     pub tags: Tags,
     pub draws: u64,
-    /// True if the child that was forked last is large: it has at least `LARGE` iterations of a sweep to make.
+    /// True if the child that was forked last has at least `LARGE` iterations of a sweep (a parallel reduction) to run.
     pub is_large: bool,
     pub due: Due,
 }
 
-/// The least number of iterations of a sweep for which a child is worth room in the queue.
+/// The least number of iterations of a sweep (a parallel reduction) that makes a child worth an entry in the queue.
 const LARGE: u64 = 1024;
 
 impl Openings {
-    /// Returns the data of a new worker: no tags, no word to draw, and nothing to add to a ledger.
+    /// Returns the data of a new worker: no tags, no words to draw, and no amount to add.
     pub fn new() -> Openings
         ensures { (result.tags.left ≡ 0) × (result.draws ≡ 0) × (result.is_large ≡ false) × (result.due.amount ≡ 0) }
     {
@@ -37,8 +37,8 @@ impl Openings {
         }
     }
 
-    /// Records that a word must still be drawn from the core's random generator, unless the child `may` have a place:
-    /// each fork draws one word, and a fork without a pause can't draw it itself.
+    /// If `may` is false, counts a random word that must still be drawn. Each fork draws one word to choose a core, but
+    /// a fork without a pause can't draw it itself.
     #[inline(always)]
     fn owe_unless(&mut self, may: bool)
         ensures { self.new ≡ record self.old { draws = if may then self.old.draws else (self.old.draws + 1) % 2 ^ 64 } }
@@ -48,7 +48,8 @@ impl Openings {
         }
     }
 
-    /// Records how many iterations of a sweep the forked child has to make.
+    /// Records if the forked child is large, by the number of iterations of a sweep (a parallel reduction) that it has
+    /// to run.
     #[inline(always)]
     fn note_turns(&mut self, turns: u64)
         ensures others { self.new ≡ record self.old { is_large = self.new.is_large } }
@@ -58,7 +59,7 @@ impl Openings {
     }
 }
 
-/// Decides, for the forks of one slice, if the child may get a place or wait for one. If not, gives the child a tag.
+/// Decides at each fork of a slice if the child may get a slot, or wait for one. If not, supplies the child's tag.
 #[derive(Drop)]
 pub(crate) struct ForkPlacing<'a> {
     pub(crate) room: &'a Room,
@@ -66,8 +67,8 @@ pub(crate) struct ForkPlacing<'a> {
 }
 
 impl<'a> ForkPlacing<'a> {
-    /// Returns whether a child with `turns` iterations to make may get a place or wait for one. If not, records that a
-    /// word must still be drawn from the core's random generator for this fork.
+    /// Returns whether a child that has `turns` iterations of a sweep (a parallel reduction) to run may get a slot, or
+    /// wait for one. If not, counts a random word that must still be drawn.
     #[inline(always)]
     fn may_have_a_place(&mut self, class: Class, turns: u64) -> bool
         ensures exclusive { class ≡ Class.Exclusive → IsTrue result }

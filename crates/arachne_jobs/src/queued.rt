@@ -1,5 +1,5 @@
-//! Pushes to and pops from the queue of tickets, which stand for children that wait for a place, and counts these
-//! children.
+//! Pushes to and pops from the queue of tickets, and counts them. Each ticket is for a child that waits for a thread
+//! slot.
 ghost use Rattle.std.specs.Prelude.{◌≡◌, ◌++◌, ◌∷◌, [], IfErr, IfNone, IfSome, OnErr, OnOk};
 ghost use Rattle.arachne_spill.specs.Views.{IsPassOf};
 
@@ -9,7 +9,8 @@ use arachne_contexts::Tagged;
 use arachne_spill::{CAPACITY, SpillPass, SpillQueue};
 use std::sync::Wait;
 
-/// Puts a ticket into the queue and counts it. Returns the ticket if the queue is full.
+/// Pushes `ticket` to the queue, and adds one to the number of waiting children. If the queue is full, returns `ticket`
+/// as the error.
 #[inline(always)]
 pub fn put_ticket<R: Wait, K: Tagged + Drop>(
     rt: &R,
@@ -29,7 +30,8 @@ pub fn put_ticket<R: Wait, K: Tagged + Drop>(
     Ok(())
 }
 
-/// Takes the oldest ticket out of the queue, and counts one waiting child less.
+/// Pops the oldest ticket from the queue, and subtracts one from the number of waiting children. Returns `None` if the
+/// queue is empty.
 #[inline(always)]
 pub fn next_ticket<R: Wait, K: Tagged + Drop>(
     rt: &R,
@@ -47,13 +49,13 @@ pub fn next_ticket<R: Wait, K: Tagged + Drop>(
     Some(ticket)
 }
 
-/// The most tickets of children that still wait which `make_room` moves to the end of the queue.
+/// The number of popped tickets whose children still wait, after which `make_room` gives up.
 const MOST_LIVE: u32 = 8;
 
-/// Makes room for a ticket, if `is_wanted` is true and the queue is full.
+/// If `is_wanted` is true and the queue is full, tries to make room for a ticket.
 ///
-/// Drops the tickets of children that no longer wait, the oldest first. A ticket of a child that still waits goes to
-/// the end of the queue.
+/// Pops tickets, the oldest first, until there is room. Drops each ticket whose child no longer waits, and pushes the
+/// others again. Gives up after `MOST_LIVE` of those.
 pub fn make_room<R: Wait, K: RunTicket>(
     rt: &R,
     tickets: &SpillQueue<K>,
@@ -77,7 +79,8 @@ pub fn make_room<R: Wait, K: RunTicket>(
         };
         if ticket.still_waits() {
             live += 1;
-            // If others have filled the queue meanwhile, the child has no ticket, and waits for its parent only.
+            // If other threads have filled the queue meanwhile, the ticket is dropped, and the child waits only for its
+            // parent.
             let _ = put_ticket(rt, tickets, room, pass, ticket);
         }
     }

@@ -1,5 +1,5 @@
-//! Shared counters that a worker reads before each fork: the free places, the children that wait for a place, and the
-//! tags in use.
+//! Shared counters that a worker reads before each fork: of free thread slots, of children that wait for one, and of
+//! tags.
 ghost use Rattle.std.specs.Prelude.{◌≡◌, ◌↔◌, ◌+◌, ◌<◌, ◌≤◌, ◌*◌, ◌%◌, ◌^◌, IsTrue};
 ghost use Rattle.arachne_jobs.specs.declared.tags.TheConstants.{BLOCK};
 
@@ -7,22 +7,25 @@ use crate::tags::BLOCK;
 use crossbeam_utils::CachePadded;
 use std::sync::atomic::{AtomicU64, Ordering};
 
-/// Shared counters: the free places, the children that wait for a place, and the blocks of tags that workers have got.
+/// Shared counters of the free thread slots, the children that wait for a slot, and the blocks of tags that were handed
+/// out. Each has a cache line of its own.
 ///
-/// The first two may be a little off. They only say whether it is worth trying to claim a place at a fork: the table
-/// decides who gets a place, and a child's cell decides who runs the child. Each counter has a cache line of its own.
+/// The first two may be slightly wrong. They only say if it is worth trying to get a slot at a fork. The shared table
+/// of slots decides who gets a slot, and a child's join cell decides who runs the child.
 #[derive(Drop)]
 pub struct Room {
     free: CachePadded<AtomicU64>,
     waiting: CachePadded<AtomicU64>,
-    /// The most children that may wait.
+    /// The greatest number of children that may wait.
     most: u64,
     blocks: CachePadded<AtomicU64>,
 }
 
 impl Room {
-    /// Returns counters for a run in which all places are free, no child waits, and no block of tags is in use. At most
-    /// `most_waiting` children may wait. The root's tag, 0, is in no block.
+    /// Returns the counters of a new run on `cores` cores with `slots` slots each: all slots are free, and no child
+    /// waits. At most `most_waiting` children may wait.
+    ///
+    /// No block of tags is handed out. The root's tag, 0, is in no block.
     pub fn new(cores: u8, slots: u8, most_waiting: u64) -> Room
         ensures { result.most ≡ most_waiting }
     {
@@ -34,37 +37,38 @@ impl Room {
         }
     }
 
-    /// Returns whether a place seems to be free. A place of a core that is closed, or exclusive to a thread, counts
-    /// too.
+    /// Returns whether a thread slot seems to be free. A free slot counts even if its core is closed, or belongs to an
+    /// exclusive thread.
     #[inline(always)]
     pub fn has_free_place(&self) -> bool {
         seen(&self.free) > 0
     }
 
-    /// Counts a place that was claimed.
+    /// Subtracts one from the number of free slots. Call it after you have claimed a slot.
     pub fn place_was_claimed(&self) {
         self.free.fetch_sub(1, Ordering::SeqCst);
     }
 
-    /// Counts a place that was given back, or whose thread has ended.
+    /// Adds one to the number of free slots. Call it after a claimed slot was given back, or after its thread has
+    /// ended.
     #[inline(always)]
     pub fn place_was_left(&self) {
         self.free.fetch_add(1, Ordering::SeqCst);
     }
 
-    /// Returns whether a child seems to wait.
+    /// Returns whether any child seems to wait for a slot.
     #[inline(always)]
     pub fn is_any_waiting(&self) -> bool {
         seen(&self.waiting) > 0
     }
 
-    /// Returns whether one more child may wait.
+    /// Returns whether one more child may wait for a slot.
     #[inline(always)]
     pub fn may_wait(&self) -> bool {
         self.is_room_beside(seen(&self.waiting))
     }
 
-    /// Returns whether one more child may wait, if `waiting` children wait already.
+    /// Returns whether one more child may wait for a slot if `waiting` children wait already.
     #[inline(always)]
     fn is_room_beside(&self, waiting: u64) -> bool
         ensures { IsTrue result ↔ waiting < self.now.most }
@@ -72,20 +76,20 @@ impl Room {
         waiting < self.most
     }
 
-    /// Counts a child that begins to wait.
+    /// Adds one to the number of waiting children.
     #[inline(always)]
     pub(crate) fn child_waits(&self) {
         self.waiting.fetch_add(1, Ordering::SeqCst);
     }
 
-    /// Counts one waiting child less, since a worker has taken its ticket.
+    /// Subtracts one from the number of waiting children, after a ticket was popped from the queue.
     #[inline(always)]
     pub(crate) fn ticket_was_taken(&self) {
         self.waiting.fetch_sub(1, Ordering::SeqCst);
     }
 
-    /// Gives the caller a block of tags, and returns the first. No other worker gets a tag of that block, as long as
-    /// there are fewer than 2^58 blocks.
+    /// Hands out a block of tags, and returns its first tag. No two calls hand out the same tag, as long as there are
+    /// fewer than 2^58 calls.
     pub fn next_block(&self) -> u64
         ensures { result % BLOCK ≡ 1 }
     {
@@ -93,7 +97,8 @@ impl Room {
     }
 }
 
-/// Returns the first tag of the block of this number. Blocks follow one another without a gap, from the tag 1 on.
+/// Returns the first tag of the block of number `block`. The blocks follow one another without a gap, and the first
+/// begins at tag 1.
 #[inline(always)]
 fn first_tag(block: u64) -> u64
     ensures { result ≡ BLOCK * (block % 2 ^ 58) + 1 }
@@ -101,20 +106,21 @@ fn first_tag(block: u64) -> u64
     BLOCK * (block % (1 << 58)) + 1
 }
 
-/// Returns how many places these cores have.
+/// Returns the number of thread slots of `cores` cores with `slots` slots each.
 fn places_of(cores: u8, slots: u8) -> u64
     ensures { result ≡ cores * slots }
 {
     u64::from(cores) * u64::from(slots)
 }
 
-/// Reads a counter. Returns 0 if it is below 0, as it is for a moment if a ticket is taken before it was counted.
+/// Reads a counter. Returns 0 if it is negative, as it can be for a moment, when a ticket is popped before it was
+/// counted.
 #[inline(always)]
 fn seen(number: &AtomicU64) -> u64 {
     or_zero(number.load(Ordering::SeqCst))
 }
 
-/// Returns `number`, or 0 if it has wrapped below 0.
+/// Returns `number`, or 0 if it has wrapped around below 0.
 #[inline(always)]
 fn or_zero(number: u64) -> u64
     ensures above { number < 2 ^ 63 → result ≡ number }

@@ -1,4 +1,4 @@
-//! The traits by which workers run jobs: run a job for some steps, then do what it stopped for.
+//! The traits by which a worker runs a job for some steps, and then fulfils the request at which the job has stopped.
 ghost use Rattle.std.specs.Prelude.{◌≡◌, ◌≤◌, ℕ, List, [], Option, false, IfOk, IfSome, IsSome, None, OnOk, Some};
 ghost use Rattle.arachne_program.specs.Program.{source_of};
 ghost use Rattle.arachne_program.specs.Checked.{IsChecked};
@@ -16,60 +16,64 @@ use arachne_core::{Rest, ThreadId};
 use arachne_program::{Class, Name, Program};
 use std::alloc::{AllocError, Global};
 
-/// Why a slice of a job has stopped: what the job wants, or that it has ended.
+/// The reason why a job has stopped after a slice (a bounded number of steps).
 #[derive(Drop)]
 pub enum Slice<Child> {
-    /// The job goes on.
+    /// The job can run on in a later slice.
     Goes,
-    /// The job forks this child, and goes on once its worker has said where the child runs.
+    /// The job has forked this child, of this class. The worker decides where the child runs, by `fork_off` or
+    /// `put_aside`.
     Forks(Class, Child),
-    /// The job awaits a child that has not ended.
+    /// The job waits to join a child that has not ended.
     Blocks,
-    /// The job asks for this lock. The worker asks the lock, and calls `answer` once the job holds it.
+    /// The job asks for the lock of this number. The worker must request the lock, and call `answer` when the job holds
+    /// it.
     Asks(u64),
-    /// The job has asked for this lock before, and `answer` was not called since.
+    /// The job still waits for the lock of this number: it has asked for it before, and `answer` was not called since.
     Awaits(u64),
-    /// The job frees this lock. The worker frees it, and calls `answer`.
+    /// The job releases the lock of this number. The worker must free the lock, and call `answer`.
     Frees(u64),
-    /// The job adds this amount to this ledger, while an amount for another ledger must still be added. The worker adds
-    /// both, and calls `answer`.
+    /// The job adds to a ledger, a shared sum (fields: its number, and the amount), but another ledger's amount is
+    /// still to be added. The worker must add both, and call `answer`.
     Tallies(u64, u64),
-    /// The job has ended.
+    /// The job has ended. `leave` delivers its outcome to the parent.
     Ends,
 }
 
-/// A thread as its workers see it: its name, its tag, if it is ready or blocked, and the answer to its last request.
+/// A thread as a worker sees it: its name and tag, if it is ready or blocked, and the call that resumes it after a
+/// request.
 pub trait RunThread: Tagged + Drop {
-    /// The numbers of the forks that lead to the thread from the root.
+    /// The thread's name: the numbers of the forks on the path from the root to it.
     ghost name_of: { Self → List ℕ };
 
-    /// The tag of the thread that makes the next step: this thread, or one that runs in its place.
+    /// The tag (identifying number) of the thread that makes the next step: this thread, or a child that runs inside
+    /// its slot.
     ghost running_tag_of: { Self → ℕ };
 
-    /// The id under which the thread's parent runs. The root has no parent.
+    /// The id of the thread's parent, or `None` for the root.
     ghost parent_of: { Self → Option ThreadId };
 
-    /// The request that the worker has not answered yet.
+    /// The request that the worker has not fulfilled yet.
     ghost pause_of: { Self → Option Pending };
 
-    /// Returns the thread's name. A thread that runs in its place has another name.
+    /// Returns the name of this thread, not of a child that runs inside its slot.
     fn name(&self) -> &Name
         ensures { result.now ≡ name_of self.now };
 
-    /// Returns the tag of the thread that makes the next step, and has made any pending request: this thread, or one
-    /// that runs in its place.
+    /// Returns the tag (identifying number) of the thread that makes the next step: this thread, or a child that runs
+    /// inside its slot. A pending request is always one of that thread.
     fn running_tag(&self) -> u64
         ensures { result ≡ running_tag_of self.now };
 
-    /// Returns whether the worker must put the thread back as ready or as blocked. Returns `None` if it can't put the
-    /// thread back.
+    /// Returns the state in which the worker must put the thread back: ready or blocked. Returns `None` if the thread
+    /// has a request that the worker must fulfil first, or has ended.
     fn rest(&self) -> Option<Rest>
         ensures { IfSome result (λ rest. MayRest rest (pause_of self.now)) };
 
-    /// Answers the thread's request, once the worker has done it: the thread holds the lock, the lock is free, or the
-    /// amount was added.
+    /// Resumes the thread after its request was fulfilled: it holds the lock, the lock is free, or the amount was
+    /// added.
     ///
-    /// The error is `Foreign` if the thread asks for nothing.
+    /// Returns the error `Foreign` if the thread has made no such request.
     fn answer(&mut self) -> Result<(), JobFault>
         ensures tag { Self.tag_of self.new ≡ Self.tag_of self.old }
         ensures parent { parent_of self.new ≡ parent_of self.old }
@@ -77,36 +81,36 @@ pub trait RunThread: Tagged + Drop {
         ensures answered { OnOk result (pause_of self.new ≡ None) };
 }
 
-/// A ticket, which stands in a queue for a child that waits for a place.
+/// An entry of the queue, for a child that waits for a thread slot.
 pub trait RunTicket: Tagged + Drop {
-    /// Returns whether the ticket's child still waits. The child is not taken.
+    /// Returns whether the child still waits in its cell, and leaves it there.
     fn still_waits(&self) -> bool;
 }
 
-/// The memory of ended threads that a worker keeps for new threads.
+/// Memory of ended threads, which a worker keeps for new threads.
 pub trait RunSpares: Drop {
     /// Returns an empty store. Takes no memory.
     fn none(alloc: Global) -> Self;
 }
 
-/// A thread with a place of its own, with the calls that run it for some steps and create its children.
+/// A thread with a slot of its own, with the calls that run it for some steps and that create its children.
 pub trait RunJob: RunThread {
-    /// A thread that was forked and has no place yet.
+    /// A child that was forked and has no slot yet.
     type Child: Drop;
 
-    /// The ticket of a child that waits for a place.
+    /// The queue's entry for a child that waits for a thread slot.
     type Ticket: RunTicket;
 
-    /// The memory of ended threads that a worker keeps.
+    /// Memory of ended threads, which a worker keeps for new threads.
     type Spares: RunSpares;
 
-    /// The job has forked this child, and the worker has not decided yet where it runs.
+    /// States that the job has forked this child, and that the worker has not decided yet where the child runs.
     ghost forks: { Self → Self.Child → Type 0 };
 
     /// Runs the job for at most `left` steps, and subtracts the steps that were made from `left`.
     ///
-    /// A thread that waits makes no step. A child for which there is no place runs in this job's place. The caller must
-    /// still add the amounts in `openings` to their ledgers.
+    /// A job that must still wait for a lock or a child makes no step. A child that can't get a thread slot runs inside
+    /// this job's slot. The caller must still add the amount in `openings` to the ledger for which it was collected.
     fn slice(
         &mut self,
         left: &mut u32,
@@ -120,7 +124,7 @@ pub trait RunJob: RunThread {
         ensures parent { Self.parent_of self.new ≡ Self.parent_of self.old }
         ensures left { IfOk result (λ slice. IsLeft forks Self.pause_of slice self.new) };
 
-    /// Makes a job of the forked child, with this tag. The child's parent runs under the id `parent`.
+    /// Makes a job of the forked child, with the tag `tag`, and resumes this job, whose id is `me`.
     fn fork_off(
         &mut self,
         alloc: Global,
@@ -136,11 +140,11 @@ pub trait RunJob: RunThread {
         ensures childs_parent { IfOk result (λ job. Self.parent_of job ≡ Some me) }
         ensures answered { OnOk result (Self.pause_of self.new ≡ None) };
 
-    /// Lets the forked child wait for a place, with this tag, until a worker finds one or this job (with the id `me`)
-    /// awaits the child.
+    /// Lets the forked child wait for a thread slot, and resumes this job, whose id is `me`. The child gets the tag
+    /// `tag`. It waits until a worker has a slot for it, or until this job waits to join it.
     ///
-    /// Returns the child's ticket. Returns `None` if `waits` is false or memory is refused: then the child runs in this
-    /// job's place.
+    /// Returns the child's ticket, which the caller must queue. Returns `None` if `waits` is false or memory is
+    /// refused; then the child runs inside this job's slot instead.
     fn put_aside(
         &mut self,
         alloc: Global,
@@ -156,24 +160,24 @@ pub trait RunJob: RunThread {
         ensures ticket { IfOk result (λ made. IfSome made (λ ticket. Self.Ticket.tag_of ticket ≡ tag)) }
         ensures asked { waits ≡ false → IfOk result (λ made. made ≡ None) };
 
-    /// Returns the job of a ticket's child, if the child still waits. Returns `None` also if memory is refused: then
-    /// the child goes on waiting for its parent.
+    /// Makes a job of the ticket's child. Returns `None` if the child no longer waits. Also returns `None` if memory is
+    /// refused; then the child still waits for its parent.
     fn of_ticket(alloc: Global, ticket: Self::Ticket, spares: &mut Self::Spares) -> Option<Self>
         ensures parent { IfSome result (λ job. IsSome (Self.parent_of job)) }
         ensures tag { IfSome result (λ job. Self.tag_of job ≡ Self.Ticket.tag_of ticket) };
 
-    /// Leaves the outcome for the thread's parent, and returns the id of the parent, which must be woken. The root has
-    /// no parent.
+    /// Puts the outcome of the ended job into its join cell, for its parent. Returns the parent's id, so that the
+    /// caller can wake the parent, or `None` for the root.
     ///
-    /// The error is `Foreign` if the thread has not ended.
+    /// Returns the error `Foreign` if the thread has not ended.
     fn leave(self, spares: &mut Self::Spares) -> Result<Option<ThreadId>, JobFault>
         ensures ended { OnOk result (Self.pause_of self ≡ Some pause.Ended) }
         ensures parent { IfOk result (λ parent. parent ≡ Self.parent_of self) };
 }
 
-/// A job type for the threads of a task program, with the call that makes the root's job.
+/// A type of jobs for the threads of a task program, with the call that makes the job of the root.
 pub trait JobOf<'p>: RunJob {
-    /// Returns the root's job, which has the tag 0, and the receiving end for its outcome.
+    /// Returns the job of the program's root thread, with the tag 0, and the receiving end for its outcome.
     fn begin(
         alloc: Global,
         program: &'p Program,

@@ -1,4 +1,4 @@
-//! The memory of ended threads that a worker keeps for new threads.
+//! Memory of ended threads, which a worker keeps for new threads.
 use crate::slice::RunSpares;
 use crate::ties::SpareTies;
 use crate::wanted::Wanted;
@@ -6,10 +6,9 @@ use arachne_join::SpareCells;
 use arachne_machine::{DetachedOutcome, Spares as SpareThreads};
 use std::alloc::Global;
 
-/// Memory for new threads: the states of ended threads, the [`Ties`] of their jobs, and join cells that are unused
-/// again.
+/// Memory for new threads: the states of ended threads, the [`Ties`] of their jobs, and join cells that are free again.
 ///
-/// Each worker has its own store, so that most forks allocate only for a long name.
+/// Each worker has a store of its own, so that most forks allocate memory only for a long name.
 #[derive(Drop)]
 pub struct JobSpares<'p> {
     pub(crate) threads: SpareThreads<'p>,

@@ -1,12 +1,12 @@
-//! Gives each new thread of a core its tag (its number in the run).
+//! Gives each new thread of a core its tag, the number by which the run identifies it.
 ghost use Rattle.std.specs.Prelude.{◌≡◌, ◌+◌, ◌<◌, ◌%◌};
 
 use crate::room::Room;
 
-/// The number of tags in a block, which a worker gets by one atomic operation.
+/// The number of tags (numbers that identify threads) in a block. A worker gets a whole block by one atomic operation.
 pub const BLOCK: u64 = 64;
 
-/// The tags of a worker's block that it has not given to a thread yet.
+/// A block of tags, numbers that identify threads, from which a worker gives one to each new thread.
 #[derive(Debug, Drop)]
 pub struct Tags {
     pub next: u64,
@@ -21,7 +21,7 @@ impl Tags {
         Tags { next: 0, left: 0 }
     }
 
-    /// Returns the next tag of the block. If none is left, gets a new block and returns its first tag.
+    /// Returns the next tag of the block. If none is left, gets a new block from `room` and returns its first tag.
     pub fn take(&mut self, room: &Room) -> u64
         ensures of_block { 0 < self.old.left → result ≡ self.old.next }
         ensures next { result < u64.MAX → self.new.next ≡ result + 1 }

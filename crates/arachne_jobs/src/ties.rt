@@ -1,4 +1,4 @@
-//! A job's ends of join cells and its parent's id, in one box that later jobs reuse.
+//! A job's ends of join cells and its parent's id, in a box that later jobs reuse.
 ghost use Rattle.std.specs.Prelude.{◌≡◌, ◌≤◌, ◌+◌, [], IfOk, vec_len, vec_capacity};
 
 use crate::ends::End;
@@ -6,17 +6,18 @@ use arachne_core::ThreadId;
 use std::alloc::{AllocError, Global};
 use std::marker::Model;
 
-/// The ends of cells that a job has, the newest last, and the id under which its parent runs. The type has no lifetime.
+/// A job's ends of join cells, the newest last, and its parent's id. This type has no lifetime, so that any job can
+/// reuse it.
 #[derive(Drop)]
 pub struct Ties {
     pub(crate) ends: Vec<End>,
     pub(crate) parent: Option<ThreadId>,
 }
 
-/// The most boxes in the store.
+/// The greatest number of boxes in a store.
 const MOST: usize = 64;
 
-/// The boxes of ended jobs, with the capacity of their lists, for new jobs.
+/// The boxes of ended jobs, with the capacity of their lists, which new jobs reuse.
 #[derive(Drop)]
 pub struct SpareTies {
     ties: Vec<Box<Ties>>,
@@ -40,7 +41,7 @@ impl SpareTies {
         }
     }
 
-    /// Returns a box with this parent and no cell, with room for the end of one cell.
+    /// Returns a box with the parent `parent` and no ends of cells. It has room for at least one.
     #[inline(always)]
     pub(crate) fn take(
         &mut self,
@@ -67,7 +68,7 @@ impl SpareTies {
         Ok(ties)
     }
 
-    /// Stores the box of an ended job, unless `MOST` are stored already.
+    /// Keeps the box of an ended job. Drops the box if the store already has `MOST`.
     #[inline(always)]
     pub(crate) fn keep(&mut self, ties: Box<Ties>) {
         if self.ties.len() < MOST {

@@ -1,4 +1,4 @@
-//! A child that waits in its join cell, for a place or for its parent.
+//! A child in its join cell, in which it waits for a thread slot or for its parent.
 ghost use Rattle.std.specs.Prelude.{◌≡◌, ◌≢◌, ◌↔◌, IfOk, IfErr, IfSome, IsTrue, Some};
 ghost use Rattle.std.specs.Arc.{arc_value};
 ghost use Rattle.arachne_join.specs.Views.{shown};
@@ -21,7 +21,8 @@ type Cell<'p> = JoinCell<LeftInCell<'p>, Wanted>;
 
 type CellEnd<'p> = SendingEnd<LeftInCell<'p>, Wanted>;
 
-/// A shared reference to the cell in which a child waits. Contracts see for which outcome the cell is, and its table.
+/// A shared reference to the join cell in which a child waits. In contracts, it is the cell's key, which says whose
+/// outcome the cell is for, and the table that the cell belongs to.
 #[derive(Drop)]
 pub struct WaitCell<'p> {
     cell: Arc<Cell<'p>>,
@@ -42,7 +43,7 @@ impl<'p> Model for WaitCell<'p> {
     ghost view = { λ c. arc_value c.cell };
 }
 
-/// The ticket of a child that waits: its cell and its tag. Contracts see the cell.
+/// The queue's entry for a waiting child: its join cell and its tag. In contracts, it is only the cell.
 #[derive(Drop)]
 pub struct Ticket<'p> {
     cell: Arc<Cell<'p>>,
@@ -76,7 +77,8 @@ impl<'p> Tagged for Ticket<'p> {
 }
 
 impl<'p> WaitCell<'p> {
-    /// Puts a child into a cell, in which it waits. Returns the cell and a ticket, or the child if memory is refused.
+    /// Puts `child` into a new cell to wait there. Returns the cell and a ticket for the queue. If memory is refused,
+    /// returns `child` as the error.
     pub(crate) fn wait(
         alloc: Global,
         child: Thread<'p>,
@@ -103,8 +105,8 @@ impl<'p> WaitCell<'p> {
         Ok((WaitCell { cell }, Ticket { cell: ticket, tag }))
     }
 
-    /// Takes the outcome or the child out of the cell, for the parent that awaits it. If the cell has neither, returns
-    /// as the error the state in which the cell was found.
+    /// Takes the outcome, or the waiting child, out of the cell, on behalf of the parent. If the cell has neither,
+    /// returns the cell's state as the error.
     pub(crate) fn find(&self) -> Result<Found<'p>, Missed<Wanted>>
         ensures found { IfOk result (IsFoundFor self.now.key) }
         ensures missed { IfErr result (λ missed. (missed.state ≢ CellState.Waiting) × (missed.receipt ≡ shown self.now.table (Saw missed.state))) }
@@ -128,8 +130,8 @@ impl<'p> WaitCell<'p> {
         }
     }
 
-    /// Leaves the child's outcome in this cell, by the cell's sending end `end`. Returns a receipt, by which contracts
-    /// see that the outcome was left.
+    /// Puts the child's outcome into this cell by its sending end `end`. The receipt shows in contracts that this was
+    /// done.
     pub(crate) fn leave(self, end: CellEnd<'p>, outcome: DetachedOutcome) -> Receipt<Wanted>
         requires end { end ≡ self.table }
         requires outcome { IsWanted self.key outcome }
@@ -139,7 +141,7 @@ impl<'p> WaitCell<'p> {
     }
 }
 
-/// Returns whether a child waits in a cell of this state.
+/// Returns whether `state` is that of a cell in which a child waits.
 #[inline(always)]
 fn is_waiting(state: CellState) -> bool
     ensures { IsTrue result ↔ (state ≡ CellState.Waiting) }
@@ -155,7 +157,8 @@ impl<'p> RunTicket for Ticket<'p> {
 }
 
 impl<'p> Ticket<'p> {
-    /// Takes the child, if it still waits, with its cell and the cell's sending end.
+    /// Takes the child out of its cell. Returns the child, the cell and the cell's sending end, or `None` if the child
+    /// no longer waits.
     pub(crate) fn take(self) -> Option<(Waiting<'p>, WaitCell<'p>, CellEnd<'p>)>
         ensures child { IfSome result (λ taken. IsFor taken.0.thread taken.1.key × HasNotBegun taken.0.thread) }
         ensures told { IfSome result (λ taken. IsTold taken.0 self.entry.key) }
@@ -172,7 +175,7 @@ impl<'p> Ticket<'p> {
     }
 }
 
-/// Returns two references to a new empty cell, and its sending end.
+/// Allocates an empty cell. Returns a reference to it, its sending end, and a second reference.
 fn shared_cell<'p>(
     alloc: Global,
     wanted: &Wanted,

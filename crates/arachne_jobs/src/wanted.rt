@@ -1,4 +1,5 @@
-//! The key of a join cell: the name of the thread whose outcome the cell is for, and its parent.
+//! The key of a join cell, which says whose outcome the cell is for and who the parent is. It exists only for
+//! contracts.
 ghost use Rattle.std.specs.Prelude.{◌≡◌};
 ghost use Rattle.arachne_jobs.specs.Cells.{IsFor};
 ghost use Rattle.arachne_jobs.specs.Threads.{tag_of};
@@ -9,21 +10,21 @@ use arachne_machine::{DetachedOutcome, Thread};
 use arachne_program::{Name, Program};
 use std::snapshot::Snapshot;
 
-/// The key of a cell for the outcome of the thread of this name in this program. A value of this type has no bytes.
+/// The key of a join cell: the thread whose outcome the cell is for. Exists only for contracts, and has size 0.
 #[derive(Drop)]
 pub struct Wanted {
     /// The thread's program.
     pub program: Snapshot<Program>,
     /// The thread's name.
     pub name: Snapshot<Name>,
-    /// The tag under which the thread begins.
+    /// The tag with which the thread begins.
     pub tag: Snapshot<u64>,
-    /// The id under which the thread's parent runs, if it has one.
+    /// The id of the thread's parent, or `None` for the root.
     pub parent: Snapshot<Option<ThreadId>>,
 }
 
 impl Wanted {
-    /// Returns the key of the cell for the outcome of `thread`, which `parent` awaits.
+    /// Returns the key of the cell for the outcome of `thread`, whose parent has the id `parent`.
     #[inline(always)]
     pub(crate) fn of(thread: &Thread<'_>, parent: Option<ThreadId>) -> Wanted
         ensures thread { IsFor thread.now result }
@@ -45,8 +46,8 @@ impl Fits<Wanted> for DetachedOutcome {
     ghost fits = { IsWanted };
 }
 
-/// The sending end of a join cell, by which a thread leaves its outcome.
+/// The sending end of a join cell, by which a thread puts its outcome into the cell.
 pub type OutcomeSender = Sender<DetachedOutcome, Wanted>;
 
-/// The receiving end of a join cell, by which a parent gets its child's outcome.
+/// The receiving end of a join cell, by which a parent takes its child's outcome out of the cell.
 pub type OutcomeReceiver = Receiver<DetachedOutcome, Wanted>;

@@ -1,4 +1,4 @@
-//! Checks that a program may run: how deep it is nested, the limits, and each node in the order of the text.
+//! Checks if a program may run: its nesting, its size, and each node in the order of the program's text.
 ghost use Rattle.std.specs.Prelude.{◌≡◌, ◌+◌, ◌-◌, ◌*◌, ◌^◌, ◌<◌, ◌≤◌, ◌↔◌, ◌++◌, IsTrue, IfOk, SomeIff, length, sum_by, take};
 ghost use Rattle.arachne_program.specs.Program.{tree_of, source_of};
 ghost use Rattle.arachne_program.specs.Nesting.{nesting};
@@ -7,24 +7,24 @@ ghost use Rattle.arachne_lang.specs.Judgement.{judged, KeepsLimits};
 
 use arachne_program::{CheckFault, Expr, Program};
 
-/// The maximum number of levels of an expression. The root is at level 1.
+/// The greatest nesting depth of an expression. The root is at depth 1.
 const MOST_LEVELS: u32 = 64;
 
 const MOST_NODES: u64 = 4_096;
 
 const MOST_ARRAYS: usize = 64;
 
-/// The maximum number of items in all arrays together.
+/// The greatest number of items in all arrays together.
 const MOST_ITEMS: usize = 1_000_000;
 
 const MOST_LEDGERS: u8 = 16;
 
 const MOST_LOCKS: u8 = 16;
 
-/// Checks that a program may run.
+/// Checks if a program may run. Returns the first fault.
 ///
-/// Checks first the program's nesting, then the limits, then its nodes in the order of the text, a node before its
-/// parts. Returns the first fault. Takes no memory. Parts that are nested deeper than is allowed take no stack.
+/// Checks the nesting depth first, then the size, then the nodes in the order of the program's text. Takes no memory.
+/// The recursion goes at most 64 levels deep, however deep the program is nested.
 pub fn check(program: &Program) -> Result<(), CheckFault>
     ensures { result ≡ verdict_of (source_of program.now) }
 {
@@ -43,7 +43,7 @@ pub fn check(program: &Program) -> Result<(), CheckFault>
     Ok(())
 }
 
-/// Returns whether an expression has at most `levels` levels. Stops at deeper levels.
+/// Returns whether `expr` is nested at most `levels` levels deep. Looks at no deeper level.
 #[tactic(auto, using(crate::proofs::NodesJudged::nesting_positive))]
 fn nests_within(expr: &Expr, levels: u32) -> bool
     ensures { IsTrue result ↔ (nesting (tree_of expr.now) ≤ levels) }
@@ -83,7 +83,7 @@ fn is_within_limits(program: &Program) -> bool
         && nodes_left(&program.root, MOST_NODES).is_some()
 }
 
-/// Returns whether all arrays together have at most `items` items.
+/// Returns whether `arrays` have at most `items` items together.
 fn have_items_within(arrays: &[Vec<u64>], items: usize) -> bool
     ensures { IsTrue result ↔ (sum_by (λ array. length array.items) arrays.now ≤ items) }
 {
@@ -97,8 +97,8 @@ fn have_items_within(arrays: &[Vec<u64>], items: usize) -> bool
     true
 }
 
-/// Subtracts the number of an expression's nodes from `nodes`. Returns `None` if the expression has more, and stops at
-/// the first node that is too many.
+/// Returns `nodes` minus the number of nodes in `expr`, or `None` if `expr` has more than `nodes`. Stops at the first
+/// node that is too many.
 #[tactic(auto, using(crate::proofs::NodesJudged::node_count_positive))]
 fn nodes_left(expr: &Expr, nodes: u64) -> Option<u64>
     ensures { SomeIff result (node_count (tree_of expr.now) ≤ nodes) (nodes - node_count (tree_of expr.now)) }
@@ -119,19 +119,18 @@ fn nodes_left(expr: &Expr, nodes: u64) -> Option<u64>
     }
 }
 
-/// The context of an expression, by which the checker decides whether it is allowed: the program, whether a lock is
-/// held, and the bound variables.
+/// The context by which the checker judges an expression: the program, if a lock is held, and the bound variables.
 #[derive(Clone, Copy)]
 struct Scope<'p> {
     program: &'p Program,
-    /// True if the expression is evaluated while the thread holds a lock.
+    /// True if the thread holds a lock while it evaluates the expression.
     within: bool,
-    /// The number of variables that the expressions around it bind.
+    /// The number of variables that the expressions around this one bind.
     bound: u64,
 }
 
 impl<'p> Scope<'p> {
-    /// Returns the scope with `variables` more variables.
+    /// Returns this scope with `variables` more bound variables.
     fn binding(self, variables: u64) -> Scope<'p>
         requires { self.bound + variables < 2 ^ 64 }
         ensures { result ≡ record self.entry { bound = self.entry.bound + variables } }
@@ -148,7 +147,7 @@ impl<'p> Scope<'p> {
         array < self.program.arrays.len() as u64
     }
 
-    /// Checks the root of an expression, which is the node number `node`, and none of its parts.
+    /// Checks the node `expr`, which has the number `node`, without its parts.
     fn judge(self, expr: &Expr, node: u64) -> Result<(), CheckFault>
         ensures { result ≡ first_fault node (take 1
             (node_faults (source_of self.entry.program.now) self.entry.within self.entry.bound (tree_of expr.now))) }
@@ -171,8 +170,8 @@ impl<'p> Scope<'p> {
         }
     }
 
-    /// Checks the nodes of an expression whose first node has the number `node`. Returns the number of the node that
-    /// follows these nodes.
+    /// Checks the node `expr`, which has the number `node`, and all nodes below it. Returns the number of the next node
+    /// after them.
     #[cycle(judging)]
     #[tactic(auto, using(crate::proofs::NodesJudged::judged_parts, crate::proofs::NodesJudged::some_faults))]
     fn check(self, expr: &Expr, node: u64) -> Result<u64, CheckFault>
@@ -203,8 +202,7 @@ impl<'p> Scope<'p> {
         }
     }
 
-    /// Checks the nodes of two parts, like `check`: the nodes of `a`, and then those of `b`, which is in the scope
-    /// `last`.
+    /// Checks two parts like `check`: first `a`, in this scope, then `b`, in the scope `last`.
     #[cycle(judging)]
     fn two(self, a: &Expr, last: Scope, b: &Expr, node: u64) -> Result<u64, CheckFault>
         requires nodes { node + node_count (tree_of a.now) + node_count (tree_of b.now) ≤ MOST_NODES }
@@ -219,7 +217,7 @@ impl<'p> Scope<'p> {
         last.check(b, second)
     }
 
-    /// Checks the nodes of three parts, like `check`; `c` is in the scope `last`.
+    /// Checks three parts like `check`: first `a` and `b`, in this scope, then `c`, in the scope `last`.
     #[cycle(judging)]
     fn three(self, a: &Expr, b: &Expr, last: Scope, c: &Expr, node: u64) -> Result<u64, CheckFault>
         requires nodes { node + node_count (tree_of a.now) + node_count (tree_of b.now) + node_count (tree_of c.now) ≤ MOST_NODES }
@@ -237,7 +235,7 @@ impl<'p> Scope<'p> {
         last.check(c, second)
     }
 
-    /// Checks the nodes of four parts, like `check`; `d` is in the scope `last`.
+    /// Checks four parts like `check`: first `a`, `b` and `c`, in this scope, then `d`, in the scope `last`.
     #[cycle(judging)]
     fn four(
         self,

@@ -1,4 +1,4 @@
-//! Evaluates a program on one thread. Also returns the sums of its ledgers, and for each of its threads how often it
+//! Evaluates a program on one kernel thread: its value, the sums of its ledgers, and how often each of its task threads
 //! held each lock.
 ghost use Rattle.std.specs.Prelude.{◌≡◌, ◌+◌, ◌^◌, ◌<◌, [], ◌∷◌, ◌++◌, IfOk, length, slice_index};
 ghost use Rattle.arachne_program.specs.declared.program.Class.{Class};
@@ -14,18 +14,18 @@ ghost use Rattle.arachne_lang.specs.Evaluation.{Gains, IsFresh, MayFork, MaySpli
 use arachne_program::{Expr, Line, Meaning, Name, Operation, Program, Reduction, Sequence};
 use std::alloc::{AllocError, Global};
 
-/// The counts of the thread that is being evaluated, without those of its children.
+/// The counts of the task thread that is being evaluated, without those of its children.
 #[derive(Drop)]
 struct Own {
     name: Name,
-    /// For each lock, the number of times that the thread held it.
+    /// For each lock, the number of times that the thread held it, modulo 2^64.
     holds: Vec<u64>,
-    /// The number of threads that the thread has forked, which is the number of its next child.
+    /// The number of children that the thread has forked. The next child gets this number.
     forks: u64,
 }
 
 impl Own {
-    /// Returns the counts of a new thread, all 0.
+    /// Returns the counts of a thread that has not begun, all 0.
     fn new(alloc: Global, name: Name, locks: u8) -> Result<Own, AllocError>
         ensures { IfOk result (IsFresh locks name) }
     {
@@ -36,7 +36,7 @@ impl Own {
         })
     }
 
-    /// Returns the name of the thread's next child, and counts the child.
+    /// Returns the name of the thread's next child, and adds one to `forks`.
     fn fork(&mut self, alloc: Global) -> Result<Name, AllocError>
         requires { self.old.forks + 1 < 2 ^ 64 }
         ensures name { IfOk result (λ name. name ≡ self.old.name ++ self.old.forks ∷ []) }
@@ -57,7 +57,7 @@ impl Own {
     }
 }
 
-/// Returns a placeholder for a thread's line, which the evaluator replaces once the thread has ended.
+/// Returns a placeholder, which is replaced by a thread's report line when the thread has ended.
 fn unwritten_line(alloc: Global) -> Line {
     Line {
         name: Name::root(alloc),
@@ -65,18 +65,18 @@ fn unwritten_line(alloc: Global) -> Line {
     }
 }
 
-/// What the evaluator keeps for all threads: the running thread's variables, the ledgers' sums, and the lines so far.
+/// The data that all task threads share: the running thread's variables, the ledgers' sums, and the report lines.
 #[derive(Drop)]
 struct Shared {
-    /// The variables of the thread that is being evaluated, the oldest first.
+    /// The variables of the task thread that is being evaluated, the oldest first.
     environment: Vec<u64>,
-    /// For each ledger, the sum of the amounts that were tallied to it.
+    /// For each ledger, the sum of the amounts that were added to it so far, modulo 2^64.
     sums: Vec<u64>,
-    /// The lines of the threads so far.
+    /// The report lines of the threads that have begun so far.
     lines: Vec<Line>,
 }
 
-/// The constant parameters of a sweep.
+/// The parameters of a sweep (a parallel reduction) that are the same for all its parts.
 #[derive(Clone, Copy)]
 struct Reducer<'p> {
     reduction: Reduction,
@@ -84,7 +84,7 @@ struct Reducer<'p> {
     body: &'p Expr,
 }
 
-/// Adds `amount` to the number at index `place`, modulo 2^64. Does nothing if there is no such index.
+/// Adds `amount`, modulo 2^64, to the number at index `place`. Does nothing if there is no such index.
 fn add_at(numbers: &mut [u64], place: u64, amount: u64)
     ensures { Gains (tallied place amount).sums numbers.old numbers.new }
 {
@@ -95,9 +95,9 @@ fn add_at(numbers: &mut [u64], place: u64, amount: u64)
     numbers[place] = numbers[place].wrapping_add(amount);
 }
 
-/// Evaluates the expressions of a program, by plain recursion in one thread.
+/// An evaluator of a program's expressions, by plain recursion on one kernel thread.
 ///
-/// The only error is that memory was refused. After this error the sums and the lines are useless.
+/// Its functions return `Err` only if memory was refused. The sums and the lines are then useless.
 #[derive(Clone, Copy)]
 struct Evaluator<'p> {
     alloc: Global,
@@ -105,7 +105,7 @@ struct Evaluator<'p> {
 }
 
 impl Evaluator<'_> {
-    /// Returns an item of an array, or 0 if there is no such item.
+    /// Returns the item at `index` of the array of number `array`, or 0 if there is no such item.
     fn item(&self, array: u64, index: u64) -> u64
         ensures { result ≡ slice_index (array_at (source_of self.now.program.now).arrays array) index }
     {
@@ -115,7 +115,7 @@ impl Evaluator<'_> {
         }
     }
 
-    /// Returns the number of items of an array.
+    /// Returns the number of items of the array of number `array`.
     fn length(&self, array: u64) -> u64
         ensures { result ≡ length (array_at (source_of self.now.program.now).arrays array) }
     {
@@ -125,8 +125,8 @@ impl Evaluator<'_> {
         }
     }
 
-    /// Evaluates an expression in a new thread. The thread's line comes next in the list, and the lines of its
-    /// descendants follow.
+    /// Evaluates `expr` as a new task thread of the name `name`. Appends the thread's report line, and then those of
+    /// its descendants.
     #[cycle(evaluation)]
     fn run(&self, shared: &mut Shared, name: Name, expr: &Expr) -> Result<u64, AllocError>
         requires { MayFork (tree_of expr.now) 0 shared.old.lines.items }
@@ -142,8 +142,8 @@ impl Evaluator<'_> {
         Ok(value)
     }
 
-    /// Reduces the `n` numbers from `first` on in a new thread, whose line and descendants' lines come next in the
-    /// list.
+    /// Reduces the `n` numbers from `first` on as a new task thread. Appends the thread's report line, and then those
+    /// of its descendants.
     #[cycle(evaluation)]
     fn run_half(
         &self,
@@ -168,7 +168,7 @@ impl Evaluator<'_> {
         Ok(value)
     }
 
-    /// Evaluates an expression in the current thread. The environment is unchanged.
+    /// Evaluates `expr` in the current task thread. Leaves the thread's variables unchanged.
     #[cycle(evaluation)]
     fn value(&self, shared: &mut Shared, own: &mut Own, expr: &Expr) -> Result<u64, AllocError>
         requires { MayFork (tree_of expr.now) own.old.forks shared.old.lines.items }
@@ -270,7 +270,7 @@ impl Evaluator<'_> {
         Ok(value)
     }
 
-    /// Evaluates an expression with `newest` as the newest variable.
+    /// Evaluates `expr` with `newest` as an additional variable.
     #[cycle(evaluation)]
     fn body(
         &self,
@@ -332,7 +332,8 @@ impl Evaluator<'_> {
         Ok(value)
     }
 
-    /// Evaluates a fork. The child is evaluated after `during`, so that each line is pushed at its final place.
+    /// Evaluates a fork. Evaluates `during` before the child, so that the report lines are appended in their final
+    /// order.
     #[cycle(evaluation)]
     fn fork(
         &self,
@@ -357,7 +358,7 @@ impl Evaluator<'_> {
         Ok(value)
     }
 
-    /// Evaluates an expression with `first` and then `second` as the newest variables.
+    /// Evaluates `expr` with two additional variables: `first`, and then `second`.
     #[cycle(evaluation)]
     fn after(
         &self,
@@ -407,10 +408,11 @@ impl Evaluator<'_> {
         Ok(value)
     }
 
-    /// Evaluates `n` iterations of a fold, over the numbers from `from` on, with `first` as the first value.
+    /// Evaluates `n` iterations of a fold (a sequential loop), over the numbers from `from` on. The initial value is
+    /// `first`.
     ///
-    /// In each iteration the two newest variables are the iteration's number and the value so far. These overwrite the
-    /// two variables of the previous iteration.
+    /// In each iteration the two newest variables are the current number and the value so far. They are overwritten in
+    /// place.
     #[cycle(evaluation)]
     fn turns(
         &self,
@@ -465,10 +467,10 @@ impl Evaluator<'_> {
         Ok(value)
     }
 
-    /// Reduces the `n` numbers from `first` on.
+    /// Reduces the `n` numbers from `first` on, for a sweep (a parallel reduction).
     ///
-    /// If `n` is greater than the grain, the left half of the numbers is reduced by a child thread. The child runs
-    /// after the right half is reduced, so that each thread's line is pushed at its final place.
+    /// If `n` is greater than the grain, a child task thread reduces the left half. The child is evaluated after the
+    /// right half, so that the report lines are appended in their final order.
     #[cycle(evaluation)]
     fn halves(
         &self,
@@ -496,7 +498,7 @@ impl Evaluator<'_> {
         Ok(reducer.reduction.operation().apply(left_value, right_value))
     }
 
-    /// Reduces the `n` numbers from `first` on in the current thread, with the number as the newest variable.
+    /// Reduces the `n` numbers from `first` on in the current task thread. The current number is the newest variable.
     #[cycle(evaluation)]
     fn reduce(
         &self,
@@ -527,10 +529,9 @@ impl Evaluator<'_> {
     }
 }
 
-/// Evaluates a checked program on one thread.
+/// Evaluates a checked program on the calling kernel thread. Returns `Err` only if memory is refused.
 ///
-/// The only error is that memory was refused. The evaluation is a plain recursion, which goes no deeper than the
-/// program's 64 levels and the 64 halvings of each sweep.
+/// Evaluates by plain recursion. The depth is bounded by the program's 64 levels and, in each sweep, by 64 halvings.
 pub fn eval(alloc: Global, program: &Program) -> Result<Meaning, AllocError>
     requires { IsChecked (source_of program.now) }
     ensures { IfOk result (λ meaning. meaning ≡ meaning_of (source_of program.now)) }

@@ -1,4 +1,4 @@
-//! Reads, prints, checks and evaluates programs of the task language, on one thread.
+//! Parses, prints, checks and evaluates programs of the task language, all on one kernel thread.
 #![tactic(auto)]
 
 mod checker;

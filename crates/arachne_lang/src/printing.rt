@@ -11,13 +11,13 @@ use arachne_program::{Class, Expr, Operation, Program, Reduction};
 use itoa::Buffer;
 use std::alloc::{AllocError, Global};
 
-/// Returns the text of a program. Each program has exactly one text.
+/// Returns the text of `program`. Each program has exactly one text.
 ///
-/// The time is linear in the bytes of the text. Memory is taken only for the text, as it grows.
+/// Takes time linear in the length of the text, and memory only for the text.
 pub fn print(alloc: Global, program: &Program) -> Result<Vec<u8>, AllocError>
     requires { nesting (tree_of program.now.root) ≤ 64 }
     ensures text { IfOk result (λ text. text.items ≡ text_of (source_of program.now)) }
-    // So `parse` reads the text as this program, unless memory is refused.
+    // So `parse` of the text returns this program, unless memory is refused.
     ensures accepted { OnOk result (IsAccepted (source_of program.now)) }
 {
     let mut text = Vec::new(alloc);
@@ -34,7 +34,7 @@ pub fn print(alloc: Global, program: &Program) -> Result<Vec<u8>, AllocError>
     Ok(text)
 }
 
-/// Appends a line: a word, and the numbers after it.
+/// Appends a line to `text`: the word `word`, and then `numbers`, each after a space.
 fn push_line(text: &mut Vec<u8>, word: &[u8], numbers: &[u64]) -> Result<(), AllocError>
     ensures text { OnOk result (text.new.items ≡ text.old.items ++ line word.now numbers.now) }
     ensures fit { OnOk result (AllByRecursion (λ n. n < 2 ^ 64) numbers.now) }
@@ -47,7 +47,7 @@ fn push_line(text: &mut Vec<u8>, word: &[u8], numbers: &[u64]) -> Result<(), All
     Ok(())
 }
 
-/// Appends a space and the digits of a number.
+/// Appends a space and the decimal digits of `number` to `text`.
 fn push_number(text: &mut Vec<u8>, number: u64) -> Result<(), AllocError>
     ensures { OnOk result (text.new.items ≡ text.old.items ++ 32 ∷ numeral number) }
 {
@@ -57,7 +57,7 @@ fn push_number(text: &mut Vec<u8>, number: u64) -> Result<(), AllocError>
     Ok(())
 }
 
-/// Returns the word of an operation in the text, as `add`.
+/// Returns the keyword of an operation in a program's text, such as `add`.
 fn word_of(operation: Operation) -> &'static [u8]
     ensures { result.now ≡ operation_word operation }
 {
@@ -73,7 +73,7 @@ fn word_of(operation: Operation) -> &'static [u8]
     }
 }
 
-/// Appends an expression.
+/// Appends the text of `expr`.
 #[cycle(expression)]
 fn push_expression(text: &mut Vec<u8>, expr: &Expr) -> Result<(), AllocError>
     ensures text { OnOk result (text.new.items ≡ text.old.items ++ spelling (tree_of expr.now)) }
@@ -102,7 +102,7 @@ fn push_expression(text: &mut Vec<u8>, expr: &Expr) -> Result<(), AllocError>
     }
 }
 
-/// Appends a space and an expression.
+/// Appends a space and the text of `part`.
 #[cycle(expression)]
 fn push_part(text: &mut Vec<u8>, part: &Expr) -> Result<(), AllocError>
     ensures text { OnOk result (text.new.items ≡ text.old.items ++ 32 ∷ spelling (tree_of part.now)) }
@@ -113,7 +113,7 @@ fn push_part(text: &mut Vec<u8>, part: &Expr) -> Result<(), AllocError>
     Ok(())
 }
 
-/// Appends an expression in brackets that consists of a keyword and a number.
+/// Appends an expression in brackets: the keyword `word` and `number`.
 fn push_leaf(text: &mut Vec<u8>, word: &[u8], number: u64) -> Result<(), AllocError>
     ensures { OnOk result (text.new.items ≡ text.old.items ++ bracketed word.now (numeral number ∷ [])) }
 {
@@ -122,7 +122,7 @@ fn push_leaf(text: &mut Vec<u8>, word: &[u8], number: u64) -> Result<(), AllocEr
     Ok(())
 }
 
-/// Appends an expression in brackets that consists of a keyword, a number and a subexpression.
+/// Appends an expression in brackets: the keyword `word`, `number` and the subexpression `a`.
 #[cycle(expression)]
 fn push_with_one(text: &mut Vec<u8>, word: &[u8], number: u64, a: &Expr) -> Result<(), AllocError>
     ensures text { OnOk result (text.new.items ≡ text.old.items ++ bracketed word.now (numeral number ∷ spelling (tree_of a.now) ∷ [])) }
@@ -134,7 +134,7 @@ fn push_with_one(text: &mut Vec<u8>, word: &[u8], number: u64, a: &Expr) -> Resu
     Ok(())
 }
 
-/// Appends an expression in brackets that consists of a keyword, a number if it has one, and two subexpressions.
+/// Appends an expression in brackets: the keyword `word`, the number if there is one, and two subexpressions.
 #[cycle(expression)]
 fn push_with_two(
     text: &mut Vec<u8>,
@@ -154,7 +154,7 @@ fn push_with_two(
     Ok(())
 }
 
-/// Appends an expression in brackets that consists of a keyword, a number if it has one, and three subexpressions.
+/// Appends an expression in brackets: the keyword `word`, the number if there is one, and three subexpressions.
 #[cycle(expression)]
 fn push_with_three(
     text: &mut Vec<u8>,
@@ -177,7 +177,7 @@ fn push_with_three(
     Ok(())
 }
 
-/// Appends an expression in brackets that consists of a keyword and four subexpressions.
+/// Appends an expression in brackets: the keyword `word` and four subexpressions.
 #[cycle(expression)]
 fn push_with_four(
     text: &mut Vec<u8>,
@@ -200,7 +200,7 @@ fn push_with_four(
     Ok(())
 }
 
-/// Appends the beginning of an expression: a bracket, its keyword, and a number if it has one.
+/// Appends the front of an expression: the opening bracket, the keyword `word`, and the number if there is one.
 fn push_opening(text: &mut Vec<u8>, word: &[u8], number: Option<u64>) -> Result<(), AllocError>
     ensures { OnOk result (text.new.items ≡ text.old.items ++ 40 ∷ word.now ++ after_spaces (map numeral (option_to_list number))) }
 {
@@ -212,7 +212,7 @@ fn push_opening(text: &mut Vec<u8>, word: &[u8], number: Option<u64>) -> Result<
     Ok(())
 }
 
-/// Returns the words with which a fork begins.
+/// Returns the keywords with which the text of a fork begins.
 fn fork_words(class: Class) -> &'static [u8]
     ensures { result.now ≡ codes "fork" ++ 32 ∷ class_word class }
 {
@@ -222,7 +222,7 @@ fn fork_words(class: Class) -> &'static [u8]
     }
 }
 
-/// Returns the words with which a sweep begins.
+/// Returns the keywords with which the text of a sweep (a parallel reduction) begins.
 fn sweep_words(reduction: Reduction) -> &'static [u8]
     ensures { result.now ≡ codes "sweep" ++ 32 ∷ reduction_word reduction }
 {

@@ -1,4 +1,4 @@
-//! Turns the text of a program into the program, or says at which byte the text has a fault.
+//! Parses the text of a program, or says at which byte the text has its first error.
 
 ghost use Rattle.std.specs.Prelude.{◌≡◌, ◌⊎◌, Err, IfOk, IfErr, IsErrAnd, MatchResult};
 ghost use Rattle.arachne_lang.specs.declared.text_fault.TextFault.{TextFault as Fault};
@@ -24,24 +24,23 @@ use std::alloc::Global;
 use stop::Stop;
 use words::word;
 
-/// The maximum nesting of a program.
+/// The greatest nesting depth of an expression.
 const NESTING: u8 = 64;
 
-/// Returns the program that the whole text spells, or the first fault of the text.
+/// Parses the text of a program. Returns `Err` with the first error of the text, or if memory is refused.
 ///
-/// The time is linear in the bytes of the text, which are not copied. Memory is taken only for the boxes and the arrays
-/// of the program.
+/// Takes time linear in the length of the text, and memory only for the boxes and the arrays of the program.
 pub fn parse(alloc: Global, text: &[u8]) -> Result<Program, TextFault>
-    // A program that is returned is accepted, and the text is its spelling.
+    // If a program is returned, it is accepted, and `text` is its text.
     ensures accepted { IfOk result (λ program. IsAccepted (source_of program) × (text_of (source_of program) ≡ text.now)) }
-    // The text of an accepted program is read as that program, unless memory is refused.
+    // If `text` is the text of an accepted program, that program is returned, unless memory is refused.
     ensures every_text { (source : Source) → IsAccepted source → text_of source ≡ text.now
         → MatchResult result (λ program. source_of program ≡ source) (λ fault. fault ≡ TextFault.Memory) }
-    // If the header is missing, the fault says so, even if memory is refused.
+    // If `text` does not begin with the header, the error says that, even if memory is refused.
     ensures no_header { ¬ StartsWith header text.now → result ≡ Err (Fault.Header 0) }
-    // A fault that is returned is the first fault of the text, or says that memory was refused.
+    // If an error is returned, it is the first error of `text`, or says that memory was refused.
     ensures first_fault { IfErr result (λ fault. (fault ≡ TextFault.Memory) ⊎ IsFirstFault text.now fault) }
-    // If the text has a first fault, the result is that fault, or says that memory was refused.
+    // If `text` has a first error, that error is returned, unless memory is refused.
     ensures every_fault { (first : Fault) → IsFirstFault text.now first → IsErrAnd result (λ fault. (fault ≡ TextFault.Memory) ⊎ (fault ≡ first)) }
 {
     let Ok(rest) = word(text, b"arachne 1\n") else {
@@ -53,7 +52,7 @@ pub fn parse(alloc: Global, text: &[u8]) -> Result<Program, TextFault>
     }
 }
 
-/// Returns the program that a text spells. `text` is the part behind the header.
+/// Parses a program without its header. `text` is the text behind the header.
 #[tactic(auto, unfolding(crate::specs::Reading::program_at, crate::specs::Reading::source_at, crate::specs::Reading::lines_at))]
 fn program(alloc: Global, text: &[u8]) -> Result<Program, Stop<'_>>
     ensures { Gives source_of result (program_at text.now) }

@@ -1,22 +1,22 @@
-//! The error of a text that is not the text of a program.
+//! The error of parsing a text that is not the text of a program.
 use thiserror::Error;
 
-/// The reason why a text was refused. Each fault of the text has the index, from 0, of the byte at which it stands.
+/// The reason why a text was not accepted as a program. Each error in the text carries the index, from 0, of its byte.
 #[derive(Clone, Copy, Debug, PartialEq, Eq, Error)]
 pub enum TextFault {
-    /// Memory was refused. The text may be right or wrong.
+    /// Memory was refused. This says nothing about the text.
     #[error("out of memory")]
     Memory,
-    /// The text does not begin with its header.
+    /// The text does not begin with the line `arachne 1`.
     #[error("byte {at}: the header is missing")]
     Header { at: usize },
-    /// The text breaks the grammar at this byte, or ends too early.
+    /// The text breaks the grammar at byte `at`, or ends there too early.
     #[error("byte {at}: the text departs from the grammar")]
     Syntax { at: usize },
-    /// The byte is the first digit that brings a number over its range.
+    /// The digit at byte `at` is the first that takes a number out of its range.
     #[error("byte {at}: the number is too large")]
     Number { at: usize },
-    /// The byte is the first opening bracket that is nested 65 levels deep.
+    /// The opening bracket at byte `at` is the first that is nested 65 levels deep.
     #[error("byte {at}: the nesting is too deep")]
     Nesting { at: usize },
 }

@@ -1,4 +1,4 @@
-//! Runs a whole program on the calling kernel thread, one slice of one thread after another.
+//! Runs a whole program on the calling kernel thread, without a second one.
 ghost use Rattle.std.specs.Prelude.{[], ◌≡◌, ◌+◌, ◌∷◌, ◌≤◌, ◌<◌, List, map, reverse, sum_by, None, Some, IfOk, OnOk};
 ghost use Rattle.arachne_program.specs.Program.{source_of};
 ghost use Rattle.arachne_program.specs.Meaning.{meaning_of};
@@ -16,11 +16,11 @@ use crate::thread::Thread;
 use arachne_program::{Line, Meaning, Program, Sequence};
 use std::alloc::{AllocError, Global};
 
-/// Runs a program on the calling kernel thread. Returns its value, ledger sums and lines.
+/// Runs a program on the calling kernel thread. Returns the program's value, ledger sums and report lines.
 ///
-/// The newest thread runs for at most `budget` steps at a time; a budget of 0 counts as 1. A lock that a thread asks
-/// for is granted at once, and the thread runs on until it frees the lock: no thread of a checked program forks while
-/// it holds a lock.
+/// The newest task thread runs first, for at most `budget` steps at a time; a budget of 0 counts as 1. Each request for
+/// a lock is granted at once. That is safe because a checked program forks no thread while it holds a lock, so no other
+/// thread runs until the lock is free.
 pub fn run_alone(alloc: Global, program: &Program, budget: u32) -> Result<Meaning, AllocError>
     ensures { IfOk result (λ meaning. meaning ≡ meaning_of (source_of program.now)) }
 {
@@ -29,7 +29,7 @@ pub fn run_alone(alloc: Global, program: &Program, budget: u32) -> Result<Meanin
     meaning(alloc, outcome)
 }
 
-/// Runs a root thread with all threads below it, and returns its outcome.
+/// Runs the root thread and all its descendants, and returns the root's outcome.
 fn run_all<'p>(alloc: Global, root: Thread<'p>, budget: u32) -> Result<DetachedOutcome, AllocError>
     requires some { 1 ≤ budget }
     requires rests { Rests root.running.program (root ∷ []) [] }
@@ -45,21 +45,21 @@ fn run_all<'p>(alloc: Global, root: Thread<'p>, budget: u32) -> Result<DetachedO
     Ok(outcomes.pop().unwrap())
 }
 
-/// The result of a thread's slice: the thread goes on later, has forked a child, or has ended.
+/// The state of a thread after its slice.
 #[derive(Drop)]
 enum Turn<'p> {
-    /// The thread goes on.
+    /// The thread has more to do.
     Goes,
-    /// The thread has forked this child, which runs first.
+    /// The thread has forked this child, which is to run first.
     Forks(Thread<'p>),
     /// The thread has ended.
     Ends,
 }
 
-/// Runs the newest thread, which is not in the list `threads`, for one slice.
+/// Runs `thread`, the newest thread, for one slice. `threads` has all older threads, without `thread`.
 ///
-/// `outcomes` has the outcomes of ended threads that their parents have not joined yet: last those of the newest
-/// thread's children, before them those of the next thread's children, and so on.
+/// `outcomes` is a stack of the outcomes of ended threads that were not joined yet. The newest thread's children are at
+/// its top, below them the children of the next older thread, and so on.
 fn take_turn<'p>(
     threads: &mut Vec<Thread<'p>>,
     outcomes: &mut Vec<DetachedOutcome>,
@@ -91,8 +91,7 @@ fn take_turn<'p>(
     }
 }
 
-/// Advances the newest thread by at most `budget` steps, and answers the request at which it pauses, unless it has
-/// ended.
+/// Advances the newest thread by at most `budget` steps. If the thread pauses with a request, fulfils the request.
 fn go_on<'p>(
     thread: &mut Thread<'p>,
     outcomes: &mut Vec<DetachedOutcome>,
@@ -137,7 +136,7 @@ fn go_on<'p>(
     }
 }
 
-/// Returns the value, ledger sums and lines of the program whose root ended with `outcome`.
+/// Returns the value, ledger sums and report lines in `outcome`, the outcome of a program's root.
 fn meaning(alloc: Global, outcome: DetachedOutcome) -> Result<Meaning, AllocError>
     ensures means { IfOk result (λ meaning. meaning ≡ meaning_in outcome) }
     ensures of_its_name { IsOfItsName outcome }
@@ -156,7 +155,7 @@ fn meaning(alloc: Global, outcome: DetachedOutcome) -> Result<Meaning, AllocErro
     })
 }
 
-/// Returns the name and the holds of a thread's line.
+/// Returns the name of a thread and how often it held each lock, without its tag and its kind of slot.
 fn line_of_thread(line: ThreadLine) -> Line
     ensures { result ≡ named_holds line }
 {

@@ -1,10 +1,10 @@
-//! Lets a paused thread go on once its caller has done what it asked for: forked a child, got or freed a lock, or added
-//! to a ledger.
+//! Resumes a paused thread after its caller has done what the thread paused for: taken a forked child, got or freed a
+//! lock, or added to a ledger (a shared sum).
 use crate::frame::Control;
 use crate::state::State;
 use crate::tables::add_at;
 
-/// The calls that answer a pause. None of them takes memory.
+/// The calls that resume a paused thread. None of them takes memory.
 impl<'p> State<'p> {
     ghost use Rattle.std.specs.Prelude.{◌≡◌, ℕ, Some};
     ghost use Rattle.std.specs.Borrow.{Bor};
@@ -16,8 +16,8 @@ impl<'p> State<'p> {
     ghost use Rattle.arachne_machine.specs.Steps.{HasLine, Turns, pending_of};
     ghost use Rattle.arachne_machine.specs.Runs.{CountsHold, CountsTally, after_fork};
 
-    /// Answers a fork, once the caller has taken the child. The thread goes on with the expression that it evaluates
-    /// while the child runs.
+    /// Resumes a thread that paused at a fork. Call it after you have taken the child. The thread then evaluates the
+    /// fork's expression that runs beside the child.
     pub fn forked(&mut self)
         requires { pending_of self.old.control ≡ Some pause.Forks }
         ensures { Turns self.old self.new (after_fork self.old.control) }
@@ -29,7 +29,8 @@ impl<'p> State<'p> {
         }
     }
 
-    /// Answers a request for a lock, which the thread holds now.
+    /// Resumes a thread that paused to ask for a lock, and counts that it got the lock. Call it when the thread holds
+    /// the lock.
     pub fn granted(&mut self)
         requires asks { IsAsk (pending_of self.old.control) }
         requires line { HasLine self.old }
@@ -43,7 +44,7 @@ impl<'p> State<'p> {
         self.control = Control::Begin(body);
     }
 
-    /// Adds one to the number of times that the current thread has held this lock.
+    /// Adds one to the number of times that the innermost thread (the one that makes the next step) has held this lock.
     fn count_hold(&mut self, lock: u64)
         requires { HasLine self.old }
         ensures { CountsHold self.old self.new lock }
@@ -55,7 +56,7 @@ impl<'p> State<'p> {
         }
     }
 
-    /// Answers the release of a lock, which the thread no longer holds.
+    /// Resumes a thread that paused to release a lock. Call it after you have freed the lock.
     pub fn freed(&mut self)
         requires { IsFree (pending_of self.old.control) }
         ensures { (lock value : ℕ) × (self.old.control ≡ control.Frees lock value) × Turns self.old self.new (control.Give value) }
@@ -66,8 +67,10 @@ impl<'p> State<'p> {
         self.control = Control::Give(value);
     }
 
-    /// Answers a tally, once the caller has added the amount to the ledger. Adds the amount to the thread's own sums
-    /// too.
+    /// Resumes a thread that paused to add an amount to a ledger (a shared sum). Call it after you have added the
+    /// amount.
+    ///
+    /// Also adds the amount to this state's own sum for the ledger, which becomes part of the thread's outcome.
     pub fn tallied(&mut self)
         requires { IsTally (pending_of self.old.control) }
         ensures { (ledger amount : ℕ) × (body : Bor Expr) × (counted : TheState) × (self.old.control ≡ control.Tallies ledger amount body) × CountsTally self.old counted ledger amount
@@ -85,7 +88,7 @@ impl<'p> State<'p> {
         self.control = Control::Begin(body);
     }
 
-    /// Adds an amount to the thread's own sum for this ledger.
+    /// Adds `amount` to this state's own sum for the ledger of number `ledger`.
     fn count_tally(&mut self, ledger: u64, amount: u64)
         ensures { CountsTally self.old self.new ledger amount }
     {

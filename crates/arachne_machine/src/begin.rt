@@ -1,5 +1,4 @@
-//! The first step of an expression: it gives the value of a number or a variable, and begins a part of any other
-//! expression.
+//! Makes the first step of an expression: evaluates a number or a variable, or begins a part of any other expression.
 use crate::frame::{Control, Frame};
 use crate::lookup::{length_in, variable_in};
 use crate::placing::Placing;
@@ -24,7 +23,8 @@ impl<'p> State<'p> {
     ghost use Rattle.arachne_machine.specs.Steps.{beginning, Changes, IsSame, LeavesOthers, OnStops, Pushes, Reaches, top};
     ghost use Rattle.arachne_machine.specs.Runs.{beginning_in, Comes};
 
-    /// Makes the first step of an expression. If that step gives the value, returns the value and changes nothing else.
+    /// Makes the first step of the expression `expr`. If that step already yields the value, returns the value and
+    /// changes nothing else.
     #[inline(always)]
     pub fn begin<P: Placing>(
         &mut self,
@@ -67,8 +67,9 @@ impl<'p> State<'p> {
         }
     }
 
-    /// Makes the first step of an operation. If at least two more steps are left, also evaluates operands that are
-    /// numbers or variables, by one step each.
+    /// Makes the first step of a binary operation. If at least two more steps are left, also evaluates the first
+    /// operand, and then the second, as long as they are numbers or variables, and subtracts a step from `left` for
+    /// each.
     #[inline(always)]
     fn operate(
         &mut self,
@@ -112,7 +113,7 @@ impl<'p> State<'p> {
         }
     }
 
-    /// Pushes `frame`, which says what follows once the value of `part` is known, and makes `part` the next expression.
+    /// Pushes `frame`, which waits for the value of `part`, and makes `part` the next expression.
     #[inline(always)]
     fn enter(&mut self, frame: Frame<'p>, part: &'p Expr) -> Result<Progress<'p>, AllocError>
         ensures begins { IfOk result (λ begun. begun ≡ ways.Begin part.entry) }
@@ -123,7 +124,8 @@ impl<'p> State<'p> {
         Ok(Progress::Begin(part))
     }
 
-    /// Pauses to ask for a lock, which the thread releases once the value of `body` is known.
+    /// Pauses the thread to ask for a lock. Pushes a frame that will release the lock when the value of `body` is
+    /// known.
     #[inline(always)]
     fn ask(&mut self, lock: u64, body: &'p Expr) -> Result<Progress<'p>, AllocError>
         ensures stops { IfOk result (λ asked. asked ≡ ways.Stops) }

@@ -1,4 +1,4 @@
-//! The value, ledger sums and lines of an ended thread, without a reference to its program.
+//! The value, ledger sums and report lines of an ended thread, without a reference to its program.
 ghost use Rattle.std.specs.Prelude.{◌≡◌, ◌∷◌, IfOk, OnErr};
 
 use crate::line::ThreadLine;
@@ -8,28 +8,28 @@ use arachne_program::Sequence;
 use std::alloc::{AllocError, Global};
 use std::mem::replace;
 
-/// The value, sums and lines of an outcome, without a reference to the program.
+/// The value, ledger sums and report lines of an ended thread, without a reference to its program.
 ///
-/// The box of a [`crate::DetachedOutcome`] is allocated before the thread ends. From the thread that ends to the thread
-/// that joins it only the box is moved.
+/// The box around this struct is allocated before the thread ends. Only the box moves from the thread that ends to the
+/// thread that joins it.
 #[derive(Debug, Drop)]
 pub struct Contents {
     pub(crate) value: u64,
-    /// For each ledger, the sum of what the thread and its descendants have tallied, modulo 2^64.
+    /// For each ledger (a shared sum), the total that the thread and its descendants have added, modulo 2^64.
     pub(crate) sums: Vec<u64>,
-    /// The thread's own line.
+    /// The thread's own report line.
     pub(crate) own: ThreadLine,
-    /// The lines of the thread's descendants.
+    /// The report lines of the thread's descendants.
     pub(crate) below: Lines,
 }
 
 impl Contents {
-    /// Allocates a box for an outcome, with no lines and empty sums.
+    /// Allocates an empty box, into which a thread's outcome can be written later.
     pub fn new(alloc: Global) -> Result<Box<Contents>, AllocError> {
         Ok(Box::new(alloc, Contents::vacant(alloc))?)
     }
 
-    /// Returns contents that belong to no thread. Takes no memory.
+    /// Returns empty contents, which belong to no thread. Takes no memory.
     fn vacant(alloc: Global) -> Contents {
         Contents {
             value: 0,
@@ -39,9 +39,9 @@ impl Contents {
         }
     }
 
-    /// Takes out the value, the sums and the lines.
+    /// Moves the value, the sums and the lines out of these contents.
     ///
-    /// Allocates a list. If memory is refused, nothing has changed.
+    /// Allocates a list for the lines. Returns `Err`, with `self` unchanged, if memory is refused.
     pub(crate) fn take_parts(&mut self) -> Result<OutcomeParts, AllocError>
         ensures value { IfOk result (λ parts. parts.value ≡ self.old.value) }
         ensures sums { IfOk result (λ parts. parts.sums ≡ self.old.sums.items) }

@@ -1,4 +1,4 @@
-//! The outcome of a thread in a box, without a reference to the program, so that its type has no lifetime.
+//! A boxed outcome of a thread, without a reference to the program, so that its type has no lifetime.
 ghost use Rattle.std.specs.Prelude.{◌≡◌, ◌∷◌, IfOk, IfErr};
 ghost use Rattle.arachne_machine.specs.Outcome.{IsOfItsName};
 
@@ -8,12 +8,12 @@ use arachne_program::{Program, Sequence};
 use std::marker::Model;
 use std::snapshot::Snapshot;
 
-/// An outcome in a box, without a reference to its program.
+/// The boxed value, ledger sums and report lines of an ended thread, without a reference to the program.
 ///
-/// Contracts still see the program, as for an `Outcome`.
+/// In contracts, it still has the program, as an `Outcome` has.
 #[derive(Drop)]
 pub struct DetachedOutcome {
-    /// The thread's program. The field takes no bytes, since only contracts see it.
+    /// The thread's program. A `Snapshot` exists only for contracts and has size 0.
     pub(crate) program: Snapshot<Program>,
     pub(crate) contents: Box<Contents>,
 }
@@ -34,9 +34,9 @@ impl Model for DetachedOutcome {
 }
 
 impl DetachedOutcome {
-    /// Returns the value, the sums and the lines.
+    /// Returns the value, the ledger sums and the report lines.
     ///
-    /// Allocates a list. If memory is refused, returns the outcome as the error.
+    /// Allocates a list for the lines. If memory is refused, returns `self` as the error.
     pub fn into_parts(self) -> Result<OutcomeParts, DetachedOutcome>
         ensures value { IfOk result (λ parts. parts.value ≡ self.value) }
         ensures sums { IfOk result (λ parts. parts.sums ≡ self.sums) }

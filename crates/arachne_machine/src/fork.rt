@@ -1,4 +1,4 @@
-//! The steps that fork a child or split a sweep.
+//! The steps that fork a child, or split a sweep (a reduction over a range of numbers, halved among threads).
 use crate::frame::{Control, Frame, Stretch};
 use crate::placing::Placing;
 use crate::spares::Spares;
@@ -6,7 +6,7 @@ use crate::state::{Progress, State};
 use arachne_program::{Class, Expr};
 use std::alloc::AllocError;
 
-/// The steps that fork a child, and those that begin a part of a sweep.
+/// The steps that fork a child or begin a part of a sweep (a parallel reduction).
 impl<'p> State<'p> {
     ghost use Rattle.std.specs.Prelude.{true, ◌≡◌, ◌≤◌, ◌+◌, ◌<◌, ◌^◌, ◌∷◌, ◌++◌, [], IfOk, OnOk, OnErr};
     ghost use Rattle.arachne_program.specs.Effects.{tabulated};
@@ -19,8 +19,8 @@ impl<'p> State<'p> {
     ghost use Rattle.arachne_machine.specs.Runs.{Comes};
     ghost use Rattle.arachne_machine.specs.Steps.{CountsFork, HasLine, IsForkOf, IsSame, IsSpawned};
 
-    /// Forks a child of this class, which begins with `child`. The thread goes on with `during`, and keeps a frame that
-    /// joins the child and goes on with `after`.
+    /// Forks a child of class `class`, which will evaluate `child`. This thread next evaluates `during`. It also pushes
+    /// a frame that joins the child later and then evaluates `after`.
     pub fn fork(
         &mut self,
         class: Class,
@@ -45,7 +45,8 @@ impl<'p> State<'p> {
         )
     }
 
-    /// Makes a fork without a pause: the child will run in this thread's place, once the value of `during` is known.
+    /// Forks a child without a pause. The child will run inside this thread's slot, as a call would, when the value of
+    /// `during` is known.
     #[inline(always)]
     pub fn fork_here(
         &mut self,
@@ -69,8 +70,8 @@ impl<'p> State<'p> {
         Ok(Progress::Begin(during))
     }
 
-    /// Creates a child of this class that begins with `begins`. Pushes `frame`, which joins the child later, and goes
-    /// on with `next`.
+    /// Creates a child of class `class` that starts with the action `begins`. Pushes `frame`, which joins the child
+    /// later, and makes `next` this thread's next action.
     #[inline(always)]
     fn spawn(
         &mut self,
@@ -103,7 +104,8 @@ impl<'p> State<'p> {
         Ok(Progress::Forks(class, state))
     }
 
-    /// Begins a part of a sweep. Forks the left half if the part is longer than the sweep's grain.
+    /// Begins to reduce `stretch`, a range of numbers. If it is longer than its grain, forks a child for the left half;
+    /// otherwise reduces its numbers one after another.
     #[inline(always)]
     pub fn cover<P: Placing>(
         &mut self,
@@ -139,8 +141,8 @@ impl<'p> State<'p> {
         ))
     }
 
-    /// Forks a child for those numbers of a part of a sweep that are below `middle`. The thread goes on with the
-    /// numbers from `middle` on.
+    /// Forks a child for the numbers of `stretch` below `middle`. This thread next reduces the numbers from `middle`
+    /// on.
     fn halve(
         &mut self,
         stretch: Stretch<'p>,
@@ -174,8 +176,8 @@ impl<'p> State<'p> {
         )
     }
 
-    /// Splits a part of a sweep, whose left half will run as a child in this thread's place. The thread goes on with
-    /// the right half.
+    /// Splits `stretch` at `middle` without a pause. The left half will run inside this thread's slot, as a call would,
+    /// after the right half, which this thread reduces next.
     #[inline(always)]
     fn halve_here(&mut self, stretch: Stretch<'p>, middle: u64) -> Result<Progress<'p>, AllocError>
         requires number { self.old.level.forks + 1 < 2 ^ 64 }

@@ -1,7 +1,7 @@
-//! The next action of a thread, and its stack frames: what follows once a value is known.
+//! A thread's next action, and its stack frames, each of which waits for the value of a part of an expression.
 use arachne_program::{Expr, Operation, Reduction};
 
-/// A part of a sweep: the numbers from `first` to below `end`.
+/// A part of a sweep (a reduction over a range of numbers): the numbers `first..end`.
 #[derive(Clone, Copy)]
 pub struct Stretch<'p> {
     pub reduction: Reduction,
@@ -11,44 +11,45 @@ pub struct Stretch<'p> {
     pub body: &'p Expr,
 }
 
-/// The action of a thread at its next step.
+/// The next action of a thread, or the request at which it has paused.
 #[derive(Clone, Copy)]
 pub enum Control<'p> {
-    /// The thread begins an expression.
+    /// The thread begins to evaluate this expression.
     Begin(&'p Expr),
-    /// The thread passes a value to its newest frame.
+    /// The thread passes this value to its newest frame.
     Give(u64),
-    /// The thread begins a part of a sweep.
+    /// The thread begins to reduce this range of numbers, a part of a sweep.
     Cover(Stretch<'p>),
-    /// The thread has forked a child, and begins this expression once the caller has taken the child.
+    /// The thread has paused at a fork. When the caller has taken the child, the thread begins this expression.
     Forked(&'p Expr),
-    /// The thread has forked the left half of a part of a sweep, and begins the right half once the caller has taken
-    /// the child for the left half.
+    /// The thread has paused at the fork of a child that reduces the left half of a range. When the caller has taken
+    /// the child, the thread reduces this right half.
     Halved(Stretch<'p>),
-    /// The thread awaits the outcome of its child of this number, and goes on with the expression `after`. `during` is
-    /// the value of the expression that the thread has evaluated meanwhile.
+    /// The thread waits to join its child `number` (counted from 0). `during` is the value that the thread has computed
+    /// while the child ran. After the join it evaluates `after`.
     Awaits {
         number: u64,
         during: u64,
         after: &'p Expr,
     },
-    /// The thread awaits the value of the left half of a part of a sweep. `right` is the value of the right half.
+    /// The thread waits to join its child `number`, which reduces the left half of a range. `right` is the value of the
+    /// right half.
     AwaitsHalf {
         number: u64,
         right: u64,
         reduction: Reduction,
     },
-    /// The thread asks for a lock, and begins this expression once it holds the lock.
+    /// The thread asks for the lock `lock`. When it holds the lock, it begins `body`.
     Asks {
         lock: u64,
         body: &'p Expr,
     },
-    /// The thread releases a lock, and then passes the value to the next frame.
+    /// The thread releases the lock `lock`, and then passes `value` to the next frame.
     Frees {
         lock: u64,
         value: u64,
     },
-    /// The thread adds an amount to a ledger, and then begins this expression.
+    /// The thread asks the caller to add `amount` to the shared sum of number `ledger`, and then begins `body`.
     Tallies {
         ledger: u64,
         amount: u64,
@@ -58,65 +59,73 @@ pub enum Control<'p> {
     Ended(u64),
 }
 
-/// A stack frame: the action that follows once the value of a part of an expression is known.
+/// A stack frame: it waits for the value of a part of an expression, and says what to do with that value.
 #[derive(Clone, Copy)]
 pub enum Frame<'p> {
-    /// The value is an index into this array.
+    /// Waits for an index into the array of this number, and yields the item.
     Index(u64),
-    /// The value is the left operand of an operation, whose right operand is this expression.
+    /// Waits for the left operand of this operation. The right operand, this expression, is evaluated next.
     Right(Operation, &'p Expr),
-    /// The value is the right operand of an operation, whose left operand is this number.
+    /// Waits for the right operand of this operation. The left operand is this number.
     Apply(Operation, u64),
-    /// The first expression is next if the value is not 0, else the second.
+    /// Waits for a condition. The first expression is evaluated if the condition is not 0, else the second.
     Branch(&'p Expr, &'p Expr),
-    /// The value is the newest variable of this expression.
+    /// Waits for the value of a new variable. Then this expression, which may use the variable, is evaluated.
     Extend(&'p Expr),
-    /// The value is an amount for this ledger, and the expression is next.
+    /// Waits for an amount to add to the ledger (a shared sum) of this number. Then this expression is evaluated.
     Amount(u64, &'p Expr),
-    /// The thread releases this lock, and passes the value to the next frame.
+    /// Waits for the value of an expression evaluated under the lock of this number. Releases the lock, and passes the
+    /// value on.
     Release(u64),
-    /// The thread joins the child of this number, and then evaluates this expression.
+    /// Waits for the value that this thread computes while its child `number` runs. Then the thread joins the child and
+    /// evaluates `after`.
     Join {
         number: u64,
         after: &'p Expr,
     },
-    /// The value is that of the right half of a part of a sweep. The child of this number has the left half, and is
-    /// joined.
+    /// Waits for the value of the right half of a range that is being reduced. Then the thread joins its child
+    /// `number`, which reduces the left half.
     Merge {
         number: u64,
         reduction: Reduction,
     },
-    /// The child of this number begins in its parent's place. Once the child has ended, the expression `after` is next.
+    /// Waits for the value that this thread computes before its child `number` begins. Then the child evaluates `child`
+    /// inside this thread's slot, as a call would. When the child has ended, this thread evaluates `after`.
     JoinHere {
         number: u64,
         child: &'p Expr,
         after: &'p Expr,
     },
-    /// The value is that of the right half of a part of a sweep. The child of this number begins the left half in its
-    /// parent's place.
+    /// Waits for the value of the right half of a range that is being reduced. Then this thread's child `number`
+    /// reduces the half `left` inside this thread's slot, as a call would.
     MergeHere {
         number: u64,
         left: Stretch<'p>,
     },
-    /// The value is a fold's first number. Next are the expressions of the fold's end, its first value and its body.
+    /// Waits for the lower end of a fold (a sequential loop). Fields: the expressions of the upper end and of the first
+    /// value, and the body.
     FoldTo(&'p Expr, &'p Expr, &'p Expr),
-    /// The value is the end of a fold from this number on. Next are the expressions of the fold's first value and its
-    /// body.
+    /// Waits for the upper end of a fold (a sequential loop). Fields: the lower end, the expression of the first value,
+    /// and the body.
     FoldFirst(u64, &'p Expr, &'p Expr),
-    /// The value is the first value of a fold from the first number to below the second, with this body.
+    /// Waits for the first value of a fold (a sequential loop). Fields: the lower end, the upper end (excluded), and
+    /// the body.
     FoldStart(u64, u64, &'p Expr),
-    /// The value is the result of an iteration of a fold. The two newest variables are those of that iteration.
+    /// Waits for the value of one iteration of a fold (a sequential loop). The two newest variables, made for that
+    /// iteration, are then removed.
     FoldTurn {
         next: u64,
         end: u64,
         body: &'p Expr,
     },
-    /// The value is a sweep's first number. Next are the expressions of the sweep's end and its body.
+    /// Waits for the lower end of a sweep (a parallel reduction). Fields: the reduction, the greatest length that is
+    /// not halved, the expression of the upper end, and the body.
     SweepTo(Reduction, u64, &'p Expr, &'p Expr),
-    /// The value is the end of a sweep from this number on, with this body.
+    /// Waits for the upper end of a sweep (a parallel reduction). Fields: the reduction, the greatest length that is
+    /// not halved, the lower end, and the body.
     SweepStart(Reduction, u64, u64, &'p Expr),
-    /// The value is that of a sweep's body for one number, and is reduced with the value so far. The newest variable is
-    /// this number.
+    /// Waits for the body's value for one number of a sweep (a parallel reduction), and combines that value with
+    /// `so_far`. The newest variable, which is that number, is then removed.
     SweepTurn {
         reduction: Reduction,
         next: u64,
@@ -124,6 +133,6 @@ pub enum Frame<'p> {
         so_far: u64,
         body: &'p Expr,
     },
-    /// The thread truncates its environment to this length, and passes the value to the next frame.
+    /// Waits for any value. Truncates the list of variables to this length, and passes the value on.
     Restore(usize),
 }

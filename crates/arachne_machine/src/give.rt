@@ -1,4 +1,4 @@
-//! Passes a value to the newest frame, and the value of that frame to the next, until a frame needs a step.
+//! Passes a value to the newest stack frame, and that frame's value to the next, until a frame needs a step.
 use crate::frame::{Control, Frame, Stretch};
 use crate::lookup::item_in;
 use crate::placing::Placing;
@@ -6,7 +6,7 @@ use crate::state::{Progress, State};
 use arachne_program::Expr;
 use std::alloc::AllocError;
 
-/// The functions that pass a value to frames.
+/// The functions that pass a value to stack frames.
 impl<'p> State<'p> {
     ghost use Rattle.std.specs.Prelude.{true, ◌≡◌, ◌+◌, ◌<◌, ◌≤◌, ◌++◌, ◌∷◌, [], length, slice_index, vec_len, vec_capacity, IfOk, IsErr, OnOk, OnErr};
     ghost use Rattle.arachne_program.specs.Program.{source_of};
@@ -21,11 +21,11 @@ impl<'p> State<'p> {
     ghost use Rattle.arachne_machine.specs.Runs.{Comes, FoldsOn, HandsResult, IsOneStep, IsPoppedIn, RunsOn, SweepsOn, giving_in, seen_in};
     ghost use Rattle.arachne_machine.specs.declared.state.Progress.TheVariants as ways;
 
-    /// Passes a value to the newest frame, and the value of that frame to the next, until a frame has a next action or
-    /// none is left.
+    /// Passes `value` to the newest frame, and the value of that frame to the next one, until a frame needs a further
+    /// step or no frame is left.
     ///
-    /// The value of a child that ran in its parent's place goes to the parent. If memory is refused, the thread keeps
-    /// the value, and passes it to the frame in a later step.
+    /// When a child that runs inside its parent's slot has ended, its value goes on to the parent. If memory is
+    /// refused, the thread keeps the value, and a later step passes the value to the frame.
     #[inline(always)]
     pub fn give<P: Placing>(
         &mut self,
@@ -50,8 +50,8 @@ impl<'p> State<'p> {
         }
     }
 
-    /// Passes a value to the newest frame of the current thread. If the thread has no frame left, it has ended with
-    /// this value, and its parent goes on.
+    /// Passes `value` to the newest frame of the innermost thread (the one that makes the next step). If that thread
+    /// has no frame left, it ends with `value`. If it runs inside its parent's slot, its parent resumes.
     #[inline(always)]
     fn hand_newest<P: Placing>(
         &mut self,
@@ -81,7 +81,8 @@ impl<'p> State<'p> {
         self.join_here(value, left)
     }
 
-    /// Keeps the value for the newest frame until a later step, since memory was refused, and returns the error.
+    /// Keeps `value`, so that a later step passes it to the newest frame, and returns the error that memory was
+    /// refused.
     #[cold]
     #[inline(never)]
     pub fn refused(&mut self, value: u64) -> Result<Progress<'p>, AllocError>
@@ -92,7 +93,7 @@ impl<'p> State<'p> {
         Err(AllocError)
     }
 
-    /// Reserves room for the variables and the frame that one value can add.
+    /// Reserves room for the two variables and the one frame that passing a value can add.
     pub fn reserve_turn(&mut self) -> Result<(), AllocError>
         ensures same { IsSame self.old self.new }
         ensures environment { OnOk result (vec_len self.new.environment + 2 ≤ vec_capacity self.new.environment) }
@@ -102,7 +103,7 @@ impl<'p> State<'p> {
         self.frames.try_reserve(1)
     }
 
-    /// Passes a value to `frame`, which the caller has popped. If memory is refused, pushes `frame` again.
+    /// Passes `value` to `frame`, which the caller has popped. If memory is refused, pushes `frame` again.
     #[inline(always)]
     fn hand<P: Placing>(
         &mut self,
@@ -157,7 +158,7 @@ impl<'p> State<'p> {
         }
     }
 
-    /// Undoes the step that passed this value to this frame.
+    /// Undoes the step that passed `value` to `frame`: pushes the frame again and keeps the value for a later step.
     #[cold]
     #[inline(never)]
     fn stand_before(&mut self, frame: Frame<'p>, value: u64)
@@ -168,7 +169,7 @@ impl<'p> State<'p> {
         self.control = Control::Give(value);
     }
 
-    /// Passes a value to a frame that begins no child.
+    /// Passes `value` to `frame`. The frame must be one that begins no child.
     #[inline(always)]
     fn hand_within(&mut self, frame: Frame<'p>, value: u64, left: &mut u32) -> Progress<'p>
         requires within { IsWithin frame }
@@ -214,7 +215,8 @@ impl<'p> State<'p> {
         }
     }
 
-    /// Passes a value to a frame at which the thread pauses, or at which a fold or a sweep begins.
+    /// Passes `value` to `frame`. The frame must be one at which the thread pauses, or at which a loop (a fold or a
+    /// sweep) begins.
     #[inline(always)]
     fn hand_on(&mut self, frame: Frame<'p>, value: u64, left: &mut u32) -> Progress<'p>
         requires later { IsPauseOrRange frame }
@@ -261,7 +263,7 @@ impl<'p> State<'p> {
         }
     }
 
-    /// Passes a value to a frame at which a fold or a sweep begins.
+    /// Passes `value` to `frame`. The frame must be one at which a loop (a fold or a sweep) begins.
     #[inline(always)]
     fn hand_to_range(&mut self, frame: Frame<'p>, value: u64, left: &mut u32) -> Progress<'p>
         requires range { IsOfRange frame }
@@ -298,8 +300,8 @@ impl<'p> State<'p> {
         }
     }
 
-    /// Begins an expression after a frame was popped. Pushes `frame`, which says what follows and takes no memory,
-    /// since it takes the room of the popped one.
+    /// Pushes `frame`, and begins the expression `part`, for whose value that frame waits. There must be room for the
+    /// frame, as there is after another one was popped, so nothing is allocated.
     #[inline(always)]
     pub fn go_on(&mut self, frame: Frame<'p>, part: &'p Expr) -> Progress<'p>
         requires { vec_len self.old.frames + 1 ≤ vec_capacity self.old.frames }
@@ -310,7 +312,7 @@ impl<'p> State<'p> {
         Progress::Begin(part)
     }
 
-    /// Begins an expression with this value as the newest variable.
+    /// Appends `value` as a new variable, and begins the expression `body`.
     #[inline(always)]
     fn extend(&mut self, value: u64, body: &'p Expr) -> Progress<'p>
         requires environment { vec_len self.old.environment + 1 ≤ vec_capacity self.old.environment }
@@ -325,8 +327,8 @@ impl<'p> State<'p> {
         Progress::Begin(body)
     }
 
-    /// Passes on the result of a fold, of a part of a sweep or of its two halves. This is a step of its own, and is
-    /// made now if a step is left.
+    /// Passes on the result of a fold (a sequential loop), or of a sweep (a parallel reduction) or a part of it.
+    /// Passing it on is a step of its own, which is made at once if a step is left, otherwise later.
     #[inline(always)]
     pub fn hand_result(&mut self, value: u64, left: &mut u32) -> Progress<'p>
         ensures same { Changes self.old (seen_in result self.new) self.old.environment.items self.old.frames.items (control.Give value) }
@@ -343,7 +345,7 @@ impl<'p> State<'p> {
         Progress::Value(value)
     }
 
-    /// Drops the `count` newest variables.
+    /// Removes the `count` newest variables.
     #[inline(always)]
     fn drop_newest(&mut self, count: usize)
         requires environment { vec_len self.old.environment + 2 ≤ vec_capacity self.old.environment }

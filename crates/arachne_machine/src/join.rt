@@ -1,4 +1,4 @@
-//! Begins children in their parent's place, and joins them and others.
+//! Begins children inside their parent's slot, and joins children wherever they ran.
 use crate::contents::Contents;
 use crate::frame::{Control, Frame};
 use crate::level::{Level, Parent, move_parents};
@@ -10,16 +10,16 @@ use arachne_program::Name;
 use std::alloc::AllocError;
 use std::mem::swap;
 
-/// The reason why the thread could not join a child's outcome.
+/// The reason why a child's outcome could not be joined.
 #[derive(Clone, Copy)]
 pub enum Unjoined {
-    /// The outcome is not that of the awaited child.
+    /// The outcome belongs to another thread than the awaited child.
     Foreign,
     /// Memory was refused.
     Memory,
 }
 
-/// The functions that begin a child in its parent's place, and that join children.
+/// The functions that begin a child inside its parent's slot, and that join children.
 impl<'p> State<'p> {
     ghost use Rattle.std.specs.Prelude.{◌≡◌, ◌≢◌, ◌+◌, ◌≤◌, ◌<◌, ◌^◌, ◌∷◌, ◌++◌, ◌↔◌, [], ℕ, length, reverse, vec_len, vec_capacity, Err, Some, IsTrue, IfOk, OnOk, OnErr};
     ghost use Rattle.arachne_machine.specs.declared.frame.Frame.TheVariants as frames;
@@ -34,7 +34,7 @@ impl<'p> State<'p> {
     ghost use Rattle.arachne_machine.specs.Outcome.{finished};
     ghost use Rattle.arachne_machine.specs.declared.join.Unjoined.TheVariants.{Foreign};
 
-    /// Returns whether the current thread awaits the child of this name.
+    /// Returns whether `name` is the name of the child that this state's innermost thread waits to join.
     pub fn awaits(&self, name: &Name) -> bool
         requires joins { pending_of self.now.control ≡ Some pause.Joins }
         requires line { HasLine self.now }
@@ -48,9 +48,10 @@ impl<'p> State<'p> {
         }
     }
 
-    /// Begins the child of this number in the place of the current thread, which awaits the child.
+    /// Begins the child of number `number` inside the slot of its parent, this state's innermost thread, which waits as
+    /// for a call.
     ///
-    /// If memory is refused, nothing has changed but capacities.
+    /// Returns `Err` if memory is refused; then only capacities may have changed.
     #[inline(always)]
     pub fn begin_here<P: Placing>(
         &mut self,
@@ -76,8 +77,11 @@ impl<'p> State<'p> {
         Ok(())
     }
 
-    /// Makes a child the current thread, and lets the thread that was current wait for it. The child has its line at
-    /// `place`, and has forked `forks` threads. There must be room for one more parent.
+    /// Makes a child this state's innermost thread, which makes the next step. Its parent, which was innermost before,
+    /// now waits for the child: `awaits` is the pending join.
+    ///
+    /// `place` is the index of the child's report line, and `forks` the number of threads that the child has forked.
+    /// There must be room for one more item in `parents`.
     #[inline(always)]
     fn descend(&mut self, awaits: Control<'p>, place: usize, forks: u64)
         requires { vec_len self.old.parents + 1 ≤ vec_capacity self.old.parents }
@@ -95,10 +99,10 @@ impl<'p> State<'p> {
         };
     }
 
-    /// Lets the awaited child, with the threads that run in the child's place, go on in the place of the current
-    /// thread.
+    /// Moves the awaited child into this state, together with the threads that run inside the child's slot. They
+    /// continue here, while the child's parent waits as for a call.
     ///
-    /// If memory is refused, nothing has changed but capacities.
+    /// Returns `Err` if memory is refused; then only capacities may have changed.
     pub fn take_in(&mut self, child: &mut State<'p>) -> Result<(), AllocError>
         requires { FitsInto self.old child.old }
         ensures ok { OnOk result (TakesIn self.old child.old self.new) }
@@ -127,9 +131,11 @@ impl<'p> State<'p> {
         Ok(())
     }
 
-    /// Lets the current thread wait for a child, and takes over the child and the threads that run in its place. Their
-    /// frames come behind the frames of this state, and their lines begin at `place`. There must be room for the
-    /// parents.
+    /// Takes over a child and the threads that run inside the child's slot. This state's innermost thread, the parent,
+    /// now waits for the child.
+    ///
+    /// The child's frames will follow the frames of this state, and its report lines begin at index `place`. There must
+    /// be room in `parents` for the threads that wait.
     #[inline(always)]
     fn take_levels(&mut self, child: &State<'p>, place: usize)
         requires room { vec_len self.old.parents + vec_len child.now.parents + 1 ≤ vec_capacity self.old.parents }
@@ -147,7 +153,7 @@ impl<'p> State<'p> {
         self.level = child.level.moved(child.parents.is_empty(), start, place);
     }
 
-    /// Ends the child that has run in its parent's place: the parent joins the child, with this value, and goes on.
+    /// Ends, with the value `value`, a child that ran inside its parent's slot. The parent joins the child and resumes.
     ///
     /// If memory is refused, a later step passes the value to the parent.
     #[inline(always)]
@@ -182,8 +188,7 @@ impl<'p> State<'p> {
         }
     }
 
-    /// Appends the child's value, and then the value `during`, to the variables. There must be room for two more
-    /// variables.
+    /// Appends two variables: the child's value, and then `during`. There must be room for both, and for one frame.
     #[inline(always)]
     fn bind_joined(&mut self, value: u64, during: u64)
         requires environment { vec_len self.old.environment + 2 ≤ vec_capacity self.old.environment }
@@ -197,9 +202,9 @@ impl<'p> State<'p> {
         self.frames.push_reserved(Frame::Restore(length));
     }
 
-    /// Joins the outcome with these contents, if it is that of the awaited child.
+    /// Joins the child whose outcome is `contents`. Returns `Foreign` if it is not the awaited child.
     ///
-    /// After an error nothing has changed but capacities.
+    /// After an error, only capacities may have changed.
     pub fn join(&mut self, contents: &mut Contents) -> Result<(), Unjoined>
         requires joins { pending_of self.old.control ≡ Some pause.Joins }
         requires line { HasLine self.old }
@@ -222,7 +227,8 @@ impl<'p> State<'p> {
         Ok(())
     }
 
-    /// Appends the lines and adds the sums of `contents`. If memory is refused, nothing has changed but capacities.
+    /// Moves the lines of `contents` behind this state's lines, and adds its sums to this state's sums. Returns `Err`
+    /// if memory is refused; then only capacities may have changed.
     #[inline(always)]
     fn take_contents(&mut self, contents: &mut Contents) -> Result<(), AllocError>
         requires sums { length contents.old.sums.items ≡ length self.old.sums.items }
@@ -241,8 +247,8 @@ impl<'p> State<'p> {
         Ok(())
     }
 
-    /// Goes on after the join of the awaited child, which has ended with this value. There must be room for the new
-    /// variables.
+    /// Resumes the thread after the join of the awaited child, which has ended with the value `value`. There must be
+    /// room for the two new variables and one frame.
     #[inline(always)]
     fn resume_joined(&mut self, value: u64)
         requires joins { pending_of self.old.control ≡ Some pause.Joins }
@@ -267,7 +273,7 @@ impl<'p> State<'p> {
         }
     }
 
-    /// Undoes the step in which the thread began to await a child.
+    /// Undoes the step in which the thread began to wait for a child.
     pub fn stand_before_join(&mut self)
         requires joins { pending_of self.old.control ≡ Some pause.Joins }
         requires room { HasRoom self.old }

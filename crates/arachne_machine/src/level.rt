@@ -1,22 +1,23 @@
-//! The part of a state that belongs to one of the threads that run in it.
+//! The part of a state that belongs to one of the nested threads that run in one slot.
 ghost use Rattle.std.specs.Prelude.{◌≡◌, ◌+◌, ◌≤◌, ◌<◌, ◌^◌, ℕ, ◌++◌, false, length, reverse, vec_len, vec_capacity, IsTrue};
 ghost use Rattle.arachne_machine.specs.Strands.{Fits, moved_parents};
 
 use crate::frame::Control;
 
-/// The part of a state that belongs to one of the threads that run in its place.
+/// The part of a state that belongs to one thread. A state has several if children run inside their parent's slot.
 #[derive(Clone, Copy)]
 pub struct Level {
-    /// The number of frames of the threads outside this one: its own frames begin at this index.
+    /// The index of this thread's first frame. The frames before it belong to the threads that wait for this one.
     pub start: usize,
-    /// The number of threads that the thread has forked.
+    /// The number of children that this thread has forked.
     pub forks: u64,
-    /// The index of the thread's line in `State::lines`. The line of the outermost thread is not there.
+    /// The index of this thread's report line in `State::lines`. Unused for the outermost thread, whose line isn't
+    /// there.
     pub place: usize,
 }
 
 impl Level {
-    /// Returns the level of the outermost thread.
+    /// Returns the initial level of the outermost thread of a state.
     pub fn outermost() -> Level
         ensures { result ≡ record { start = 0; forks = 0; place = 0 } }
     {
@@ -27,9 +28,9 @@ impl Level {
         }
     }
 
-    /// Returns the level with `start` more frames before its own.
+    /// Returns this level as it is after its state was moved into another one, behind `start` frames.
     ///
-    /// The line of the outermost thread moves to the index `place`, and the lines of the others behind it.
+    /// The line of the moved state's outermost thread gets the index `place`, and the lines of the others follow it.
     #[inline(always)]
     pub fn moved(self, outermost: bool, start: usize, place: usize) -> Level
         requires start { start + self.start < 2 ^ 64 }
@@ -50,17 +51,19 @@ impl Level {
     }
 }
 
-/// A thread that waits for the child that runs in its place.
+/// A thread that waits for a child that runs inside its slot.
 #[derive(Clone, Copy)]
 pub struct Parent<'p> {
     pub level: Level,
-    /// The child that the thread awaits, and the thread's action after the join.
+    /// The pending join: the number of the awaited child, and the action after the join.
     pub control: Control<'p>,
 }
 
-/// Appends `others`, the waiting threads of another state, to `parents`, the outermost first.
+/// Appends `others`, the waiting threads of a state that is moved into this one, to `parents`. In both lists the
+/// outermost thread comes first.
 ///
-/// `start` frames come before the frames of `others`, whose lines begin at `place`. There must be room for `others`.
+/// `start` is the number of frames before those of `others`, and `place` the index at which their lines begin. There
+/// must be room for `others`.
 pub fn move_parents<'p>(
     parents: &mut Vec<Parent<'p>>,
     others: &[Parent<'p>],

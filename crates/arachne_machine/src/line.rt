@@ -1,4 +1,5 @@
-//! The line of a thread that has ended: its name, its tag, where it ran, and how often it held each lock.
+//! The report line of an ended thread: its name, its tag, the kind of slot in which it ran, and how often it held each
+//! lock.
 ghost use Rattle.std.specs.Prelude.{◌≡◌, IfOk};
 
 use arachne_program::{Name, Sequence};
@@ -6,35 +7,36 @@ use std::alloc::{AllocError, Global};
 use std::marker::Model;
 use std::mem::replace;
 
-/// The place at which a thread ran.
+/// The kind of thread slot (a core's room for one thread) in which a thread ran.
 #[derive(Clone, Copy, Debug, PartialEq, Eq)]
 pub enum Ran {
-    /// At a place of its own, which its parent's worker found at the fork.
+    /// In a slot of its own, which was found when its parent forked it.
     Slot,
-    /// At a place of its own, which a worker found later, while the thread waited.
+    /// In a slot of its own, which a worker found later, while the thread waited for one.
     Spill,
-    /// In its parent's place: in the parent's state, as a call would.
+    /// Inside its parent's slot, as a function call would run.
     InPlace,
 }
 
-/// The tag of a thread, and the kind of place at which it runs.
+/// The tag of a thread, and the kind of slot in which it runs.
 #[derive(Clone, Copy, Debug)]
 pub struct Label {
-    /// The tag (a number) under which the thread runs.
+    /// The number by which a run identifies the thread.
     pub tag: u64,
-    /// The place at which the thread runs.
+    /// The kind of slot in which the thread runs.
     pub ran: Ran,
 }
 
-/// A line of a report, for a thread that has ended: its name, its tag, where it ran, and how often it held each lock.
+/// The line of an ended thread in a report: its name, its tag, the kind of slot in which it ran, and how often it held
+/// each lock.
 #[derive(Debug, Drop)]
 pub struct ThreadLine {
     pub name: Name,
-    /// The tag (a number) under which the thread ran.
+    /// The number by which the run identified the thread.
     pub tag: u64,
     /// For each lock, the number of times that the thread held it, modulo 2^64.
     pub holds: Sequence<u64>,
-    /// The place at which the thread ran.
+    /// The kind of slot in which the thread ran.
     pub ran: Ran,
 }
 
@@ -50,7 +52,7 @@ impl ThreadLine {
         }
     }
 
-    /// Returns this line, and leaves an empty line here.
+    /// Moves this line out, and leaves an empty line in its stead.
     #[inline(always)]
     pub(crate) fn take(&mut self, alloc: Global) -> ThreadLine
         ensures { result ≡ self.old }
@@ -59,7 +61,8 @@ impl ThreadLine {
     }
 }
 
-/// A reference to the line of one thread in a [`LineList`], which stores the parts of a line separately.
+/// A reference to the line of one thread in a [`LineList`]. Such a list stores the parts of its lines in separate
+/// arrays.
 #[derive(Drop)]
 pub struct LineView<'a> {
     name: &'a Name,
@@ -67,7 +70,7 @@ pub struct LineView<'a> {
     holds: &'a [u64],
 }
 
-// Contracts see the record.
+// In contracts, a `LineView` is the `ThreadLine` that it refers to.
 impl<'a> Model for LineView<'a> {
     ghost use Rattle.arachne_machine.specs.declared.line.ThreadLine.{ThreadLine};
 
@@ -79,7 +82,7 @@ impl<'a> Model for LineView<'a> {
 impl<'a> LineView<'a> {
     ghost use Rattle.arachne_machine.specs.declared.line.ThreadLine.{ThreadLine};
 
-    /// Returns the line that has these parts.
+    /// Returns a view of the line with these parts.
     #[inline(always)]
     pub(crate) fn new(name: &'a Name, label: Label, holds: &'a [u64]) -> LineView<'a>
         ensures { result ≡ record { name = name.now; tag = label.tag; holds = holds.now; ran = label.ran } }
@@ -95,7 +98,7 @@ impl<'a> LineView<'a> {
         self.name
     }
 
-    /// Returns the tag under which the thread ran.
+    /// Returns the number by which the run identified the thread.
     #[inline(always)]
     pub fn tag(&self) -> u64
         ensures { result ≡ self.now.tag }
@@ -111,7 +114,7 @@ impl<'a> LineView<'a> {
         self.holds
     }
 
-    /// Returns the place at which the thread ran.
+    /// Returns the kind of slot in which the thread ran.
     #[inline(always)]
     pub fn ran(&self) -> Ran
         ensures { result ≡ self.now.ran }
@@ -119,7 +122,7 @@ impl<'a> LineView<'a> {
         self.label.ran
     }
 
-    /// Returns a copy of the line. Takes memory for the copy.
+    /// Allocates a copy of the line.
     pub(crate) fn to_line(&self, alloc: Global) -> Result<ThreadLine, AllocError>
         ensures { IfOk result (λ line. line ≡ self.now) }
     {
@@ -134,7 +137,7 @@ impl<'a> LineView<'a> {
     }
 }
 
-/// Returns a copy of a name.
+/// Allocates a copy of `name`.
 fn copy_of(alloc: Global, name: &Name) -> Result<Name, AllocError>
     ensures { IfOk result (λ copy. copy ≡ name.now) }
 {

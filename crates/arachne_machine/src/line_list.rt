@@ -1,4 +1,4 @@
-//! A list of threads' lines, with one flat array for how often each thread held each lock.
+//! A list of threads' report lines. One flat array has how often each thread held each lock.
 ghost use Rattle.std.specs.Prelude.{◌≡◌, ◌+◌, ◌<◌, ◌∷◌, ◌++◌, [], ℕ, length, get_or, IfOk, IfSome, MatchOption, OnOk, OnErr};
 ghost use Rattle.arachne_program.specs.Effects.{tabulated};
 ghost use Rattle.arachne_machine.specs.declared.line.ThreadLine.{ThreadLine};
@@ -10,24 +10,24 @@ use arachne_program::Name;
 use std::alloc::{AllocError, Global};
 use std::marker::Model;
 
-/// The name, tag and kind of place of a thread: its line without the holds.
+/// The name, the tag and the kind of slot of a thread: its report line except for how often it held each lock.
 #[derive(Debug, Drop)]
 struct Mark {
     name: Name,
     label: Label,
 }
 
-/// The lines of a program's threads, one for each thread. `locks` is the number of locks of the program, and `holds`
-/// has as many numbers for each line.
+/// The report lines of threads of one program. `locks` is the number of the program's locks, and `holds` has `locks`
+/// counts for each line.
 #[derive(Debug, Drop)]
 pub struct LineList {
     locks: usize,
     marks: Vec<Mark>,
-    /// For each line, and each lock, the number of times that the thread held the lock.
+    /// For each line and each lock, the number of times that the thread held the lock, modulo 2^64.
     holds: Vec<u64>,
 }
 
-// Contracts see whole lines.
+// In contracts, a `LineList` is its number of locks and a list of whole lines.
 impl Model for LineList {
     ghost use Rattle.arachne_machine.specs.Lines.{AreHoldsOf, Listed, with_holds};
 
@@ -39,7 +39,7 @@ impl Model for LineList {
 }
 
 impl LineList {
-    /// Returns an empty list for threads of a program with this number of locks. Takes no memory.
+    /// Returns an empty list for threads of a program with `locks` locks. Takes no memory.
     #[inline(always)]
     pub fn new(alloc: Global, locks: usize) -> LineList
         ensures { result ≡ record { locks = locks; lines = [] } }
@@ -51,7 +51,7 @@ impl LineList {
         }
     }
 
-    /// Moves the line `own` into a list of its own. If memory is refused, nothing has changed.
+    /// Moves the line `own` into a new list. Returns `Err` if memory is refused; then nothing has changed.
     pub fn of(alloc: Global, own: &mut ThreadLine) -> Result<LineList, AllocError>
         ensures ok { IfOk result (λ list. list ≡ record { locks = length own.old.holds; lines = own.old ∷ [] }) }
         ensures err { OnErr result (own.new ≡ own.old) }
@@ -62,7 +62,7 @@ impl LineList {
         Ok(list)
     }
 
-    /// Returns the number of locks of the threads' program.
+    /// Returns the number of locks of the program whose threads have their lines here.
     #[inline(always)]
     pub fn locks(&self) -> usize
         ensures { result ≡ self.now.locks }
@@ -78,7 +78,7 @@ impl LineList {
         self.marks.len()
     }
 
-    /// Returns the line at this index.
+    /// Returns the line at index `place`.
     #[inline(always)]
     pub fn at(&self, place: usize) -> LineView<'_>
         requires { place < length self.now.lines }
@@ -93,7 +93,7 @@ impl LineList {
         )
     }
 
-    /// Adds one to the number of times that the thread with the line at this index has held this lock.
+    /// Adds one to the number of times that the thread whose line is at index `place` has held the lock `lock`.
     #[inline(always)]
     pub fn count_hold(&mut self, place: usize, lock: u64)
         requires { place < length self.old.lines }
@@ -106,7 +106,8 @@ impl LineList {
         }
     }
 
-    /// Appends the line of a thread that has held no lock. If memory is refused, nothing has changed.
+    /// Appends the line of a thread that has held no lock. Returns `Err` if memory is refused; then nothing has
+    /// changed.
     #[inline(always)]
     pub fn push(&mut self, name: Name, label: Label) -> Result<(), AllocError>
         ensures ok { OnOk result (self.new ≡ record {
@@ -121,10 +122,10 @@ impl LineList {
         Ok(())
     }
 
-    /// Moves the line `own`, and then the lines `below`, to the end of this list. All lines must be of threads of one
-    /// program.
+    /// Moves the line `own`, and then the lines `below`, to the end of this list. All lines must belong to threads of
+    /// the same program.
     ///
-    /// If memory is refused, nothing has changed but capacities.
+    /// Returns `Err` if memory is refused; then only capacities may have changed.
     #[inline(always)]
     pub fn append(
         &mut self,

@@ -1,4 +1,4 @@
-//! The lines of threads in order, in several lists, so that joining a child with many descendants copies few lines.
+//! The report lines of threads, in several lists, so that joining a child with many descendants copies few lines.
 ghost use Rattle.std.specs.Prelude.{◌≡◌, ◌+◌, ◌-◌, ◌≤◌, ◌<◌, ◌^◌, List, [], ◌∷◌, ◌++◌, get_or, length, vec_len, vec_capacity, IfOk, IfErr, OnOk, OnErr};
 ghost use Rattle.arachne_program.specs.Effects.{tabulated};
 ghost use Rattle.arachne_machine.specs.declared.line.ThreadLine.{ThreadLine};
@@ -12,19 +12,19 @@ use std::alloc::{AllocError, Global};
 use std::marker::Model;
 use std::mem::replace;
 
-/// The longest list whose lines are copied behind others at a join. A longer list stays a list of its own.
+/// The greatest length of a list that a join copies to the end of another. A longer list is kept as a list of its own.
 const MOST_MOVED: usize = 1000;
 
 /// The maximum number of lines.
 const MOST: usize = usize::MAX / 2;
 
-/// The lines of threads, in order, in few lists. So most lines are moved only once, when the report is complete.
+/// The report lines of threads, in order, in a few lists. Most lines are copied only once, when the report is complete.
 #[derive(Debug, Drop)]
 pub struct Lines {
     earlier: Vec<LineList>,
-    /// The number of lines in the earlier lists.
+    /// The number of lines in the lists before `last`.
     count: usize,
-    /// The list to which further lines are appended.
+    /// The list to which new lines are appended.
     last: LineList,
 }
 
@@ -41,7 +41,7 @@ impl Model for Lines {
 }
 
 impl Lines {
-    /// Returns an empty list, for lines of threads of a program with this number of locks. Takes no memory.
+    /// Returns an empty list for threads of a program with `locks` locks. Takes no memory.
     #[inline(always)]
     pub fn new(alloc: Global, locks: u8) -> Lines
         ensures { result ≡ [] }
@@ -62,8 +62,8 @@ impl Lines {
         self.count + self.last.len()
     }
 
-    /// Appends the line of a thread that has held none of this number of locks. If memory is refused, nothing has
-    /// changed but capacities.
+    /// Appends the line of a thread that has held no lock, in a program with `locks` locks. Returns `Err` if memory is
+    /// refused; then only capacities may have changed.
     #[inline(always)]
     pub fn push(
         &mut self,
@@ -86,7 +86,7 @@ impl Lines {
         Ok(())
     }
 
-    /// Appends a line, like `push`, in a list of its own.
+    /// Appends a line like `push`, but in a new list, which becomes the last.
     #[cold]
     #[inline(never)]
     fn push_apart(
@@ -110,7 +110,7 @@ impl Lines {
         Ok(())
     }
 
-    /// Returns the line at this index.
+    /// Returns the line at index `place`.
     #[inline(always)]
     pub fn at(&self, place: usize) -> LineView<'_>
         requires { place < length self.now }
@@ -122,7 +122,7 @@ impl Lines {
         line_in(&self.earlier, place)
     }
 
-    /// Adds one to the number of times that the thread with the line at this index has held this lock.
+    /// Adds one to the number of times that the thread whose line is at index `place` has held the lock `lock`.
     pub fn count_hold(&mut self, place: usize, lock: u64)
         requires { place < length self.old }
         ensures { CountsHoldAt self.old self.new place lock }
@@ -134,8 +134,8 @@ impl Lines {
         }
     }
 
-    /// Moves the line `own`, and then the lines `below`, to the end of this list. If memory is refused, nothing has
-    /// changed but capacities.
+    /// Moves the line `own`, and then the lines `below`, to the end of this list. Returns `Err` if memory is refused;
+    /// then only capacities may have changed.
     #[inline(always)]
     pub fn append(
         &mut self,
@@ -161,8 +161,8 @@ impl Lines {
         self.append_many(alloc, own, below)
     }
 
-    /// Moves the line `own`, and then the lines `below`, to the end of this list, like `append`. The lists of `below`
-    /// are taken as they are, so none of their lines is moved.
+    /// Moves the line `own`, and then the lines `below`, to the end, as `append` does. Moves the lists of `below` as
+    /// they are, so that none of their lines is copied.
     #[cold]
     #[inline(never)]
     fn append_many(
@@ -190,8 +190,8 @@ impl Lines {
         Ok(())
     }
 
-    /// Takes out all lines, with the line `own` before them, in the lists in which they are. If memory is refused,
-    /// nothing has changed.
+    /// Moves out all lines, with `own` before them, without copying them into one list. Returns `Err` if memory is
+    /// refused; then nothing has changed.
     pub fn complete(
         &mut self,
         alloc: Global,
@@ -212,7 +212,7 @@ impl Lines {
     }
 }
 
-/// Returns the line at this index, counted over all of `lists`.
+/// Returns the line at index `place`, counted over all of `lists`.
 #[cold]
 #[inline(never)]
 fn line_in(lists: &Vec<LineList>, place: usize) -> LineView<'_>
@@ -228,8 +228,8 @@ fn line_in(lists: &Vec<LineList>, place: usize) -> LineView<'_>
     lists[at].at(left)
 }
 
-/// Adds one to the number of times that the thread with the line at this index, counted over all of `lists`, has held
-/// this lock.
+/// Adds one to the number of times that a thread has held the lock `lock`. `place` is the index of the thread's line,
+/// counted over all of `lists`.
 #[cold]
 #[inline(never)]
 fn count_hold_in(lists: &mut Vec<LineList>, place: usize, lock: u64)

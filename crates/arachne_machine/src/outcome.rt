@@ -1,4 +1,4 @@
-//! The outcome of a thread: its value, its ledger sums and its lines.
+//! The outcome of a thread: its value, its ledger sums and its report lines.
 ghost use Rattle.std.specs.Prelude.{◌≡◌, ◌∷◌, IfOk, IfErr};
 ghost use Rattle.arachne_machine.specs.Outcome.{IsOfItsName};
 
@@ -7,9 +7,11 @@ use crate::thread_lines::ThreadLines;
 use arachne_program::{Name, Program, Sequence};
 use std::marker::Model;
 
-/// The outcome of a thread that has ended: its value, the ledger sums, and the lines of the thread and of its
-/// descendants. The invariant: it is the outcome that the specs' evaluation of the program gives for the thread of that
-/// name.
+/// The outcome of an ended thread: its value, the totals that it has added to each ledger (a shared sum), and the
+/// report lines of the thread and its descendants.
+///
+/// The invariant: the outcome is the one that the language's definition gives for the thread of this name in its
+/// program.
 #[derive(Debug, Drop)]
 pub struct Outcome<'p> {
     pub(crate) program: &'p Program,
@@ -31,18 +33,18 @@ impl<'p> Model for Outcome<'p> {
     ghost invariant = { λ o. IsOfItsName (finished o.program.now o.contents) };
 }
 
-/// An ended thread's value, its ledger sums, and the lines of the thread and its descendants.
+/// The value of an ended thread, its ledger sums, and the report lines of the thread and its descendants.
 #[derive(Debug, Drop)]
 pub struct OutcomeParts {
     pub value: u64,
-    /// For each ledger, its sum, modulo 2^64.
+    /// For each ledger (a shared sum), the total that the thread and its descendants have added, modulo 2^64.
     pub sums: Sequence<u64>,
-    /// The thread's own line, then the lines of its descendants.
+    /// The thread's own report line, followed by those of its descendants.
     pub lines: ThreadLines,
 }
 
 impl<'p> Outcome<'p> {
-    /// Returns the program of the thread that has ended.
+    /// Returns the program to which the thread belongs.
     pub fn program(&self) -> &'p Program
         ensures { result.now ≡ self.now.program }
     {
@@ -64,9 +66,9 @@ impl<'p> Outcome<'p> {
         self.contents.value
     }
 
-    /// Returns the value, the sums and the lines.
+    /// Returns the value, the ledger sums and the report lines.
     ///
-    /// Allocates a list. If memory is refused, returns the outcome as the error.
+    /// Allocates a list for the lines. If memory is refused, returns the outcome as the error.
     pub fn into_parts(self) -> Result<OutcomeParts, Outcome<'p>>
         ensures value { IfOk result (λ parts. parts.value ≡ self.entry.value) }
         ensures sums { IfOk result (λ parts. parts.sums ≡ self.entry.sums) }

@@ -1,30 +1,31 @@
-//! The reasons why a thread pauses: what its caller must do before the thread can go on.
+//! The reasons why a thread pauses, each with the call that resumes it.
 use crate::thread::Thread;
 use arachne_program::Class;
 use std::fmt;
 use thiserror::Error;
 
-/// The reason why a thread has paused.
+/// The reason why a thread has paused, which says what the caller must do next.
 #[derive(Drop)]
 pub enum Pause<'p> {
-    /// The budget is used up. Advance the thread again.
+    /// All steps were used up. Advance the thread again.
     Budget,
-    /// The thread forks a child of this class. Take the child and call `forked`, or pass the child to `in_place`.
+    /// The thread has forked this child, of this class. Take the child and call `forked`, or pass the child to
+    /// `in_place`.
     Forks(Class, Thread<'p>),
-    /// The thread awaits the outcome of a child. Pass that outcome to `joined`, or pass the child to `in_place`.
+    /// The thread waits to join a child. Pass the child's outcome to `joined`, or pass the child itself to `in_place`.
     Joins,
-    /// The thread asks for this lock. Call `granted` once it has the lock.
+    /// The thread asks for the lock of this number. Call `granted` when the thread holds the lock.
     Asks(u64),
-    /// The thread releases this lock. Call `freed`.
+    /// The thread releases the lock of this number. Free the lock and call `freed`.
     Frees(u64),
-    /// The thread adds the second number to the ledger whose number is the first. Call `tallied`.
+    /// The thread adds the second number to the ledger (a shared sum) that the first number identifies. Add the number
+    /// and call `tallied`.
     Tallies(u64, u64),
-    /// The thread has ended. Call `finish`.
+    /// The thread has ended. Call `finish` to get its outcome.
     Ended,
 }
 
-/// Why a paused thread can't go on yet: it waits for its caller's answer to a fork, a join, an ask, a free or a tally,
-/// or it has ended.
+/// The request at which a thread has paused, as long as its caller has not resumed it; or that the thread has ended.
 #[derive(Clone, Copy, Debug, PartialEq, Eq)]
 pub enum Pending {
     Forks,
@@ -33,15 +34,15 @@ pub enum Pending {
     Asks(u64),
     /// The thread releases the lock of this number.
     Frees(u64),
-    /// The thread adds an amount to a ledger: the ledger's number, and the amount.
+    /// The thread adds to a ledger (a shared sum). Fields: the ledger's number, and the amount.
     Tallies(u64, u64),
     Ended,
 }
 
-/// The reason why an outcome was not joined. The outcome is returned with the reason.
+/// The reason why an outcome was not joined, with that outcome.
 #[derive(Drop, Error)]
 pub enum NotJoined<O> {
-    /// The outcome is not that of the awaited child.
+    /// The outcome belongs to another thread than the awaited child.
     #[error("the outcome of another thread")]
     Foreign(O),
     /// Memory was refused.
@@ -59,10 +60,10 @@ impl<O> fmt::Debug for NotJoined<O> {
     }
 }
 
-/// The reason why a child can't run in this thread's place. The child is returned with the reason.
+/// The reason why a child can't run inside this thread's slot, with that child.
 #[derive(Drop, Error)]
 pub enum NotPlaced<'p> {
-    /// The child is not the awaited child.
+    /// The child is not the one that the thread waits to join.
     #[error("another thread")]
     Foreign(Thread<'p>),
     /// Memory was refused.

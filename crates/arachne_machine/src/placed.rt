@@ -1,4 +1,4 @@
-//! Keeps children that the caller wants to run in this thread's place, until the thread awaits them.
+//! Keeps children that are to run inside this thread's slot until the thread waits to join them.
 use crate::frame::Control;
 use crate::line::Ran;
 use crate::placing::Placing;
@@ -7,17 +7,17 @@ use crate::state::State;
 use arachne_program::Class;
 use std::alloc::AllocError;
 
-/// A child that could not be put in this thread's place, with the reason.
+/// The reason why a child could not be put inside this thread's slot, with that child.
 #[derive(Drop)]
 pub enum Unplaced<'p> {
-    /// The child is not the awaited child.
+    /// The child is not the one that the thread waits to join.
     Foreign(Box<State<'p>>),
     /// Memory was refused.
     Memory(Box<State<'p>>),
 }
 
-/// The functions that advance a thread which has children waiting in its place. The newest child is the last of
-/// `placed`.
+/// The functions that advance a thread whose slot also holds children that have not begun: the list `placed`, with the
+/// newest child last.
 impl<'p> State<'p> {
     ghost use Rattle.std.specs.Prelude.{◌≡◌, ◌≤◌, None, Some, true, All, IfOk, OnOk, OnErr};
     ghost use Rattle.arachne_machine.specs.declared.pause.Pending.TheVariants as pause;
@@ -27,11 +27,12 @@ impl<'p> State<'p> {
     ghost use Rattle.arachne_machine.specs.Suspended.{awaited};
     ghost use Rattle.arachne_machine.specs.Kept.{AdvancesWith, IsKept, Places, StandsBack, TakesUp, Went};
 
-    /// Advances by at most `left` steps, until the thread pauses, and subtracts the steps that were made from `left`.
+    /// Advances the thread by at most `left` steps, until it pauses, and subtracts the steps that were made from
+    /// `left`.
     ///
-    /// If the current thread begins to await the newest child of `placed`, that child goes on in its place. Returns the
-    /// child if the thread pauses for a fork. If memory is refused, the thread stays as it was before the step that was
-    /// refused, which is not subtracted.
+    /// When the thread that makes the steps begins to wait for the last child of `placed`, that child runs here, as a
+    /// call would. If the thread pauses at a fork, returns the forked child. If memory is refused, the thread stays as
+    /// it was before the refused step, which is not subtracted.
     pub fn advance_with<P: Placing>(
         &mut self,
         placed: &mut Vec<Box<State<'p>>>,
@@ -45,8 +46,7 @@ impl<'p> State<'p> {
         ensures err { OnErr result (Went (P.gives_all ≡ true) left.old left.new self.old placed.old.items self.new placed.new.items) }
         ensures err_left { OnErr result (1 ≤ left.new) }
     {
-        // Only the proof uses it: the steps that are left at first fit into 32 bits, so the steps that are left later
-        // do too.
+        // Used only by the proof: as the first value of `left` fits 32 bits, all later values of `left` do too.
         let _had = *left;
         while *left > 0 {
             if let Some(forked) = self.advance(left, spares, places)? {
@@ -64,8 +64,8 @@ impl<'p> State<'p> {
         Ok(None)
     }
 
-    /// If the current thread awaits the newest child of `placed`, lets that child go on in its place. Returns whether
-    /// the child goes on.
+    /// If this state's innermost thread waits for the last child of `placed`, moves that child into this state, to run
+    /// as a call would. Returns whether it has.
     #[inline(always)]
     fn take_up(
         &mut self,
@@ -84,10 +84,10 @@ impl<'p> State<'p> {
         }
     }
 
-    /// Lets the newest child of `placed` go on in this thread's place, if the current thread awaits it. Returns whether
-    /// the child goes on.
+    /// Moves the last child of `placed` into this state, to run as a call would, if this state's innermost thread waits
+    /// for it. Returns whether it has.
     ///
-    /// If memory is refused, the thread stays as it was before the step in which it began to await the child.
+    /// If memory is refused, undoes the step in which the thread began to wait for the child.
     #[cold]
     #[inline(never)]
     fn take_newest(
@@ -118,11 +118,11 @@ impl<'p> State<'p> {
         Ok(true)
     }
 
-    /// Puts a child, which the caller gives back, in this thread's place to run there.
+    /// Puts a child, which the caller hands over, inside this thread's slot to run there.
     ///
-    /// A child that was just forked waits until it is awaited, and will begin before `others`, the children that wait
-    /// in the child's place. An awaited child goes on at once, and `others` become the newest children of `placed`.
-    /// After an error nothing has changed but capacities.
+    /// If the child was just forked, it begins when its parent waits for it, and before `others`, the children that
+    /// wait inside the child's own slot. If the child is the awaited one, it runs at once, and `others` go to the end
+    /// of `placed`. After an error, only capacities may have changed.
     pub fn place(
         &mut self,
         placed: &mut Vec<Box<State<'p>>>,
@@ -143,8 +143,8 @@ impl<'p> State<'p> {
         }
     }
 
-    /// Puts a child that was just forked in this thread's place. The child waits until it is awaited, and will begin
-    /// before `grandchildren`, the children that wait in the child's place.
+    /// Puts a child that was just forked inside this thread's slot, at the end of `placed`. The child begins when its
+    /// parent waits for it, and before `grandchildren`, the children that wait inside the child's slot.
     fn wait_with(
         &mut self,
         placed: &mut Vec<Box<State<'p>>>,
@@ -166,8 +166,8 @@ impl<'p> State<'p> {
         Ok(())
     }
 
-    /// Lets the awaited child go on in this thread's place. `others`, the children that wait in the child's place,
-    /// become the newest of `placed`.
+    /// Moves the awaited child into this state, to run at once, as a call would. `others`, the children that wait
+    /// inside the child's slot, go to the end of `placed`.
     fn go_on_with(
         &mut self,
         placed: &mut Vec<Box<State<'p>>>,

@@ -5,12 +5,13 @@ use arachne_program::Program;
 use std::alloc::{AllocError, Global};
 use std::marker::Model;
 
-/// The maximum number of states in the store, and of boxes of outcomes.
+/// The greatest number of states in a store, and of boxes for outcomes.
 const MOST: usize = 64;
 
-/// The memory of ended threads that new threads of the same core reuse.
+/// The memory of ended threads of a core, kept for its new threads.
 ///
-/// It keeps the boxed states of ended threads, with the capacity of their vectors, and the boxes of joined outcomes.
+/// It keeps the boxed states of ended threads, with the capacity of their vectors, and the boxes of outcomes that were
+/// joined.
 #[derive(Drop)]
 pub struct Spares<'p> {
     most: usize,
@@ -38,7 +39,7 @@ impl<'p> Spares<'p> {
         }
     }
 
-    /// Returns a store that stays empty.
+    /// Returns a store that keeps nothing, so that no memory is reused.
     pub(crate) fn none(alloc: Global) -> Spares<'p> {
         Spares {
             most: 0,
@@ -47,7 +48,7 @@ impl<'p> Spares<'p> {
         }
     }
 
-    /// Returns the state of an ended thread, or a new state if there is none.
+    /// Returns a box for a thread's state: that of an ended thread if the store has one, else a new one.
     pub(crate) fn take(
         &mut self,
         alloc: Global,
@@ -59,7 +60,7 @@ impl<'p> Spares<'p> {
         }
     }
 
-    /// Returns the box of a joined outcome, or a new box if there is none.
+    /// Returns a box for an outcome: the box of a joined outcome if the store has one, else a new one.
     #[inline(always)]
     pub fn take_contents(&mut self) -> Result<Box<Contents>, AllocError> {
         match self.contents.pop() {
@@ -68,7 +69,7 @@ impl<'p> Spares<'p> {
         }
     }
 
-    /// Stores the box of a joined outcome, or a box that was taken and not used, unless `MOST` are stored already.
+    /// Keeps the box of an outcome that was joined, or an unused box. Drops the box if the store already has `MOST`.
     #[inline(always)]
     pub fn keep_contents(&mut self, contents: Box<Contents>) {
         if self.contents.len() < self.most {
@@ -76,7 +77,7 @@ impl<'p> Spares<'p> {
         }
     }
 
-    /// Stores the state of an ended thread, unless `MOST` are stored already.
+    /// Keeps the state of an ended thread. Drops the state if the store already has `MOST`.
     #[inline(always)]
     pub(crate) fn keep(&mut self, state: Box<State<'p>>) {
         if self.states.len() < self.most {

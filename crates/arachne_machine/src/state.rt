@@ -1,4 +1,4 @@
-//! The state of a thread between two steps: its next action, its variables and its frames.
+//! The state of a thread between two steps: its next action, its variables and its stack frames.
 use crate::contents::Contents;
 use crate::frame::{Control, Frame};
 use crate::level::{Level, Parent};
@@ -12,7 +12,7 @@ use arachne_program::{Class, Expr, Name, Program, Sequence};
 use std::alloc::{AllocError, Global};
 use std::mem::replace;
 
-/// The thread's name, its tag and place, and how often it held each lock: the data of its line in the report.
+/// The data of a thread's report line: its name, its tag and kind of slot, and how often it held each lock.
 #[derive(Drop)]
 pub struct Own {
     pub name: Name,
@@ -37,7 +37,7 @@ impl Own {
         }
     }
 
-    /// Returns the thread's line, and leaves an empty name and no holds here.
+    /// Moves the thread's report line out, and leaves an empty name and no counts in its stead.
     #[inline(always)]
     pub fn take_line(&mut self, alloc: Global) -> ThreadLine
         ensures line { result ≡ own_line self.old }
@@ -51,7 +51,7 @@ impl Own {
         }
     }
 
-    /// Undoes `take_line`: puts the line's name and holds back.
+    /// Undoes `take_line`: moves the name and the counts of `line` back.
     pub fn put_back(&mut self, line: ThreadLine)
         ensures name { self.new.name ≡ line.name }
         ensures holds { self.new.holds.items ≡ line.holds }
@@ -68,42 +68,42 @@ impl Own {
     }
 }
 
-/// The state of a thread between two steps, with the states of the threads that run in its place.
+/// The state of a thread between two steps, together with the threads that run inside its slot.
 #[derive(Drop)]
 pub struct State<'p> {
     pub program: &'p Program,
     pub alloc: Global,
-    /// The data of the outermost thread's line.
+    /// The data of the outermost thread's report line.
     pub own: Own,
-    /// The lines of the outermost thread's descendants, in order: of those that were joined, and of those that run in
-    /// its place.
+    /// The report lines of the outermost thread's descendants, in order: of those that were joined, and of those that
+    /// run inside its slot.
     pub lines: Lines,
-    /// For each ledger, the sum of the amounts that all threads of this state have tallied, modulo 2^64.
+    /// For each ledger (a shared sum), the total that all threads of this state have added, modulo 2^64.
     pub sums: Vec<u64>,
-    /// The threads that wait for a thread that runs in their place, the outermost first.
+    /// The threads that each wait for a child that runs inside them, the outermost first.
     pub parents: Vec<Parent<'p>>,
-    /// The current thread's part of the state.
+    /// The part of the state that belongs to the innermost thread, which makes the next step.
     pub level: Level,
-    /// The values of the current thread's variables. Those of each parent are a prefix of them.
+    /// The values of the innermost thread's variables. The variables of each waiting thread are the first few of them.
     pub environment: Vec<u64>,
-    /// The frames (what follows the current expression) of all threads, the outermost thread's first. The newest frame
-    /// is the last.
+    /// The stack frames of all threads of this state, those of the outermost thread first. The newest frame is the
+    /// last.
     pub frames: Vec<Frame<'p>>,
     pub control: Control<'p>,
 }
 
-/// The result of a part of a step.
+/// The result of a step, or of a part of one.
 #[derive(Drop)]
 pub enum Progress<'p> {
-    /// The step has given this value, for the newest frame.
+    /// The step has yielded this value, which goes to the newest frame.
     Value(u64),
-    /// The step has been made, and the next one begins this expression.
+    /// The step was made. The next step begins this expression.
     Begin(&'p Expr),
-    /// The step has been made, and the next action is in the state.
+    /// The step was made. The state's field `control` has the next action.
     Goes,
-    /// The step has been made, and the thread pauses, but not for a fork.
+    /// The step was made. The thread pauses, but not at a fork.
     Stops,
-    /// The step has been made, and has forked this child.
+    /// The step was made. It has forked this child, of this class.
     Forks(Class, Box<State<'p>>),
 }
 
@@ -119,7 +119,7 @@ impl<'p> State<'p> {
     ghost use Rattle.arachne_machine.specs.declared.pause.Pending.TheVariants as pause;
     ghost use Rattle.arachne_machine.specs.declared.frame.Control.TheVariants as control;
 
-    /// Creates a thread that begins with `control`, with a copy of the environment.
+    /// Creates a thread that starts with the action `control` and with a copy of `environment` as its variables.
     pub fn new(
         alloc: Global,
         program: &'p Program,
@@ -165,10 +165,10 @@ impl<'p> State<'p> {
         }
     }
 
-    /// Makes this the state of a thread that has not begun, and keeps the capacities of its lists.
+    /// Makes this the state of a thread that has not begun. The capacities of its lists stay.
     ///
-    /// The environment gets room for three more variables: a number of a sweep, and the two variables that may come
-    /// with a value.
+    /// Reserves room for three more variables: the current number of a sweep (a parallel reduction), and the two
+    /// variables that passing a value can add.
     fn renew(
         &mut self,
         program: &'p Program,
@@ -193,10 +193,11 @@ impl<'p> State<'p> {
         Ok(())
     }
 
-    /// Advances by at most `left` steps, until the thread pauses, and subtracts the steps that were made from `left`.
+    /// Advances the thread by at most `left` steps, until it pauses, and subtracts the steps that were made from
+    /// `left`.
     ///
-    /// Returns the child if the thread pauses for a fork. If memory is refused, the thread stays as it was before the
-    /// step that was refused, which is not subtracted.
+    /// If the thread pauses at a fork, returns the forked child. If memory is refused, the thread stays as it was
+    /// before the refused step, which is not subtracted.
     pub fn advance<P: Placing>(
         &mut self,
         left: &mut u32,
@@ -236,7 +237,7 @@ impl<'p> State<'p> {
         Ok(None)
     }
 
-    /// Returns the next expression, if the next action is to begin one.
+    /// Returns the next expression, or `None` if the next action is not to begin an expression.
     #[inline(always)]
     fn beginning(&self) -> Option<&'p Expr>
         ensures current { current_in result self.now ≡ self.now }
@@ -248,7 +249,7 @@ impl<'p> State<'p> {
         }
     }
 
-    /// Makes the expression in `begins` the next action. If `begins` is `None`, the next action stays.
+    /// Makes the beginning of the expression in `begins` the next action. If `begins` is `None`, changes nothing.
     #[inline(always)]
     fn settle(&mut self, begins: Option<&'p Expr>)
         ensures { self.new ≡ current_in begins.entry self.old }
@@ -258,10 +259,12 @@ impl<'p> State<'p> {
         }
     }
 
-    /// Makes a step, and those next steps that it can make in the same call. Subtracts the further steps from `left`.
+    /// Makes a step, and those later steps that it can make in the same call. Subtracts only the later steps from
+    /// `left`.
     ///
-    /// The step begins the expression `begins`. If there is none, it begins a part of a sweep, or takes up a value that
-    /// an earlier step kept when memory was refused. If the step gives a value, passes it to the newest frame.
+    /// The step begins the expression `begins`. If `begins` is `None`, the step begins a part of a sweep (a parallel
+    /// reduction), or resumes with a value that was kept when memory was refused. If the step yields a value, passes
+    /// that value to the newest frame.
     #[inline(always)]
     fn make<P: Placing>(
         &mut self,
@@ -287,8 +290,7 @@ impl<'p> State<'p> {
         }
     }
 
-    /// Begins the expression, if there is one. Otherwise takes up the value that an earlier step kept when memory was
-    /// refused, or begins a part of a sweep (a loop whose range is halved among threads).
+    /// Begins the expression `begins`. If `begins` is `None`, calls `resume`.
     #[inline(always)]
     fn begin_next<P: Placing>(
         &mut self,
@@ -310,7 +312,8 @@ impl<'p> State<'p> {
         }
     }
 
-    /// Takes up a value that an earlier step kept when memory was refused, or begins a part of a sweep.
+    /// Resumes with a value that an earlier step kept when memory was refused, or begins a part of a sweep (a reduction
+    /// over a range that is halved among threads).
     #[inline(always)]
     fn resume<P: Placing>(
         &mut self,
@@ -332,7 +335,7 @@ impl<'p> State<'p> {
         }
     }
 
-    /// Returns the pause that the caller has not answered yet, if there is one.
+    /// Returns the request at which the thread has paused, or `None` if the thread can make a step.
     pub fn pending(&self) -> Option<Pending>
         ensures { result ≡ pending_of self.now.control }
     {
@@ -347,7 +350,7 @@ impl<'p> State<'p> {
         }
     }
 
-    /// Returns the name of the current thread.
+    /// Returns the name of the innermost thread, which makes the next step.
     #[inline(always)]
     pub fn running_name(&self) -> &Name
         requires { HasLine self.now }
@@ -359,7 +362,7 @@ impl<'p> State<'p> {
         self.lines.at(self.level.place).name()
     }
 
-    /// Returns the tag of the current thread.
+    /// Returns the tag (identifying number) of the innermost thread, which makes the next step.
     pub fn running_tag(&self) -> u64
         requires { HasLine self.now }
         ensures { result ≡ (top self.now).own.label.tag }
@@ -370,7 +373,7 @@ impl<'p> State<'p> {
         self.lines.at(self.level.place).tag()
     }
 
-    /// Takes the value, sums and lines out of the state of a thread that has ended.
+    /// Moves the value, the ledger sums and the report lines out of the state of a thread that has ended.
     #[inline(always)]
     pub fn finish(&mut self) -> Contents
         requires ended { pending_of self.old.control ≡ Some pause.Ended }

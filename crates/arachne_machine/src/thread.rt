@@ -1,4 +1,4 @@
-//! A thread of a task program: creates it, advances it by steps, answers its pauses, and joins its children.
+//! A thread of a task program: creates it, advances it by steps, resumes it after a pause, and joins its children.
 ghost use Rattle.std.specs.Prelude.{◌≡◌, ◌≢◌, ◌↔◌, ◌≤◌, ◌+◌, ◌-◌, ℕ, ◌∷◌, [], ◌++◌, true, false, Err, None, Some, IfOk, IfSome, OnOk, IfErr, OnErr, IsTrue};
 ghost use Rattle.arachne_program.specs.Effects.{tabulated};
 ghost use Rattle.arachne_machine.specs.Suspended.{IsAnswered, IsAsk, IsFree, IsFresh, IsNext, IsTally, Joined, SameThread, added, awaited, own_line_of, raised};
@@ -31,15 +31,15 @@ use std::alloc::{AllocError, Global};
 use std::marker::Model;
 use std::snapshot::Snapshot;
 
-/// A thread of a program between two steps, with the threads that run in its place.
+/// A paused thread of a program, together with the children that run inside its slot while it waits for them.
 ///
-/// A child that the caller passes to `in_place` runs once its parent awaits it, and the parent goes on once the child
-/// has ended. A thread is not `Clone`: each thread runs once.
+/// If the caller passes a child to `in_place`, the child begins when its parent waits for it, and the parent resumes
+/// when the child has ended. A thread is not `Clone`, since each thread must run only once.
 #[derive(Drop)]
 pub struct Thread<'p> {
-    /// The state of the thread and of those that have begun in its place.
+    /// The state of the thread, and of the children that have begun inside its slot.
     state: Box<State<'p>>,
-    /// Children that the caller has put in this thread's place and that have not begun, the newest last.
+    /// The children that the caller has put inside this thread's slot and that have not begun, the newest last.
     placed: Vec<Box<State<'p>>>,
 }
 
@@ -60,7 +60,7 @@ impl<'p> Model for Thread<'p> {
 }
 
 impl<'p> Thread<'p> {
-    /// Creates the root thread of a program.
+    /// Creates the root thread of a program. `tag` is the number by which the run identifies the thread.
     pub fn start(alloc: Global, program: &'p Program, tag: u64) -> Result<Thread<'p>, AllocError>
         ensures alone { IfOk result IsAlone }
         ensures fresh { IfOk result (λ thread. IsFresh program.now [] tag thread.running) }
@@ -75,36 +75,36 @@ impl<'p> Thread<'p> {
         Ok(thread_of(state))
     }
 
-    /// Returns the tag of the outermost thread.
+    /// Returns the number by which the run identifies this thread, not a child that runs inside its slot.
     pub fn tag(&self) -> u64
         ensures { result ≡ (whole self.now).label.tag }
     {
         self.state.own.label.tag
     }
 
-    /// Returns the name of the outermost thread.
+    /// Returns the name of this thread, not of a child that runs inside its slot.
     pub fn name(&self) -> &Name
         ensures { result.now ≡ (whole self.now).name }
     {
         &self.state.own.name
     }
 
-    /// Returns the thread's program.
+    /// Returns the program to which the thread belongs.
     pub fn program(&self) -> &'p Program
         ensures { result.now ≡ (whole self.now).program }
     {
         self.state.program
     }
 
-    /// Returns the tag of the current thread: this thread or one that runs in its place. The current thread makes the
-    /// next step, and has made any pending pause.
+    /// Returns the tag (identifying number) of the thread that makes the next step: this thread, or a child that runs
+    /// inside its slot. A pause is always one of that thread.
     pub fn running_tag(&self) -> u64
         ensures { result ≡ self.now.running.label.tag }
     {
         self.state.running_tag()
     }
 
-    /// Sets the tag of a thread that has not begun.
+    /// Sets the number by which the run identifies this thread. The thread must not have begun.
     pub fn set_tag(&mut self, tag: u64)
         requires { self.old.parents ≡ [] }
         ensures tagged { self.new ≡ record self.old { running = with_tag tag self.old.running } }
@@ -114,7 +114,8 @@ impl<'p> Thread<'p> {
         self.state.own.label.tag = tag;
     }
 
-    /// Records for the thread's line that it got its place while it waited. The thread must not have begun.
+    /// Records in the thread's report line that a worker found its slot later, while it waited for one. The thread must
+    /// not have begun.
     pub fn set_spilled(&mut self)
         requires { self.old.parents ≡ [] }
         ensures spilled { self.new ≡ record self.old { running = spilled_of self.old.running } }
@@ -123,8 +124,8 @@ impl<'p> Thread<'p> {
         self.state.own.label.ran = Ran::Spill;
     }
 
-    /// Returns the pause that the caller has not answered yet, if there is one. It is a pause of the current thread:
-    /// this one, or one that runs in its place.
+    /// Returns the request at which this thread, or a child that runs inside its slot, has paused. Returns `None` if it
+    /// can make a step.
     pub fn pending(&self) -> Option<Pending>
         ensures pending { result ≡ pending_in self.now }
         ensures next { IsNext self.now.running.pending self.now.running.trace }
@@ -134,10 +135,10 @@ impl<'p> Thread<'p> {
         self.state.pending()
     }
 
-    /// Advances by at most `budget` steps. Each node of an expression is a step, and each fork a pause.
+    /// Advances the thread by at most `budget` steps, until it pauses. Each node of an expression is a step, and each
+    /// fork a pause.
     ///
-    /// If memory is refused, the thread stays as it was before the step that was refused, and the same call can be made
-    /// again.
+    /// If memory is refused, the thread stays as it was before the refused step, and the caller may call this again.
     pub fn advance(&mut self, budget: u32) -> Result<Pause<'p>, AllocError>
         requires not_paused { pending_in self.old ≡ None }
         requires some { 1 ≤ budget }
@@ -156,12 +157,12 @@ impl<'p> Thread<'p> {
         self.advance_within(&mut left, &mut spares, &mut Everywhere)
     }
 
-    /// Advances by at most `left` steps, and subtracts the steps that were made: all of them if the pause is `Budget`,
-    /// at least one at any other pause.
+    /// Advances the thread by at most `left` steps, until it pauses, and subtracts the steps that were made from
+    /// `left`. If the pause is `Budget`, all steps were made; at any other pause, at least one.
     ///
-    /// If there is no place for the child of a fork, the fork is no pause: the child runs in this thread's place, once
-    /// it is awaited. Any other child reuses memory that ended threads have left. If memory is refused, the thread
-    /// stays as it was before the step that was refused, as with `advance`.
+    /// `places` decides at each fork: if it refuses the child a slot of its own, the child runs inside this thread's
+    /// slot later, without a pause. Other children reuse memory of `spares`. If memory is refused, the thread stays as
+    /// it was before the refused step, as with `advance`.
     pub fn advance_within<P: Placing>(
         &mut self,
         left: &mut u32,
@@ -190,7 +191,8 @@ impl<'p> Thread<'p> {
         Ok(pause_of(forked, self.pending()))
     }
 
-    /// Advances like `advance_within`, but without a pause at a tally whose amount `due` takes.
+    /// Advances the thread like `advance_within`, but doesn't pause at additions to ledgers (shared sums) whose amounts
+    /// `due` collects.
     pub fn advance_tallying<P: Placing, D: Tallying>(
         &mut self,
         left: &mut u32,
@@ -222,7 +224,8 @@ impl<'p> Thread<'p> {
         Ok(Pause::Budget)
     }
 
-    /// If the thread has paused at a tally and `due` takes its amount, answers the pause. Returns whether it has.
+    /// If the thread has paused to add to a ledger (a shared sum) and `due` collects the amount, resumes the thread.
+    /// Returns whether it has.
     #[inline(always)]
     fn tally<D: Tallying>(&mut self, due: &mut D) -> bool
         ensures made { result ≡ true → (ledger amount : ℕ) × IsTallied ledger amount self.old self.new × GainsAt (D.due_to due.old) ledger amount (D.due_to due.new) }
@@ -238,7 +241,7 @@ impl<'p> Thread<'p> {
         true
     }
 
-    /// Advances until the thread pauses. Returns the child if the thread pauses for a fork.
+    /// Advances the thread by at most `left` steps, until it pauses. If it pauses at a fork, returns the forked child.
     #[inline(always)]
     fn stop<P: Placing>(
         &mut self,
@@ -260,7 +263,7 @@ impl<'p> Thread<'p> {
         Ok(forked)
     }
 
-    /// Answers the pause at a fork whose child the caller has taken. Takes no memory.
+    /// Resumes a thread that paused at a fork. Call it after you have taken the child. Takes no memory.
     pub fn forked(&mut self)
         requires { pending_in self.old ≡ Some pause.Forks }
         ensures whole { SameWhole self.old self.new }
@@ -275,10 +278,11 @@ impl<'p> Thread<'p> {
         self.state.forked();
     }
 
-    /// Runs a child in this thread's place.
+    /// Runs a child inside this thread's slot, as a function call would.
     ///
-    /// At a fork the child must be the one that was forked, and runs once it is awaited. At a join the child must be
-    /// the awaited child, and runs at once. After an error nothing has changed, and the child is returned.
+    /// At a fork, `child` must be the child that was just forked; it begins when its parent waits for it. At a join,
+    /// `child` must be the awaited child, and runs at once. After an error nothing has changed, and the error has the
+    /// child.
     pub fn in_place(&mut self, child: Thread<'p>) -> Result<(), NotPlaced<'p>>
         requires pending { IsPlacing (pending_in self.old) }
         requires child { MayBePlaced self.old child }
@@ -300,7 +304,7 @@ impl<'p> Thread<'p> {
         }
     }
 
-    /// Answers the pause at a request for a lock: the thread holds it now. Takes no memory.
+    /// Resumes a thread that paused to ask for a lock. Call it when the thread holds the lock. Takes no memory.
     pub fn granted(&mut self)
         requires { IsAsk (pending_in self.old) }
         ensures whole { SameWhole self.old self.new }
@@ -315,7 +319,7 @@ impl<'p> Thread<'p> {
         self.state.granted();
     }
 
-    /// Answers the pause at the release of a lock: the thread no longer holds it. Takes no memory.
+    /// Resumes a thread that paused to release a lock. Call it after you have freed the lock. Takes no memory.
     pub fn freed(&mut self)
         requires { IsFree (pending_in self.old) }
         ensures whole { SameWhole self.old self.new }
@@ -330,7 +334,8 @@ impl<'p> Thread<'p> {
         self.state.freed();
     }
 
-    /// Answers the pause at a tally: the caller has added the amount to the ledger. Takes no memory.
+    /// Resumes a thread that paused to add to a ledger (a shared sum). Call it after you have added the amount. Takes
+    /// no memory.
     pub fn tallied(&mut self)
         requires { IsTally (pending_in self.old) }
         ensures whole { SameWhole self.old self.new }
@@ -346,7 +351,8 @@ impl<'p> Thread<'p> {
         self.state.tallied();
     }
 
-    /// Joins the outcome of the awaited child. After an error nothing has changed, and the outcome is returned.
+    /// Joins the awaited child, whose outcome is `outcome`, and resumes the thread. After an error nothing has changed,
+    /// and the error has the outcome.
     pub fn joined(&mut self, outcome: Outcome<'p>) -> Result<(), NotJoined<Outcome<'p>>>
         requires pending { pending_in self.old ≡ Some pause.Joins }
         requires program { source_of outcome.program ≡ source_of (whole self.old).program }
@@ -369,7 +375,7 @@ impl<'p> Thread<'p> {
         }
     }
 
-    /// Joins the outcome of the awaited child, like `joined`, from a box. `spares` keeps the box.
+    /// Joins the awaited child like `joined`, but takes its outcome in a box, which `spares` keeps.
     pub fn joined_into(
         &mut self,
         outcome: DetachedOutcome,
@@ -402,7 +408,8 @@ impl<'p> Thread<'p> {
         }
     }
 
-    /// Joins the outcome with these contents, if it is that of the awaited child. After an error nothing has changed.
+    /// Joins the child whose outcome is `contents`. Returns `Foreign` if that is not the awaited child. After an error
+    /// nothing has changed.
     #[inline(always)]
     fn join(&mut self, program: &Snapshot<Program>, contents: &mut Contents) -> Result<(), Unjoined>
         requires pending { pending_in self.old ≡ Some pause.Joins }
@@ -418,7 +425,7 @@ impl<'p> Thread<'p> {
         ensures err { OnErr result (self.new ≡ self.old) }
         ensures left { OnErr result (contents.new ≡ contents.old) }
     {
-        // Only the proof uses the program, which has no bytes.
+        // Used only by the proof; a `Snapshot` has size 0.
         let _ = program;
         self.state.join(contents)
     }
@@ -438,8 +445,7 @@ impl<'p> Thread<'p> {
         }
     }
 
-    /// Returns the outcome of a thread that has ended, in the box `contents`. `spares` keeps the memory that the thread
-    /// no longer needs.
+    /// Returns the outcome of a thread that has ended, in the box `contents`. `spares` keeps the thread's other memory.
     pub fn finish_into(self, contents: Box<Contents>, spares: &mut Spares<'p>) -> DetachedOutcome
         requires { pending_in self ≡ Some pause.Ended }
         ensures program { result.program ≡ (whole self.entry).program }
@@ -456,7 +462,7 @@ impl<'p> Thread<'p> {
     }
 }
 
-/// Returns a thread in whose place no other thread runs.
+/// Returns a thread with the state `state`, and with no child waiting inside its slot.
 fn thread_of<'p>(state: Box<State<'p>>) -> Thread<'p>
     requires { IsSoundChild state.value }
     ensures { result ≡ nested state.entry.value [] }
@@ -468,7 +474,7 @@ fn thread_of<'p>(state: Box<State<'p>>) -> Thread<'p>
     }
 }
 
-/// Returns the pause for the caller: the fork with its child if one was forked, and otherwise the pending pause.
+/// Returns the pause to report to the caller: the fork with its child if a child was forked, else the pending request.
 #[inline(always)]
 fn pause_of<'p>(forked: Option<(Class, Box<State<'p>>)>, pending: Option<Pending>) -> Pause<'p>
     requires { IfSome forked (λ f. IsSoundChild f.1.value) }

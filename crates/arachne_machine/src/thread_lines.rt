@@ -1,4 +1,4 @@
-//! The lines of all threads of a run, without copying them into one list.
+//! The report lines of all threads of a run, in several lists that need not be copied into one.
 ghost use Rattle.std.specs.Prelude.{◌≡◌, ◌==◌, ◌≤◌, ◌+◌, ◌∷◌, ◌++◌, [], length, vec_len, vec_capacity, IfOk, IfErr, MatchOption};
 ghost use Rattle.std.specs.Iterator.{YieldsFirst, item_count};
 ghost use Rattle.arachne_machine.specs.Lines.{lines_from, lines_in};
@@ -8,14 +8,14 @@ use crate::line_list::LineList;
 use std::alloc::{AllocError, Global};
 use std::marker::Model;
 
-/// Lines in order, in several lists. They are copied into one only by `into_vec` and `to_vec`.
+/// Report lines in order, in several lists. Only `into_vec` and `to_vec` copy them into one.
 #[derive(Debug, Drop)]
 pub struct ThreadLines {
     count: usize,
     lists: Vec<LineList>,
 }
 
-// Contracts see one list.
+// In contracts, a `ThreadLines` is one list of lines.
 impl Model for ThreadLines {
     ghost use Rattle.std.specs.Prelude.{◌≡◌, List, length};
     ghost use Rattle.arachne_machine.specs.declared.line.ThreadLine.{ThreadLine};
@@ -29,7 +29,7 @@ impl Model for ThreadLines {
 }
 
 impl ThreadLines {
-    /// Returns the lines of these lists, which have `count` lines together.
+    /// Returns the lines of `lists`. `count` must be the number of lines in all of them together.
     pub fn of(lists: Vec<LineList>, count: usize) -> ThreadLines
         requires { count ≡ length (lines_in lists.items) }
         ensures { result ≡ lines_in lists.items }
@@ -61,7 +61,7 @@ impl ThreadLines {
         }
     }
 
-    /// Copies the lines into one `Vec`. If memory is refused, returns the lines as the error.
+    /// Copies the lines into one `Vec`. If memory is refused, returns `self` as the error.
     pub fn into_vec(self, alloc: Global) -> Result<Vec<ThreadLine>, ThreadLines>
         ensures items { IfOk result (λ lines. lines.items ≡ self) }
         ensures handed_back { IfErr result (λ lines. lines ≡ self) }
@@ -72,7 +72,7 @@ impl ThreadLines {
         }
     }
 
-    /// Returns a copy of the lines in one `Vec`.
+    /// Returns a `Vec` with a copy of each line.
     fn to_vec(&self, alloc: Global) -> Result<Vec<ThreadLine>, AllocError>
         ensures { IfOk result (λ lines. lines.items ≡ self.now) }
     {
@@ -84,12 +84,12 @@ impl ThreadLines {
     }
 }
 
-/// An iterator over the lines in order.
+/// An iterator over report lines in order.
 #[derive(Drop)]
 pub struct LinesLeft<'a> {
-    /// The lists that have lines left.
+    /// The lists that still have lines to return.
     lists: &'a [LineList],
-    /// The number of lines of the first list that the iterator has returned.
+    /// The number of lines that were already returned from the first list.
     place: usize,
 }
 
@@ -103,14 +103,15 @@ impl<'a> Model for LinesLeft<'a> {
     ghost view = { λ l. lines_from l.place l.lists.now };
 }
 
-/// A line, and the lines behind it.
+/// A line, and the position of the next one: the lists that have lines left, and an index into the first of them.
 struct FirstLine<'a> {
     line: LineView<'a>,
     lists: &'a [LineList],
     place: usize,
 }
 
-/// Returns the first line from index `place` of the first list on, and the lines behind it.
+/// Returns the line at index `place` of the first list or, if there is none, the first line of the later lists. Also
+/// returns the position behind that line.
 #[inline(always)]
 fn first_line<'a>(lists: &'a [LineList], place: usize) -> Option<FirstLine<'a>>
     ensures { MatchOption result (lines_from place lists.now ≡ [])

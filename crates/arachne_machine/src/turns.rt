@@ -1,5 +1,5 @@
-//! Iterations of folds and sweeps. An iteration whose body has no effects and needs no more steps than are left is made
-//! in one call.
+//! Runs the iterations of folds (sequential loops) and of sweeps (parallel reductions). If an iteration has no effects
+//! and needs no more steps than are left, runs it in one call.
 use crate::frame::Frame;
 use crate::state::{Progress, State};
 use crate::worth::body_at_once;
@@ -17,9 +17,10 @@ impl<'p> State<'p> {
     ghost use Rattle.arachne_machine.specs.Steps.{Changes, ComesToFold, ComesToSweep, IsSame, LeavesOthers, OnStops, OnValue, Reaches, Turns, top};
     ghost use Rattle.arachne_machine.specs.Runs.{FoldsOn, IsOneStep, SweepsOn, seen_in};
 
-    /// Goes on with a fold over the numbers from `next` to below `end`, whose value so far is `so_far`.
+    /// Continues a fold (a sequential loop) over the numbers `next..end`. `so_far` is the value after the earlier
+    /// iterations.
     ///
-    /// Makes the iterations that it can make at once, and then begins one more, or ends the fold.
+    /// First runs all iterations that it can run in one call, then begins the next one, or ends the fold.
     pub fn turn_fold(
         &mut self,
         next: u64,
@@ -42,7 +43,8 @@ impl<'p> State<'p> {
         self.begin_fold(next, end, body, so_far, left)
     }
 
-    /// Makes as many iterations of a fold at once as it can. Returns the next number, and the value so far.
+    /// Runs iterations of a fold (a sequential loop), each in one call, as long as it can. Returns the next number, and
+    /// the value so far.
     #[inline(always)]
     fn fold_at_once(
         &mut self,
@@ -74,7 +76,8 @@ impl<'p> State<'p> {
         (next, so_far)
     }
 
-    /// Returns the value of an iteration of a fold, if its body has no effects and needs no more steps than are left.
+    /// Runs one iteration of a fold (a sequential loop), and returns its value. Returns `None` if the body has effects
+    /// or needs more steps than are left.
     #[inline(always)]
     fn fold_value(&mut self, next: u64, so_far: u64, body: &'p Expr, left: &mut u32) -> Option<u64>
         requires environment { vec_len self.old.environment + 2 ≤ vec_capacity self.old.environment }
@@ -124,8 +127,8 @@ impl<'p> State<'p> {
         self.go_on(turn, body)
     }
 
-    /// Goes on with a sweep over the numbers from `next` to below `end`, whose value so far is `so_far`, like
-    /// `turn_fold`.
+    /// Continues a sweep (a parallel reduction) over the numbers `next..end`. `so_far` is the reduction of the earlier
+    /// values. Otherwise like `turn_fold`.
     #[inline(always)]
     pub fn turn_sweep(
         &mut self,
@@ -150,7 +153,8 @@ impl<'p> State<'p> {
         self.begin_sweep(reduction, next, end, body, so_far, left)
     }
 
-    /// Makes as many iterations of a sweep at once as it can. Returns the next number, and the value so far.
+    /// Runs iterations of a sweep (a parallel reduction), each in one call, as long as it can. Returns the next number,
+    /// and the value so far.
     #[inline(always)]
     fn sweep_at_once(
         &mut self,
@@ -183,7 +187,8 @@ impl<'p> State<'p> {
         (next, so_far)
     }
 
-    /// Returns the value of an iteration of a sweep, if its body has no effects and needs no more steps than are left.
+    /// Runs one iteration of a sweep (a parallel reduction), and returns its value. Returns `None` if the body has
+    /// effects or needs more steps than are left.
     #[inline(always)]
     fn sweep_value(&mut self, next: u64, body: &'p Expr, left: &mut u32) -> Option<u64>
         requires environment { vec_len self.old.environment + 2 ≤ vec_capacity self.old.environment }

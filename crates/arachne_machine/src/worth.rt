@@ -1,4 +1,4 @@
-//! Evaluates expressions without effects by plain recursion, as far as steps are left.
+//! Evaluates expressions without effects by plain recursion, as long as steps are left.
 ghost use Rattle.std.specs.Prelude.{◌≡◌, ◌≤◌, ◌+◌, ◌-◌, vec_len, vec_capacity, IfSome, MatchOption};
 ghost use Rattle.arachne_program.specs.Program.{source_of, tree_of};
 ghost use Rattle.arachne_program.specs.Value.{with_newest};
@@ -7,9 +7,9 @@ ghost use Rattle.arachne_machine.specs.Pure.{IsWorth};
 use crate::lookup::{item_in, length_in, variable_in};
 use arachne_program::{Expr, Program};
 
-/// Returns the value of the body of an iteration, if it has no effects and needs no more steps than are left.
+/// Returns the value of `body`, the body of a loop. Returns `None` if it has effects or needs more steps than are left.
 ///
-/// Each step of the body is subtracted from `left`.
+/// If there is a value, subtracts the steps of the body from `left`.
 #[inline(always)]
 pub fn body_at_once(
     program: &Program,
@@ -32,10 +32,10 @@ pub fn body_at_once(
     Some(value)
 }
 
-/// Returns the value of an expression, if its parts need no more steps than are left.
+/// Returns the value of `expr`, or `None` if it needs more steps than are left.
 ///
-/// The expression may consist of numbers, variables, lengths, items, operations, choices and bindings. The result is
-/// `None` for any other expression. The environment is unchanged.
+/// Evaluates only numbers, variables, lengths and items of arrays, operations, conditionals and `let`. Returns `None`
+/// for any other expression. Leaves the variables in `environment` unchanged.
 #[cycle(recursion)]
 fn value_at_once(
     program: &Program,
@@ -93,7 +93,7 @@ fn value_at_once(
     }
 }
 
-/// Returns the value of a part like `value_at_once`, faster if the part is a number or a variable.
+/// Returns the value of `expr` as `value_at_once` does, but faster if it is a number or a variable.
 #[inline(always)]
 #[cycle(recursion)]
 fn side_at_once(
@@ -115,8 +115,8 @@ fn side_at_once(
     }
 }
 
-/// Like `value_at_once`, with `newest` as the newest variable. Also returns `None` if there is no room for that
-/// variable.
+/// Returns the value of `body`, with `newest` as an additional variable, as `value_at_once` does. Also returns `None`
+/// if there is no room for that variable.
 #[cycle(recursion)]
 fn bound_at_once(
     program: &Program,

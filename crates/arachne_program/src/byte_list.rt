@@ -1,13 +1,13 @@
-//! Lists of up to 30 numbers below 256 in 31 bytes, for short thread names, which then need no allocation.
+//! Lists of up to 30 numbers below 256 in 31 bytes, so that short thread names need no allocation.
 ghost use Rattle.std.specs.Prelude.{◌≡◌, ◌<◌, [], ◌∷◌, ◌++◌, ◌↔◌, length, IfOk, IsTrue, SomeIff};
 
 use std::alloc::{AllocError, Global};
 use std::marker::Model;
 
-/// The maximum length of a list.
+/// The greatest length of a list.
 const ROOM: usize = 30;
 
-/// A list of at most 30 numbers below 256. The list takes no memory except for its own 31 bytes.
+/// A list of at most 30 numbers below 256, stored in its own 31 bytes without an allocation.
 #[derive(Debug, Drop)]
 pub struct ByteList {
     len: u8,
@@ -42,7 +42,7 @@ impl ByteList {
         &self.bytes[..usize::from(self.len)]
     }
 
-    /// Returns the list with `number` appended. Returns `None` if the list is full or the number is 256 or more.
+    /// Returns this list with `number` appended, or `None` if the list is full or `number` is 256 or more.
     pub fn with(&self, number: u64) -> Option<ByteList>
         ensures { SomeIff result ((length self.now < 30) × (number < 256)) (self.now ++ number ∷ []) }
     {
@@ -57,7 +57,7 @@ impl ByteList {
             bytes,
         })
     }
-    /// Returns whether this list is `front` with `number` appended.
+    /// Returns whether this list equals `front` with `number` appended.
     pub fn is_longer_by(&self, front: &ByteList, number: u64) -> bool
         ensures { IsTrue result ↔ (self.now ≡ front.now ++ number ∷ []) }
     {
@@ -67,7 +67,7 @@ impl ByteList {
         }
     }
 
-    /// Returns the numbers with `number` appended, in a `Vec`, since `number` may be 256 or more.
+    /// Returns a `Vec` of this list's numbers followed by `number`, which may be 256 or more.
     pub fn widened(&self, alloc: Global, number: u64) -> Result<Vec<u64>, AllocError>
         ensures { IfOk result (λ longer. longer.items ≡ self.now ++ number ∷ []) }
     {

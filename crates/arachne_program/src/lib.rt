@@ -1,8 +1,8 @@
-//! The programs of the task language, as trees of expressions, and the definitions of what they mean on one thread.
+//! The programs of the task language, as trees of expressions, and the definition of their results on one thread.
 //!
-//! A program's thread may *fork* a child and join it later, *hold* a lock while it evaluates an expression, and *tally*
-//! an amount to a *ledger*, a sum that no thread reads. A *fold* is a loop over a range of numbers, a *sweep* one whose
-//! range is halved among child threads down to a length, its *grain*.
+//! A thread of a program may *fork* a child and join it later, and *hold* a lock while it evaluates an expression. It
+//! may *tally* an amount: add it to a *ledger*, a sum that no thread reads. A *fold* is a sequential loop over a range
+//! of numbers. A *sweep* is a reduction over a range that is halved among child threads, down to a length, its *grain*.
 #![tactic(auto)]
 
 mod byte_list;

@@ -1,4 +1,4 @@
-//! A thread's name: the numbers of the forks that lead to it from the root.
+//! The name of a thread: the path of forks from the root to it.
 ghost use Rattle.std.specs.Prelude.{◌≡◌, ◌<◌, [], ◌∷◌, ◌++◌, ◌↔◌, IfOk, IsOk, IsTrue, SomeIff, length, slice_index, nat_eq};
 ghost use Rattle.std.specs.Cmp.{partial_equiv_from_equiv};
 ghost use Rattle.std.specs.Cmp.Lexicographic.{pointwise, nat_list_eq_equiv};
@@ -9,10 +9,11 @@ use crate::word_list::WordList;
 use std::alloc::{AllocError, Global};
 use std::marker::Model;
 
-/// A thread's name: the numbers of the forks that lead to it from the root. The root's name is empty.
+/// The name of a thread: the path of forks from the root to it. Each fork is given by its number, counted from 0, among
+/// the forks of the thread that made it. The root's name is empty.
 ///
-/// Up to 30 numbers below 256, or up to 6 below 2^32, are stored in the name's own 32 bytes. Other names are stored in
-/// a `Vec`.
+/// A name of up to 30 numbers below 256, or up to 6 below 2^32, fits its own 32 bytes. Any other name is stored in a
+/// `Vec`.
 #[derive(Debug, Drop)]
 pub struct Name {
     forks: Forks,
@@ -20,11 +21,11 @@ pub struct Name {
 
 const _: () = prove!(size_of::<Name>() == 32);
 
-/// The numbers of the forks from the root to the thread, in this order.
+/// The numbers of the forks on the path from the root to the thread, in this order.
 #[derive(Debug, Drop)]
 enum Forks {
     Bytes(ByteList),
-    /// Numbers, at least one of them 256 or more.
+    /// A list of numbers of which at least one is 256 or more.
     Words(WordList),
     Heap(Vec<u64>),
 }
@@ -51,9 +52,9 @@ impl Name {
         }
     }
 
-    /// Returns the name of the child that this thread forks as its `number`-th, counted from 0.
+    /// Returns the name of this thread's child of number `number`, counted from 0.
     ///
-    /// Memory is refused only if the name doesn't fit into its own 32 bytes.
+    /// Allocates only if that name doesn't fit its own 32 bytes. Returns `Err` if memory is refused.
     pub fn child(&self, alloc: Global, number: u64) -> Result<Name, AllocError>
         ensures named { IfOk result (λ name. name ≡ self.now ++ number ∷ []) }
         ensures inline { FitsInline (self.now ++ number ∷ []) → IsOk result }
@@ -73,8 +74,8 @@ impl Name {
         }
     }
 
-    /// Returns the numbers in the name of the child that this thread forks as its `number`-th, or `None` if they don't
-    /// fit into a `WordList`.
+    /// Returns the numbers in the name of this thread's child of number `number`, or `None` if they don't fit a
+    /// `WordList`.
     fn words_with(&self, number: u64) -> Option<WordList>
         ensures { SomeIff result (FitsWords (self.now ++ number ∷ [])) (self.now ++ number ∷ []) }
     {
@@ -85,8 +86,7 @@ impl Name {
         }
     }
 
-    /// Returns the name of the child that this thread forks as its `number`-th, if the name fits into none of the short
-    /// lists.
+    /// Allocates the name of this thread's child of number `number`, which must fit neither kind of short list.
     #[inline(never)]
     fn long_child(&self, alloc: Global, number: u64) -> Result<Name, AllocError>
         requires bytes { ¬ FitsBytes (self.now ++ number ∷ []) }
@@ -103,7 +103,7 @@ impl Name {
         })
     }
 
-    /// Returns the length of the name.
+    /// Returns the length of the name, which is the number of forks between the root and the thread.
     pub fn len(&self) -> usize
         ensures { result ≡ length self.now }
     {
@@ -114,7 +114,7 @@ impl Name {
         }
     }
 
-    /// Returns the number at index `k` of the name, counted from 0.
+    /// Returns the number at index `k` of the name.
     pub fn number(&self, k: usize) -> u64
         requires { k < length self.now }
         ensures { result ≡ slice_index self.now k }
@@ -126,7 +126,8 @@ impl Name {
         }
     }
 
-    /// Returns whether this is the name of the child that the thread of the name `parent` forks as its `number`-th.
+    /// Returns whether this is the name of the child of number `number`, counted from 0, of the thread with the name
+    /// `parent`.
     pub fn is_child_of(&self, parent: &Name, number: u64) -> bool
         ensures { IsTrue result ↔ (self.now ≡ parent.now ++ number ∷ []) }
     {
@@ -146,7 +147,7 @@ impl Name {
         }
     }
 
-    /// Returns whether the name has these numbers.
+    /// Returns whether the numbers in the name equal `numbers`.
     fn has_numbers(&self, numbers: &[u64]) -> bool
         ensures { IsTrue result ↔ (self.now ≡ numbers.now) }
     {
@@ -184,7 +185,7 @@ impl Eq for Name {
     ghost laws = { nat_list_eq_equiv };
 }
 
-/// Returns the numbers with `number` appended.
+/// Allocates a list of `numbers` followed by `number`.
 fn with_number(alloc: Global, numbers: &[u64], number: u64) -> Result<Vec<u64>, AllocError>
     ensures { IfOk result (λ longer. longer.items ≡ numbers.now ++ number ∷ []) }
 {

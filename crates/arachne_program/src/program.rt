@@ -8,7 +8,7 @@ ghost use Rattle.arachne_program.specs.Same.{same_tree, same_source};
 ghost use Rattle.arachne_program.specs.Value.{apply, operation_of, unit_of};
 ghost use Rattle.arachne_program.specs.SameDecides.{same_tree-Decides, same_source-Decides};
 
-/// The class of a forked thread: it shares its core with others, or has a core to itself.
+/// The class of a forked thread, which says if it shares its core with other threads.
 #[derive(Clone, Copy, Debug, PartialEq, Eq)]
 pub enum Class {
     /// The thread runs on a core that it shares with others.
@@ -17,7 +17,7 @@ pub enum Class {
     Exclusive,
 }
 
-/// An operation of two numbers, unsigned and modulo 2^64.
+/// A binary operation on unsigned numbers, modulo 2^64.
 #[derive(Clone, Copy, Debug, PartialEq, Eq)]
 pub enum Operation {
     Add,
@@ -26,14 +26,14 @@ pub enum Operation {
     Min,
     Max,
     Xor,
-    /// Gives 1 if the first number is less, else 0.
+    /// Yields 1 if the first number is less than the second, else 0.
     Lt,
-    /// Gives 1 if both numbers are the same, else 0.
+    /// Yields 1 if both numbers are equal, else 0.
     Eq,
 }
 
 impl Operation {
-    /// Returns the result of the operation for two numbers.
+    /// Returns the result of this operation for `x` and `y`.
     #[inline(always)]
     pub fn apply(self, x: u64, y: u64) -> u64
         ensures { result ≡ apply self x y }
@@ -51,23 +51,23 @@ impl Operation {
     }
 }
 
-/// The way in which a sweep reduces its values to one.
+/// The way in which a sweep (a parallel reduction) combines its values into one.
 #[derive(Clone, Copy, Debug, PartialEq, Eq)]
 pub enum Reduction {
-    /// The sum of the values, from 0.
+    /// The sum of the values, modulo 2^64; 0 if there are none.
     Sum,
-    /// The product of the values, from 1.
+    /// The product of the values, modulo 2^64; 1 if there are none.
     Product,
-    /// The exclusive or of the values, from 0.
+    /// The bitwise exclusive or of the values; 0 if there are none.
     Parity,
-    /// The least of the values, from 2^64 - 1.
+    /// The least of the values; 2^64 - 1 if there are none.
     Least,
-    /// The greatest of the values, from 0.
+    /// The greatest of the values; 0 if there are none.
     Greatest,
 }
 
 impl Reduction {
-    /// Returns the operation that combines two values.
+    /// Returns the operation that combines two values of the sweep.
     #[inline(always)]
     pub fn operation(self) -> Operation
         ensures { result ≡ operation_of self }
@@ -81,7 +81,7 @@ impl Reduction {
         }
     }
 
-    /// Returns the value from which a sweep starts, the neutral element of the operation.
+    /// Returns the neutral element of the operation, which is the value of a sweep over no numbers.
     #[inline(always)]
     pub fn unit(self) -> u64
         ensures { result ≡ unit_of self }
@@ -97,39 +97,43 @@ impl Reduction {
 /// An expression of the task language.
 #[derive(Debug, Drop)]
 pub enum Expr {
-    /// A number.
+    /// A constant.
     Num(u64),
-    /// A variable, by its index among the bound variables: the oldest is 0.
+    /// A variable. The number is its index among the bound variables, with the oldest at 0.
     Var(u64),
-    /// The number of items of an array.
+    /// The number of items of the array of this number.
     Len(u64),
-    /// The item of an array at an index, from 0. The value is 0 if there is no such item.
+    /// An item of the array of this number, at the index (from 0) that the expression yields. The value is 0 if there
+    /// is no such item.
     Item(u64, Box<Expr>),
-    /// An operation of two expressions.
+    /// A binary operation on the values of two expressions.
     Binary(Operation, Box<Expr>, Box<Expr>),
-    /// The value of the second expression if the first's value is not 0, else the value of the third. Only one of the
-    /// second and the third is evaluated.
+    /// A conditional: the second expression if the first yields a value other than 0, else the third. The other of the
+    /// two is not evaluated.
     If(Box<Expr>, Box<Expr>, Box<Expr>),
-    /// The value of the second expression, in which the value of the first is the newest variable.
+    /// A binding: the value of the first expression becomes the newest variable in the second, whose value is the
+    /// result.
     Let(Box<Expr>, Box<Expr>),
-    /// The value of the second expression, after the value of the first has been added to a ledger.
+    /// Adds the value of the first expression to the ledger (a shared sum) of this number. The second expression yields
+    /// the result.
     Tally(u64, Box<Expr>, Box<Expr>),
-    /// An expression that is evaluated while the thread holds a lock.
+    /// Evaluates the expression while the thread holds the lock of this number.
     Hold(u64, Box<Expr>),
-    /// A fork: the child's expression, the expression that the thread evaluates while the child runs, and the
-    /// expression that the thread evaluates after the join. In the third expression the two newest variables are the
-    /// child's value and then the value of the second expression.
+    /// A fork. The child thread evaluates the first expression, while this thread evaluates the second. After the join,
+    /// this thread evaluates the third, in which the two newest variables are the child's value and then the second
+    /// expression's.
     Fork(Class, Box<Expr>, Box<Expr>, Box<Expr>),
-    /// A fold (a loop) over a range of numbers. The range goes from the first expression's value to below the second's.
-    /// The third expression gives the first value. The fourth is the body, in which the two newest variables are the
-    /// number and then the value so far.
+    /// A sequential loop. The first two expressions yield the range: the lower end, and the upper end, which is
+    /// excluded. The third yields the initial value. The fourth is the body, in which the two newest variables are the
+    /// current number and then the value so far.
     Fold(Box<Expr>, Box<Expr>, Box<Expr>, Box<Expr>),
-    /// A sweep: its grain; a range, from the first expression to below the second; and the body, in which the number is
-    /// the newest variable. A range that is longer than the grain is halved, and the left half is a child thread.
+    /// A reduction over a range. The number is the grain; the expressions are the lower end, the upper end, which is
+    /// excluded, and the body, in which the newest variable is the current number. A range that is longer than the
+    /// grain is halved, and a child thread reduces the left half.
     Sweep(Reduction, u64, Box<Expr>, Box<Expr>, Box<Expr>),
 }
 
-/// A program: read-only arrays, the numbers of its ledgers and locks, and its expression.
+/// A program: its read-only arrays, how many ledgers and locks it has, and its main expression.
 #[derive(Debug, Drop)]
 pub struct Program {
     pub arrays: Vec<Vec<u64>>,
@@ -139,7 +143,7 @@ pub struct Program {
 }
 
 impl Expr {
-    /// Returns whether `self` and `other` are the same expression. Stops at the first difference.
+    /// Returns whether `self` and `other` are equal expressions. Stops at the first difference.
     fn is_same(&self, other: &Expr) -> bool
         ensures { IsTrue result ↔ (tree_of self.now ≡ tree_of other.now) }
     {
@@ -194,7 +198,7 @@ fn are_same_arrays(some: &[Vec<u64>], others: &[Vec<u64>]) -> bool
 }
 
 impl Program {
-    /// Returns whether `self` and `other` are the same program. Stops at the first difference.
+    /// Returns whether `self` and `other` are equal programs. Stops at the first difference.
     fn is_same(&self, other: &Program) -> bool
         ensures { IsTrue result ↔ (source_of self.now ≡ source_of other.now) }
     {

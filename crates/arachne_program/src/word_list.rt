@@ -1,16 +1,16 @@
-//! Lists of up to 6 numbers below 2^32 in 28 bytes, for thread names that then need no allocation.
+//! Lists of up to 6 numbers below 2^32 in 28 bytes, so that thread names of such numbers need no allocation.
 ghost use Rattle.std.specs.Prelude.{◌≡◌, ◌<◌, ◌≤◌, ◌^◌, [], ◌∷◌, ◌++◌, ◌↔◌, length, IfOk, IsTrue, SomeIff};
 
 use std::alloc::{AllocError, Global};
 use std::marker::Model;
 
-/// The maximum length of a list.
+/// The greatest length of a list.
 const ROOM: usize = 6;
 
-/// The lowest number that is too large for a list.
+/// The least number that is too large for a list.
 const TOO_LARGE: u64 = 1 << 32;
 
-/// A list of at most 6 numbers below 2^32. The list takes no memory except for its own 28 bytes.
+/// A list of at most 6 numbers below 2^32, stored in its own 28 bytes without an allocation.
 #[derive(Debug, Drop)]
 pub struct WordList {
     len: u32,
@@ -38,7 +38,7 @@ impl WordList {
         }
     }
 
-    /// Returns the list of the numbers of `bytes`, or `None` if they are more than 6.
+    /// Returns the list of the numbers in `bytes`, or `None` if `bytes` has more than 6.
     pub fn of_bytes(bytes: &[u8]) -> Option<WordList>
         ensures { SomeIff result (length bytes.now ≤ 6) bytes.now }
     {
@@ -56,7 +56,7 @@ impl WordList {
         &self.words[..self.len as usize]
     }
 
-    /// Returns the list with `number` appended. Returns `None` if the list is full or the number is 2^32 or more.
+    /// Returns this list with `number` appended, or `None` if the list is full or `number` is 2^32 or more.
     pub fn with(&self, number: u64) -> Option<WordList>
         ensures { SomeIff result ((length self.now < 6) × (number < 2 ^ 32)) (self.now ++ number ∷ []) }
     {
@@ -72,7 +72,7 @@ impl WordList {
         })
     }
 
-    /// Returns whether this list is `front` with `number` appended.
+    /// Returns whether this list equals `front` with `number` appended.
     pub fn is_longer_by(&self, front: &WordList, number: u64) -> bool
         ensures { IsTrue result ↔ (self.now ≡ front.now ++ number ∷ []) }
     {
@@ -82,7 +82,7 @@ impl WordList {
         }
     }
 
-    /// Returns a `Vec` of the list's numbers and then `number`. It may have more and larger numbers than the list.
+    /// Returns a `Vec` of this list's numbers followed by `number`, which may be 2^32 or more.
     pub fn widened(&self, alloc: Global, number: u64) -> Result<Vec<u64>, AllocError>
         ensures { IfOk result (λ longer. longer.items ≡ self.now ++ number ∷ []) }
     {

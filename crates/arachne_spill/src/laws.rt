@@ -1,4 +1,5 @@
-//! The law that the queue loses no item, and returns none twice. The function does nothing: the law is its contract.
+//! The law that the queue loses no item and returns none twice. The law is the contract of a function with an empty
+//! body.
 ghost use Rattle.std.specs.Prelude.{◌≡◌, ◌≢◌, ℕ, List, [], ◌∷◌, ◌++◌};
 ghost use mathlib.Core.Option.{some};
 ghost use lib.ListN.{get_elem?};
@@ -7,8 +8,8 @@ ghost use Rattle.arachne_weights.specs.declared.token.Token.{Token};
 ghost use Rattle.arachne_spill.specs.declared.pass.Known.{Known};
 ghost use Rattle.arachne_spill.specs.Balance.{IsBalanced, opening_pass, after_push, after_pop, after_split, after_join};
 
-/// Each tag was pushed as often as it was popped or is left in the queue: at the start, and after each atomic operation
-/// by a pass.
+/// For each tag, the pushes equal the pops plus the items with that tag in the queue. This holds at the start, and
+/// after each atomic operation that a pass makes.
 pub fn tags_stay_balanced<T>()
     ensures at_first { (tag_of : T → ℕ) → IsBalanced tag_of [] (opening_pass ∷ []) }
     ensures after_a_push { (tag_of : T → ℕ) (items : List T) (passes : List (Token Known)) → IsBalanced tag_of items passes

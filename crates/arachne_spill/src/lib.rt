@@ -1,9 +1,12 @@
 //! A queue of at most 256 tagged items, which many threads push to and pop from without a lock.
 //!
-//! A run keeps in such a queue the tickets of children that wait for a free place. A thread pushes and pops by a
-//! *pass*, its right to use the queue, in which contracts see the tags that it has pushed and popped. Passes are split
-//! for other threads and joined again, and each has a part of one *weight*. If the pass with the whole weight (the only
-//! one) finds the queue empty, each tag came out as often as it went in.
+//! A run keeps in such a queue an entry (a *ticket*) for each child thread that waits for a free thread slot. A thread
+//! pushes and pops by a *pass*, its right to use the queue. In contracts, a pass records the tags that were pushed and
+//! popped by it.
+//!
+//! A pass can be split for another thread, and passes can be joined again. Each pass has a *weight*, a share of the
+//! first pass's weight. If one pass with the whole weight finds the queue empty, each tag was popped as often as it was
+//! pushed.
 #![tactic(auto)]
 
 mod laws;

@@ -1,22 +1,22 @@
-//! A pass: one thread's right to use a queue, with a record of the tags that it has pushed and popped.
+//! The right of one thread to use a queue, which in contracts records the tags that the thread has pushed and popped.
 use arachne_weights::{Token, Weight};
 use crossbeam_queue::Pass;
 use std::collections::LinkedList;
 use std::marker::Model;
 
-/// The tags that were pushed and popped by a pass, each in order.
+/// The tags that were pushed by a pass, and those that were popped by it, each in order.
 pub struct Known {
     pub pushed: LinkedList<u64>,
     pub popped: LinkedList<u64>,
 }
 
-/// A pass as the queue's invariant sees it. No value of this type is made.
+/// A pass as the queue's invariant sees it. Exists only in contracts; the program makes no value of this type.
 pub type View = Token<Known>;
 
-/// A part of the right to use a queue. Contracts see in it the tags that were pushed and popped by it.
+/// A right to use a queue. In contracts, it records the tags that were pushed and popped by it.
 ///
-/// A pass is used and joined only with its own queue. If a pass is dropped, its weight is lost, and no pass can have
-/// the whole weight any more.
+/// A pass must be used with the queue that it was made for. If a pass is dropped, its weight (its share of the whole
+/// right) is lost, and no pass can have the whole weight again.
 #[derive(Drop)]
 pub struct SpillPass<T> {
     pub(crate) pass: Pass<T, View>,

@@ -1,4 +1,4 @@
-//! The queue of tagged items: threads push items to it and pop them, each with a pass.
+//! A queue of tagged items without locks, to which each thread pushes, and from which it pops, by a pass of its own.
 ghost use Rattle.std.specs.Prelude.{◌≡◌, ◌↔◌, ◌++◌, [], ◌∷◌, ℕ, IfOk, IfErr, OnOk, OnErr, IfSome, IfNone, IsTrue};
 ghost use Rattle.arachne_weights.specs.Weight.{whole, first_part, second_part, joined};
 ghost use Rattle.arachne_spill.specs.Views.{IsPassOf, IsWhole, IsAheadBy, WasSeen, HasCounted, AllCameOut, capacity};
@@ -12,10 +12,10 @@ use std::alloc::{AllocError, Global};
 use std::marker::Model;
 use std::sync::Wait;
 
-/// The number of items for which a queue has room.
+/// The greatest number of items in a queue.
 pub const CAPACITY: usize = 256;
 
-/// A queue of at most 256 items, first in first out.
+/// A first-in, first-out queue of at most 256 items.
 #[derive(Drop)]
 pub struct SpillQueue<T: Tagged + Drop> {
     ring: RuledArrayQueue<T, View, Balanced, Global>,
@@ -33,7 +33,7 @@ impl<T: Tagged + Drop> Model for SpillQueue<T> {
 }
 
 impl<T: Tagged + Drop> SpillQueue<T> {
-    /// Returns an empty queue, and its first pass, which has the whole weight.
+    /// Returns an empty queue, and its first pass, which has the whole weight: it is the only right to use the queue.
     pub fn new(alloc: Global) -> Result<(SpillQueue<T>, SpillPass<T>), AllocError>
         ensures { IfOk result (λ made. made.1 ≡ record { table = made.0.table; weight = whole; pushed = []; popped = [] }) }
     {
@@ -45,10 +45,10 @@ impl<T: Tagged + Drop> SpillQueue<T> {
         Ok((SpillQueue { ring }, pass))
     }
 
-    /// Puts an item at the back. Returns the item if the queue was full at one moment of the call.
+    /// Appends `item` at the back. If the queue was full at some moment of the call, returns `item` as the error.
     ///
-    /// The clauses on a full queue are of use only if the pass has the whole weight (no other pass is in use): nothing
-    /// ties other passes to this queue.
+    /// The contract's clauses on a full queue are useful only for a pass with the whole weight, that is, while no other
+    /// pass is in use.
     pub fn push<R: Wait>(&self, rt: &R, pass: &mut SpillPass<T>, item: T) -> Result<(), T>
         requires own { IsPassOf self.now pass.old }
         ensures pushed { OnOk result (pass.new ≡ record pass.old { pushed = pass.old.pushed ++ T.tag_of item ∷ [] }) }
@@ -60,9 +60,10 @@ impl<T: Tagged + Drop> SpillQueue<T> {
         self.ring.push_as::<Push, R>(rt, &mut pass.pass, item)
     }
 
-    /// Takes the item at the front. Returns `None` if the queue was empty at one moment of the call.
+    /// Removes the item at the front, and returns it. Returns `None` if the queue was empty at some moment of the call.
     ///
-    /// The clauses on an empty queue are of use only if the pass has the whole weight, as with [`SpillQueue::push`].
+    /// The contract's clauses on an empty queue are useful only for a pass with the whole weight, as for
+    /// [`SpillQueue::push`].
     pub fn pop<R: Wait>(&self, rt: &R, pass: &mut SpillPass<T>) -> Option<T>
         requires own { IsPassOf self.now pass.old }
         ensures popped { IfSome result (λ item. pass.new ≡ record pass.old { popped = pass.old.popped ++ T.tag_of item ∷ [] }) }
@@ -73,9 +74,11 @@ impl<T: Tagged + Drop> SpillQueue<T> {
         self.ring.pop_as::<Pop, R>(rt, &mut pass.pass)
     }
 
-    /// Returns the number of items in the queue at one moment of the call. The call reads again as long as others push.
+    /// Returns the number of items that were in the queue at some moment of the call. Reads the queue again as long as
+    /// other threads push.
     ///
-    /// The clauses on the number are of use only if the pass has the whole weight, as with [`SpillQueue::push`].
+    /// The contract's clauses on this number are useful only for a pass with the whole weight, as for
+    /// [`SpillQueue::push`].
     pub fn len<R: Wait>(&self, rt: &R, pass: &mut SpillPass<T>) -> usize
         requires own { IsPassOf self.now pass.old }
         ensures same { pass.new ≡ pass.old }
@@ -86,7 +89,7 @@ impl<T: Tagged + Drop> SpillQueue<T> {
         self.ring.len_as::<Push, R>(rt, &mut pass.pass)
     }
 
-    /// Returns whether the queue was full at one moment of the call, by [`SpillQueue::len`].
+    /// Returns whether the queue was full at some moment of the call, by means of [`SpillQueue::len`].
     pub fn is_full<R: Wait>(&self, rt: &R, pass: &mut SpillPass<T>) -> bool
         requires own { IsPassOf self.now pass.old }
         ensures same { pass.new ≡ pass.old }
@@ -95,7 +98,7 @@ impl<T: Tagged + Drop> SpillQueue<T> {
         self.len(rt, pass) == CAPACITY
     }
 
-    /// Returns whether the queue was empty at one moment of the call, by [`SpillQueue::len`].
+    /// Returns whether the queue was empty at some moment of the call, by means of [`SpillQueue::len`].
     pub fn is_empty<R: Wait>(&self, rt: &R, pass: &mut SpillPass<T>) -> bool
         requires own { IsPassOf self.now pass.old }
         ensures same { pass.new ≡ pass.old }
@@ -105,8 +108,10 @@ impl<T: Tagged + Drop> SpillQueue<T> {
         self.len(rt, pass) == 0
     }
 
-    /// Splits a pass in two, each with half of its weight, rounded up for the first, which keeps the tags. A pass of
-    /// weight 1 or 0 gives two of weight 0.
+    /// Splits a pass in two, so that another thread can use the queue too. The first one keeps the record of tags.
+    ///
+    /// Each gets half of the weight, rounded up for the first and down for the second. But a pass of weight 1 or 0
+    /// gives two of weight 0.
     pub fn split<R: Wait>(&self, _rt: &R, pass: SpillPass<T>) -> (SpillPass<T>, SpillPass<T>)
         requires own { IsPassOf self.now pass }
         ensures first { result.0 ≡ record pass { weight = first_part pass.weight } }
@@ -127,7 +132,8 @@ impl<T: Tagged + Drop> SpillQueue<T> {
         )
     }
 
-    /// Joins two passes: adds up their weights, to at most the whole, and their tags.
+    /// Joins two passes into one, with the tags of both. Its weight is the sum of their weights, at most the whole
+    /// weight.
     pub fn join_passes<R: Wait>(
         &self,
         _rt: &R,
@@ -150,7 +156,7 @@ impl<T: Tagged + Drop> SpillQueue<T> {
         }
     }
 
-    /// Returns whether all other passes were joined into this one.
+    /// Returns whether `pass` has the whole weight, because all other passes were joined into it.
     pub fn is_whole(&self, pass: &SpillPass<T>) -> bool
         ensures { IsTrue result ↔ IsWhole pass.now }
     {

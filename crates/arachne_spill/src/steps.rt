@@ -1,9 +1,9 @@
-//! The invariant of the queue, and the kinds of atomic operation on it. These types are only for proofs.
+//! The invariant of the queue, and the kinds of atomic operation on it. These types exist only for proofs.
 use crate::pass::View;
 use arachne_contexts::Tagged;
 use crossbeam_queue::protocol::{Join, Lesson, Outcome, Protocol, Split};
 
-/// The invariant: each tag was pushed as often as it was popped or is left in the queue.
+/// The invariant: for each tag, the pushes equal the pops plus the items with that tag in the queue.
 pub struct Balanced;
 
 impl<T: Tagged> Protocol<T, View> for Balanced {

@@ -1,4 +1,4 @@
-//! Reads the lines of a program's arrays.
+//! Parses the lines of a program's text that define its arrays.
 ghost use Rattle.std.specs.Prelude.{[], map};
 ghost use Rattle.arachne_lang.specs.Reading.{Gives, items_at, arrays_at};
 
@@ -7,7 +7,7 @@ use super::stop::Stop;
 use super::words::word;
 use std::alloc::Global;
 
-/// Returns the arrays of the lines at the front of the text, and the text behind those lines.
+/// Parses the array lines at the front of `text`. Returns the arrays, and the text after those lines.
 pub fn array_lines(alloc: Global, text: &[u8]) -> Result<(Vec<Vec<u64>>, &[u8]), Stop<'_>>
     ensures { Gives (λ read. (map (λ array. array.items) read.0.items, read.1.now)) result (arrays_at [] text.now) }
 {
@@ -22,7 +22,8 @@ pub fn array_lines(alloc: Global, text: &[u8]) -> Result<(Vec<Vec<u64>>, &[u8]),
     Ok((arrays, rest))
 }
 
-/// Returns the items of an array, each after a space, and the text behind their newline.
+/// Parses the items of one array, each after a space, up to the end of the line. Returns the items, and the text after
+/// the line.
 fn items(alloc: Global, text: &[u8]) -> Result<(Vec<u64>, &[u8]), Stop<'_>>
     ensures { Gives (λ read. (read.0.items, read.1.now)) result (items_at [] text.now) }
 {

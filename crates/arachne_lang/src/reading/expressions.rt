@@ -1,4 +1,4 @@
-//! Reads an expression: a number, or a keyword with its parts in brackets.
+//! Parses an expression: a keyword with its parts in brackets.
 ghost use Rattle.arachne_lang.specs.declared.reading.heads.Head.TheVariants as head;
 ghost use Rattle.std.specs.Prelude.{ℕ, List};
 ghost use Rattle.arachne_program.specs.Tree.{Tree};
@@ -12,7 +12,8 @@ use super::words::word;
 use arachne_program::{Class, Expr, Operation, Reduction};
 use std::alloc::Global;
 
-/// Returns the expression at the front of the text, of at most `levels` levels, and the text behind it.
+/// Parses the expression at the front of `text`, nested at most `levels` levels deep. Returns the expression, and the
+/// text after it.
 #[cycle(expression)]
 pub fn expression(alloc: Global, levels: u8, text: &[u8]) -> Result<(Expr, &[u8]), Stop<'_>>
     ensures { Gives (λ read. (tree_of read.0, read.1.now)) result (expression_at levels text.now) }
@@ -26,8 +27,8 @@ pub fn expression(alloc: Global, levels: u8, text: &[u8]) -> Result<(Expr, &[u8]
     form(alloc, levels - 1, rest)
 }
 
-/// Returns the expression at the front of the text, of at most `levels` levels, and the text behind `end`, which must
-/// follow the expression.
+/// Parses the expression at the front of `text`, nested at most `levels` levels deep, and then the bytes `end`. Returns
+/// the expression, and the text after `end`.
 #[cycle(expression)]
 #[tactic(auto, unfolding(crate::specs::Reading::part_at))]
 fn part<'t>(
@@ -44,8 +45,8 @@ fn part<'t>(
     Ok((part, rest))
 }
 
-/// Returns the expression whose opening bracket was just read, and the text behind its closing bracket. Its parts have
-/// at most `levels` levels.
+/// Parses the rest of an expression whose opening bracket was just parsed, with parts nested at most `levels` levels
+/// deep. Returns the expression, and the text after its closing bracket.
 #[cycle(expression)]
 #[tactic(auto, unfolding(crate::specs::Reading::form_at))]
 fn form(alloc: Global, levels: u8, text: &[u8]) -> Result<(Expr, &[u8]), Stop<'_>>

@@ -1,11 +1,11 @@
-//! Reads the keyword of an expression, which says what kind of expression it is.
+//! Parses the keyword of an expression, which determines the kind of expression.
 ghost use Rattle.arachne_lang.specs.Reading.{Gives, Behind, End, words_at, form_words, words_in_f, words_in_i, words_in_l, words_in_m, words_in_s, words_of_sweeps, sweeps_in_m};
 
 use super::stop::Stop;
 use super::words::word;
 use arachne_program::{Class, Operation, Reduction};
 
-/// The kind of an expression, by its keyword.
+/// The kind of an expression, which its keyword determines.
 #[derive(Clone, Copy)]
 pub enum Head {
     Num,
@@ -22,11 +22,10 @@ pub enum Head {
     Sweep(Reduction),
 }
 
-/// Returns the kind of expression whose keyword is at the front of the text with a space after it, and the text after
-/// that space.
+/// Parses the keyword at the front of `text`, and the space after it. Returns the kind of expression, and the text
+/// after the space.
 ///
-/// If no keyword matches, the fault is at the first byte at which the text differs from the last keyword that was
-/// tried.
+/// If no keyword matches, the error is at the first byte that differs from the keyword that was tried last.
 #[tactic(auto, unfolding(crate::specs::Reading::form_words))]
 pub fn head_word(text: &[u8]) -> Result<(Head, &[u8]), Stop<'_>>
     ensures { Gives (λ read. (read.0, read.1.now)) result (words_at form_words text.now) }
@@ -47,7 +46,7 @@ pub fn head_word(text: &[u8]) -> Result<(Head, &[u8]), Stop<'_>>
     }
 }
 
-/// Returns `head` and the text after `letters`, the remaining letters of its keyword.
+/// Parses `letters`, the remaining letters of the keyword of `head`. Returns `head`, and the text after those letters.
 fn ending<'t>(text: &'t [u8], letters: &[u8], head: Head) -> Result<(Head, &'t [u8]), Stop<'t>>
     ensures { Gives (λ read. (read.0, read.1.now)) result (words_at (Behind letters.now (End head)) text.now) }
 {
@@ -117,7 +116,7 @@ fn behind_s(text: &[u8]) -> Result<(Head, &[u8]), Stop<'_>>
     }
 }
 
-/// Reads the keyword of a sweep's reduction.
+/// Parses the second keyword of a sweep (a parallel reduction), which determines its reduction.
 #[tactic(auto, unfolding(crate::specs::Reading::words_of_sweeps))]
 fn reduction(text: &[u8]) -> Result<(Head, &[u8]), Stop<'_>>
     ensures { Gives (λ read. (read.0, read.1.now)) result (words_at words_of_sweeps text.now) }

@@ -1,11 +1,11 @@
-//! Reads a number up to a limit.
+//! Parses a decimal number up to a limit.
 ghost use Rattle.std.specs.Prelude.{◌+◌, ◌*◌, ◌^◌, ◌<◌, ◌≤◌, length, IfOk};
 ghost use Rattle.arachne_lang.specs.Reading.{Gives, digits_at, figures_at, number_at};
 
 use super::stop::Stop;
 use super::words::word;
 
-/// Returns the number at the front of the text, and the text after `end`, which must follow the number.
+/// Parses the number at the front of `text`, and then the bytes `end`. Returns the number, and the text after `end`.
 #[tactic(auto, unfolding(crate::specs::Reading::number_at))]
 pub fn number<'t>(text: &'t [u8], end: &[u8]) -> Result<(u64, &'t [u8]), Stop<'t>>
     ensures { Gives (λ read. (read.0, read.1.now)) result (number_at (2 ^ 64) end.now text.now) }
@@ -15,7 +15,8 @@ pub fn number<'t>(text: &'t [u8], end: &[u8]) -> Result<(u64, &'t [u8]), Stop<'t
     Ok((value, rest))
 }
 
-/// Returns the number up to 255 at the front of the text, and the text after `end`, which must follow the number.
+/// Parses the number at the front of `text`, which must be at most 255, and then the bytes `end`. Returns the number,
+/// and the text after `end`.
 #[tactic(auto, unfolding(crate::specs::Reading::number_at))]
 pub fn small_number<'t>(text: &'t [u8], end: &[u8]) -> Result<(u8, &'t [u8]), Stop<'t>>
     ensures { Gives (λ read. (read.0, read.1.now)) result (number_at 256 end.now text.now) }
@@ -25,7 +26,8 @@ pub fn small_number<'t>(text: &'t [u8], end: &[u8]) -> Result<(u8, &'t [u8]), St
     Ok((value as u8, rest))
 }
 
-/// Returns the number at the front of the text, which must be at most `greatest`, and the text after its digits.
+/// Parses the number at the front of `text`, which must be at most `greatest`. Returns the number, and the text after
+/// its digits.
 pub fn figures(greatest: u64, text: &[u8]) -> Result<(u64, &[u8]), Stop<'_>>
     requires { 9 ≤ greatest }
     ensures read { Gives (λ read. (read.0, read.1.now)) result (figures_at (greatest + 1) text.now) }
@@ -39,8 +41,8 @@ pub fn figures(greatest: u64, text: &[u8]) -> Result<(u64, &[u8]), Stop<'_>>
     }
 }
 
-/// Returns the number whose first digits have the value `value` and whose other digits are at the front of the text,
-/// and the text after those digits.
+/// Parses the remaining digits of a number whose digits so far have the value `value`. Returns the number, which must
+/// be at most `greatest`, and the text after its digits.
 fn digits(greatest: u64, value: u64, text: &[u8]) -> Result<(u64, &[u8]), Stop<'_>>
     requires { value ≤ greatest }
     ensures read { Gives (λ read. (read.0, read.1.now)) result (digits_at (greatest + 1) value text.now) }

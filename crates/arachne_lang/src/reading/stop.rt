@@ -1,27 +1,28 @@
-//! The error of a reading function, which has the rest of the text, and its conversion to an error with a byte index.
+//! The error of a parsing function, which has the text from the error on, and its conversion to an error with a byte
+//! index.
 ghost use Rattle.std.specs.Prelude.{◌≡◌};
 ghost use Rattle.arachne_lang.specs.declared.reading.stop.Stop.TheVariants.{Memory};
 
 use crate::text_fault::TextFault;
 use std::alloc::AllocFailed;
 
-/// The error of a reading function. If it is a fault of the text, it has the text from the fault on.
+/// The error of a parsing function. An error in the text carries the text from that byte on.
 #[derive(Clone, Copy)]
 pub enum Stop<'t> {
-    /// Memory was refused.
+    /// Memory was refused, which says nothing about the text.
     Memory,
-    /// The text breaks the grammar, or ends before it should.
+    /// At the front of this text the grammar is broken, or the text ends too early.
     Departs(&'t [u8]),
-    /// A digit brings a number over its range.
+    /// The digit at the front of this text takes a number out of its range.
     Overflows(&'t [u8]),
-    /// An opening bracket is nested too deep.
+    /// The opening bracket at the front of this text is nested too deep.
     TooDeep(&'t [u8]),
 }
 
 impl<'t> Stop<'t> {
     ghost use Rattle.arachne_lang.specs.Reading.{fault_within};
 
-    /// Returns this error with the index of its byte in the whole `text`.
+    /// Converts this error to one with a byte index into the whole text `text`.
     pub fn fault(self, text: &[u8]) -> TextFault
         ensures { result ≡ fault_within text.now self.entry }
     {

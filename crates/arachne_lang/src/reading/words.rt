@@ -1,10 +1,10 @@
-//! Checks that a given word is at the front of the text, and returns the text after it.
+//! Checks that a text begins with a given word.
 ghost use Rattle.std.specs.Prelude.{◌≢◌, IfErr};
 ghost use Rattle.arachne_lang.specs.Reading.{Gives, word_at};
 
 use super::stop::Stop;
 
-/// Returns the text behind `word`, with which the text must begin.
+/// Parses `word` at the front of `text`. Returns the text after `word`.
 pub fn word<'t>(text: &'t [u8], word: &[u8]) -> Result<&'t [u8], Stop<'t>>
     ensures read { Gives (λ rest. rest.now) result (word_at word.now text.now) }
     ensures takes_no_memory { IfErr result (λ stop. stop ≢ Stop.Memory) }
