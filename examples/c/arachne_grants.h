@@ -26,46 +26,47 @@ extern "C" {
 enum {
     /* The call succeeded. */
     ARACHNE_GRANTS_DONE = 0,
-    /* The handle is empty, or is in use although it must be empty, or the event is not allowed now. Nothing has
-     * changed. */
+    /* The call was refused, and has changed nothing: the handle is empty, or is in use although it must be
+     * empty, or this event is not allowed now. */
     ARACHNE_GRANTS_REFUSED = 1,
-    /* Memory was refused. Nothing has changed. */
+    /* The allocator refused memory. Nothing has changed. */
     ARACHNE_GRANTS_NO_MEMORY = 2,
-    /* A client begins. */
+    /* The message by which a client introduces itself. */
     ARACHNE_GRANTS_HELLO = 3,
-    /* A kernel thread joins its client. */
+    /* The message by which a kernel thread joins its client. */
     ARACHNE_GRANTS_JOIN = 4,
-    /* A thread gives its core back, if it has one, and waits for another core. */
+    /* The message by which a thread gives its core back, if it has one, and waits for another core. */
     ARACHNE_GRANTS_WAIT = 5,
-    /* A client asks for a number of cores. */
+    /* The message by which a client asks for a number of cores. */
     ARACHNE_GRANTS_ASK = 6,
-    /* There are fewer bytes than a message has. */
+    /* The bytes are fewer than a message has. */
     ARACHNE_GRANTS_SHORT = 7,
-    /* The kind of message is unknown. */
+    /* The message is of an unknown kind. */
     ARACHNE_GRANTS_KIND = 8,
     /* The client speaks another version of the protocol. */
     ARACHNE_GRANTS_VERSION = 9,
     /* The priority is out of range. */
     ARACHNE_GRANTS_PRIORITY = 10,
-    /* The place is out of range. */
+    /* The thread's number, `place`, is out of range. */
     ARACHNE_GRANTS_PLACE = 11,
-    /* A number that the message does not use is not 0. */
+    /* A field that this kind of message does not use is not 0. */
     ARACHNE_GRANTS_UNUSED = 12,
     /* There is nothing to do. */
     ARACHNE_GRANTS_NOTHING = 13,
     /* The core was taken from the thread: move the thread away from the core. */
     ARACHNE_GRANTS_TAKEN = 14,
-    /* The core was given to the thread, which floats: move the thread to the core. */
+    /* The core was given to the thread, which floats (it doesn't wait for cores): move the thread to the core. */
     ARACHNE_GRANTS_PLACED = 15,
-    /* The core was given to the thread, which waited: move the thread to the core, and notify the thread. */
+    /* The core was given to the thread, which waited for one: move the thread to the core, and notify the
+     * thread. */
     ARACHNE_GRANTS_GRANTED = 16,
 };
 
 /* ---- Messages */
 
-/* A message of a client. Fields that the message does not use are 0. */
+/* A message from a client. Fields that this kind of message does not use are 0. */
 typedef struct {
-    /* HELLO, JOIN, WAIT or ASK if the bytes begin with such a message; otherwise the code of the reason why they
+    /* HELLO, JOIN, WAIT or ASK if the bytes begin with such a message; otherwise the code that says why they
      * don't. */
     uint32_t code;
     uint32_t priority;
@@ -78,23 +79,23 @@ typedef struct {
     bool floats;
 } arachne_message;
 
-/* Reads the message at the beginning of the bytes.
+/* Reads the message at the beginning of `bytes`.
  *
  * Returns HELLO, JOIN, WAIT or ASK; SHORT if there are fewer than 16 bytes; otherwise KIND, VERSION, PRIORITY,
- * PLACE or UNUSED, by the first of the message's four numbers that is not valid.
+ * PLACE or UNUSED, for the first of the message's four numbers that is not valid.
  *
  * Threads: safe beside any call, if nobody writes to `bytes` meanwhile. */
 arachne_message arachne_message_read(const uint8_t *bytes, size_t bytes_count);
 
 /* ---- The arbiter */
 
-/* An arbiter in C's layout: one pointer, which is null if there is no arbiter. Begin with ARACHNE_ARBITER_NULL. */
+/* C's handle on an arbiter: one pointer, which is null if the handle is empty. Begin with ARACHNE_ARBITER_NULL. */
 typedef struct {
     void *opaque;
 } arachne_arbiter;
 #define ARACHNE_ARBITER_NULL {0}
 
-/* The action that the caller must take on a thread. Fields that the action does not use are 0. */
+/* The action that the caller must take on a thread. Fields that this action does not use are 0. */
 typedef struct {
     /* TAKEN, PLACED, GRANTED or NOTHING, or REFUSED if the handle is empty. */
     uint32_t code;
@@ -111,23 +112,23 @@ typedef struct {
     uint32_t held;
 } arachne_share;
 
-/* Makes an arbiter of the cores 0 to `cores` - 1, without clients, in an empty handle.
+/* Creates an arbiter of the cores 0 to `cores` - 1, without clients, in `arbiter`, which must be empty.
  *
  * Returns DONE; REFUSED if the handle is in use, or if `cores` is greater than 1,024; NO_MEMORY.
  *
  * Threads: safe beside calls with other handles; two at once with `arbiter` are undefined behaviour. */
 uint32_t arachne_arbiter_new(arachne_arbiter *arbiter, uint32_t cores);
 
-/* Frees the arbiter of a handle, if it has one.
+/* Frees the arbiter of a handle, if it has one, and leaves the handle empty.
  *
  * Threads: safe beside calls with other handles; two at once with `arbiter` are undefined behaviour. */
 void arachne_arbiter_close(arachne_arbiter *arbiter);
 
-/* Adds a client with its priority (0 goes first), the cores that it reserves, and the most cores that it may ask
- * for.
+/* Adds a client with its priority (0 is the highest), the cores that it reserves, and the most cores that it may
+ * ask for.
  *
- * `client`, the client's number, must be from 0 to 63, and no other client's. Returns DONE or REFUSED. The
- * caller must check that the client is entitled to this priority and these cores.
+ * `client`, the client's number, must be from 0 to 63 and not in use. Returns DONE or REFUSED. The caller must
+ * check that the client is entitled to this priority and these cores.
  *
  * Threads: safe beside calls with other handles; two at once with `arbiter` are undefined behaviour. */
 uint32_t arachne_arbiter_hello(arachne_arbiter *arbiter, size_t client, uint8_t priority, uint32_t reserved, uint32_t most);
@@ -142,33 +143,34 @@ uint32_t arachne_arbiter_ask(arachne_arbiter *arbiter, size_t client, uint32_t c
  * Threads: safe beside calls with other handles; two at once with `arbiter` are undefined behaviour. */
 uint32_t arachne_arbiter_leave(arachne_arbiter *arbiter, size_t client);
 
-/* Adds a thread to a client, at a free place from 0 to 63. A thread that floats never waits. Returns DONE or
- * REFUSED.
+/* Adds a thread to a client, with a number `place` from 0 to 63 that is free. A thread that floats never waits
+ * for a core. Returns DONE or REFUSED.
  *
  * Threads: safe beside calls with other handles; two at once with `arbiter` are undefined behaviour. */
 uint32_t arachne_arbiter_join(arachne_arbiter *arbiter, size_t client, size_t place, bool floats);
 
-/* Takes the core from a thread, if it has one, and lets the thread wait until a core is granted to it.
+/* Takes the core from a thread, if it has one, and makes the thread wait until a core is granted to it.
  *
- * Returns DONE, or REFUSED if the thread floats or waits already, or does not exist.
+ * Returns DONE, or REFUSED if the thread floats, already waits, or does not exist.
  *
  * Threads: safe beside calls with other handles; two at once with `arbiter` are undefined behaviour. */
 uint32_t arachne_arbiter_wait(arachne_arbiter *arbiter, size_t client, size_t place);
 
-/* Removes a thread. Returns DONE, or REFUSED if the client's number or the thread's place is greater than 63.
+/* Removes a thread. Returns DONE, or REFUSED if the number of the client or of the thread is greater than 63.
  *
  * Threads: safe beside calls with other handles; two at once with `arbiter` are undefined behaviour. */
 uint32_t arachne_arbiter_end(arachne_arbiter *arbiter, size_t client, size_t place);
 
-/* Computes again how many cores each client may have, from what all clients ask for now. Returns DONE or
- * REFUSED.
+/* Computes anew how many cores each client may have, from the numbers that all clients ask for now. Returns DONE
+ * or REFUSED.
  *
  * Threads: safe beside calls with other handles; two at once with `arbiter` are undefined behaviour. */
 uint32_t arachne_arbiter_decide(arachne_arbiter *arbiter);
 
-/* Takes a core from a client that has more cores than it may have: from its last thread that has a core.
+/* Takes a core from a client that has more cores than it may have, namely from its last thread that has a core.
  *
- * If that thread floats, the core is taken at once, otherwise only if `late` is set. Returns TAKEN or NOTHING.
+ * If that thread floats, its core is taken at once; otherwise only if `late` is true, which means that the
+ * client hasn't given a core back in time. Returns TAKEN or NOTHING.
  *
  * Threads: safe beside calls with other handles; two at once with `arbiter` are undefined behaviour. */
 arachne_action arachne_arbiter_take_back(arachne_arbiter *arbiter, size_t client, bool late);
@@ -180,8 +182,7 @@ arachne_action arachne_arbiter_take_back(arachne_arbiter *arbiter, size_t client
  * Threads: safe beside calls with other handles; two at once with `arbiter` are undefined behaviour. */
 arachne_action arachne_arbiter_give(arachne_arbiter *arbiter);
 
-/* Returns the number of cores that a client may have, and the number that it has; 0 and 0 if the handle is
- * empty.
+/* Returns how many cores a client may have, and how many it has. Both are 0 if the handle is empty.
  *
  * Threads: safe beside calls with other handles; two at once with `arbiter` are undefined behaviour. */
 arachne_share arachne_arbiter_share(arachne_arbiter *arbiter, size_t client);

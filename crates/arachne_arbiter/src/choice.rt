@@ -1,20 +1,20 @@
-//! Picks the core on which a worker first tries to claim a place for a new thread: the emptier of two random cores.
+//! Picks the core on which a worker first tries to claim a slot for a new thread: the emptier of two random cores.
 ghost use Rattle.std.specs.Prelude.{◌≡◌, ◌<◌, ◌≤◌, ◌↔◌, length, IfSome, IsTrue};
 ghost use Rattle.arachne_arbiter.specs.Choice.{core_chosen, HasPlace, is_candidate_at, loads_of};
 
 use arachne_core::{CORES, OccWord, SLOTS};
 use arachne_policy::{CoreLoad, two_choices};
 
-/// Returns whether a core is open for threads that share it: no order has closed it, and no thread has it exclusively.
+/// Returns whether threads may share a core: no order has closed it, and no thread has it for itself.
 fn is_candidate(occupancy: OccWord) -> bool
     ensures { result ≡ is_candidate_at occupancy }
 {
     !occupancy.is_closed() && !occupancy.is_exclusive()
 }
 
-/// Returns whether a core of `slots` places has a place for a thread that shares the core.
+/// Returns whether a core with `slots` thread slots has room for a thread that shares the core.
 ///
-/// The core has such a place if it is open, no thread has it exclusively, and one of its places is free.
+/// The core has room if it is open, no thread has it for itself, and one of its slots is free.
 pub fn has_place(occupancy: OccWord, slots: u8) -> bool
     requires { slots ≤ SLOTS }
     ensures { IsTrue result ↔ HasPlace slots occupancy }
@@ -22,11 +22,10 @@ pub fn has_place(occupancy: OccWord, slots: u8) -> bool
     is_candidate(occupancy) && occupancy.lowest_free_below(slots).is_some()
 }
 
-/// Draws two cores by the random `word` from those that take threads which share a core, and returns the core with
-/// fewer threads of the two.
+/// Draws two cores by the random `word` from those that threads may share, and returns the one with fewer threads.
 ///
-/// `occupancies` has the occupancy word (which places are occupied, as bits) of each core, from core 0 on. A core takes
-/// such threads if it is open and no thread has it exclusively. Returns `None` if there is no such core.
+/// `occupancies` has the occupancy word (a bit for each occupied thread slot) of each core, from core 0 on. Threads may
+/// share a core if it is open and no thread has it for itself. Returns `None` if there is no such core.
 pub fn first_core(word: u64, occupancies: &[OccWord]) -> Option<u8>
     requires { length occupancies.now ≤ CORES }
     ensures chosen { result ≡ core_chosen word (loads_of occupancies.now (length occupancies.now)) }

@@ -1,4 +1,4 @@
-//! Reads, for a kernel thread, which places of each core are occupied, and which cores are closed.
+//! Reads, for a kernel thread, which thread slots of each core are occupied, and which cores are closed.
 ghost use Rattle.std.specs.Prelude.{◌≡◌, ◌<◌, ◌≤◌};
 ghost use Rattle.arachne_core.specs.declared.layout.TheConstants.{CORES, SLOTS};
 ghost use Rattle.arachne_contexts.specs.Out.{KeepsOut};
@@ -8,16 +8,16 @@ use arachne_core::{CORES, OccWord};
 use std::marker::PhantomData;
 use std::sync::Wait;
 
-/// A context table with its number of cores and of places per core, as a kernel thread uses it.
+/// A context table, which stores user threads, with its number of cores and of thread slots per core.
 #[derive(Drop)]
 pub struct Cores<'a, H, T, C: Seats> {
     pub rt: &'a H,
     pub table: &'a C,
-    /// The number of the table's cores, 1 to 64.
+    /// The number of the table's cores, from 1 to 64.
     pub count: u8,
-    /// The number of places of each core, 1 to 56.
+    /// The number of thread slots of each core, from 1 to 56.
     pub slots: u8,
-    /// The type of the values in the table's contexts.
+    /// The type of the threads' values in the table.
     pub of: PhantomData<T>,
     ghost counted: { C.core_count table.now ≡ count },
     ghost few: { count ≤ CORES },
@@ -26,7 +26,8 @@ pub struct Cores<'a, H, T, C: Seats> {
 }
 
 impl<'a, H: Wait, T: Tagged, C: Contexts<T>> Cores<'a, H, T, C> {
-    /// Returns the occupancy of a core: its occupied indexes, and whether it is closed or exclusive to one thread.
+    /// Returns the occupancy of a core: its occupied thread slots, whether it is closed, and whether one thread has it
+    /// for itself.
     pub(crate) fn look(&self, seat: &mut C::Seat, core: u8) -> OccWord
         requires seat { C.sits self.now.table.now seat.old }
         requires core { core < self.now.count }

@@ -9,18 +9,18 @@ use arachne_core::Place;
 use std::alloc::{AllocError, Global};
 use std::sync::Wait;
 
-/// The closed cores that may still have threads, and the core among them from which threads were moved away last.
+/// The closed cores that may still have threads. `last` is the core from which threads were moved last.
 #[derive(Debug, Drop)]
 pub(crate) struct Draining {
     waiting: Vec<bool>,
     last: u8,
-    // True only if no core must be drained. It may be false although none must be drained.
+    // True only if no core must be drained. It may be false even then.
     settled: bool,
     ghost rests: { IsSettled settled waiting.items },
 }
 
 impl Draining {
-    /// Creates the record for `cores` cores, all of them open. The error is a refusal of memory.
+    /// Creates the record for `cores` cores, all of them open. Returns `Err` if memory is refused.
     pub(crate) fn new(alloc: Global, cores: u8) -> Result<Draining, AllocError>
         ensures { IfOk result (λ draining. draining.waiting.items ≡ replicate cores false) }
     {
@@ -32,7 +32,7 @@ impl Draining {
         })
     }
 
-    /// Adds a core that was closed, and must be drained.
+    /// Adds a core that was closed, and whose threads must be moved away.
     pub(crate) fn start(&mut self, core: u8)
         requires { core < vec_len self.old.waiting }
         ensures { self.new.waiting.items ≡ slice_set self.old.waiting.items core true }
@@ -49,9 +49,10 @@ impl Draining {
         self.waiting[usize::from(core)] = false;
     }
 
-    /// Moves threads away from one of the cores that must be drained; the next call takes the next core.
+    /// Moves threads away from one of the cores that must be drained. The next call takes the next such core.
     ///
-    /// Adds to `receivers` the cores to which threads were moved. Reads no core's state if none must be drained.
+    /// Adds to `receivers` a bit for each core to which threads were moved. If no core must be drained, reads no core's
+    /// state.
     pub(crate) fn round<H: Wait, T: Tagged, C: Contexts<T>>(
         &mut self,
         cores: &Cores<'_, H, T, C>,
@@ -78,7 +79,7 @@ impl Draining {
         }
     }
 
-    /// Returns the core from which threads are moved next, or `None` if no closed core may have a thread.
+    /// Returns the core from which threads are to be moved next, or `None` if no closed core may have a thread.
     fn next_core(&mut self, cores: u8) -> Option<u8>
         requires { vec_len self.old.waiting ≡ cores }
         ensures next { IfSome result (λ core. (core < cores) × (slice_index_or self.old.waiting.items core false ≡ true)) }
@@ -99,11 +100,12 @@ impl Draining {
 }
 
 impl<'a, H: Wait, T: Tagged, C: Contexts<T>> Cores<'a, H, T, C> {
-    /// Moves the threads that no worker holds from a closed core to other cores. Returns whether the core was empty.
+    /// Moves the threads that no worker holds from the closed core `core` to other cores. Returns whether the core was
+    /// empty.
     ///
-    /// A thread goes to the first other core, in ascending order, that has room, and that core is added to `receivers`.
-    /// A thread stays, for a later call, if a worker holds it, if it was not put at its place yet, if another call
-    /// changed the place meanwhile, or if no core has room.
+    /// A thread goes to the first other core, in ascending order, that has room; that core's bit is set in `receivers`.
+    /// A thread stays, for a later call, if a worker holds it, if it is not yet in the slot that was claimed for it, if
+    /// another call changed the slot meanwhile, or if no core has room.
     pub(crate) fn move_away(&self, seat: &mut C::Seat, core: u8, receivers: &mut u64) -> bool
         requires seat { C.sits self.now.table.now seat.old }
         requires core { core < self.now.count }
@@ -130,9 +132,10 @@ impl<'a, H: Wait, T: Tagged, C: Contexts<T>> Cores<'a, H, T, C> {
         false
     }
 
-    /// Moves the thread at a place to the first other core, from `from` on, that has room.
+    /// Moves the thread at `place` to the first other core, from core `from` on, that has room.
     ///
-    /// Adds that core to `receivers`. Returns the core to try first for the next thread: those before it have no room.
+    /// Sets that core's bit in `receivers`. Returns the core to try first for the next thread: the cores before it have
+    /// no room.
     fn move_from(&self, seat: &mut C::Seat, place: Place, from: u8, receivers: &mut u64) -> u8
         requires seat { C.sits self.now.table.now seat.old }
         requires core { place.core < self.now.count }

@@ -1,8 +1,8 @@
-//! Closes and opens cores of a context table while its threads run, and finds places for new threads.
+//! Closes and opens cores of a context table while its threads run, and finds slots for new threads.
 //!
-//! An *order* closes or opens one core once a given number of slices (a thread's steps at a time) have ended. The crate
-//! applies orders, moves the threads of closed cores to other cores, parks the kernel thread of a closed core until the
-//! core is opened again, and chooses the core of a new thread.
+//! An *order* closes or opens one core after a given number of slices have ended; a slice is some steps of one thread.
+//! The crate carries out orders, moves the threads of closed cores to other cores, parks the kernel thread of a closed
+//! core until the core is opened again, and chooses the core of a new thread.
 #![tactic(auto)]
 
 mod arbiter;

@@ -1,4 +1,4 @@
-//! Orders to close a core or to open it again, which a run or a pool carries out one after another.
+//! Orders to close a core or to open it again, which are carried out one after another.
 ghost use Rattle.std.specs.Prelude.{◌≡◌, ◌+◌, ◌<◌, ◌≤◌, ◌↔◌, length, IsTrue, IfOk, IfSome, MatchOption};
 ghost use Rattle.arachne_core.specs.declared.layout.TheConstants.{CORES};
 ghost use Rattle.arachne_policy.specs.Orders.{AreInOrder};
@@ -18,10 +18,9 @@ pub enum Effect {
     Nothing,
 }
 
-/// A list of orders to open or close cores, how many of them the arbiter has carried out, and which cores these have
-/// closed.
+/// A list of orders to open or close cores, the number of them that were carried out, and which cores are closed now.
 ///
-/// Contracts see the list, the number of cores, and the number of orders that the arbiter has carried out.
+/// Contracts describe it by the list, the number of cores, and the number of orders that were carried out.
 #[derive(Debug, Drop)]
 pub struct Orders {
     list: Vec<CoreOrder>,
@@ -45,7 +44,7 @@ impl Orders {
 
     /// Creates the orders of `list`, none of them carried out yet, for `cores` cores, all of them open.
     ///
-    /// The error is a refusal of memory.
+    /// Returns `Err` if memory is refused.
     pub fn new(alloc: Global, list: Vec<CoreOrder>, cores: u8) -> Result<Orders, AllocError>
         requires orders { AreInOrder cores list.items }
         requires cores { cores ≤ CORES }
@@ -74,7 +73,7 @@ impl Orders {
         self.applied == self.list.len()
     }
 
-    /// Returns whether this core is closed by the orders that were carried out.
+    /// Returns whether the orders that were carried out have left this core closed.
     pub fn has_closed(&self, core: u8) -> bool
         requires { core < self.now.cores }
         ensures { result ≡ is_closed_after self.now.list self.now.applied core }
@@ -82,9 +81,10 @@ impl Orders {
         self.closed[usize::from(core)]
     }
 
-    /// Counts the next order as carried out, and returns what it changes, if it is due once `ended` slices have ended.
+    /// If the next order is due after `ended` slices (some steps of one thread each), counts it as carried out, and
+    /// returns its effect.
     ///
-    /// Returns `None` and changes nothing if the next order is not due, or if no order is left.
+    /// Otherwise, or if no order is left, returns `None`, and changes nothing.
     pub fn next_due(&mut self, ended: u64) -> Option<Effect>
         ensures due { MatchOption result (IsNoneDue self.old ended) (λ _. IsDue self.old ended) }
         ensures effect { IfSome result (λ effect. (effect ≡ next_effect self.old) × IsWithin self.old.cores effect) }

@@ -6,20 +6,21 @@ use std::marker::Model;
 use std::thread;
 use std::time::{Clock, Duration, Instant};
 
-/// If a yield of the processor takes longer than this (microseconds), another process has had a time slice of some
-/// milliseconds.
+/// The greatest length of a short yield of the processor, in microseconds. In a longer one, another process has had a
+/// time slice of some milliseconds.
 const AT_ONCE: u64 = 2000;
 
-/// After a yield that took long, a kernel thread doesn't yield for this many rounds of its loop that find work.
+/// After a long yield, a kernel thread doesn't yield until its loop has found work this many times.
 const ROUNDS_WITHOUT_YIELDS: u32 = 4096;
 
 /// Decides whether a kernel thread that waits may yield its processor.
 ///
-/// On an idle machine a yield returns immediately. If other processes want the processor, a yield gives away a whole
-/// time slice, and the user threads of this kernel thread wait as long. So each yield is timed. After a yield that took
-/// long, the next waits don't yield: they spin for a short time, and then sleep.
+/// On an idle machine, a yield returns immediately. If other processes want the processor, a yield gives away a whole
+/// time slice, and the user threads of this kernel thread wait all that time. So each yield is timed. After a long
+/// yield, the kernel thread doesn't yield for a while: when it waits, it spins for a short time, and then sleeps.
 ///
-/// Contracts see for how many rounds that find work no yield is allowed, but not the clock.
+/// Contracts describe a pace by the number of times that the loop must find work before a yield is allowed. They say
+/// nothing of the clock.
 #[derive(Drop)]
 pub struct Pace {
     rounds: u32,
@@ -32,28 +33,28 @@ impl Model for Pace {
 }
 
 impl Pace {
-    /// Creates a pace that allows yields.
+    /// Creates a pace that allows yields from the beginning.
     pub fn new() -> Pace
         ensures { result ≡ 0 }
     {
         Pace { rounds: 0 }
     }
 
-    /// Returns whether the kernel thread may yield.
+    /// Returns whether the kernel thread may yield its processor now.
     pub fn may_yield(&self) -> bool
         ensures { IsTrue result ↔ (self.now ≡ 0) }
     {
         self.rounds == 0
     }
 
-    /// Records that the worker's loop has found work, which counts down the rounds without yields.
+    /// Records that the worker's loop has found work. After enough such calls, yields are allowed again.
     pub fn found(&mut self)
         ensures { self.new ≡ self.old - 1 }
     {
         self.rounds = self.rounds.saturating_sub(1);
     }
 
-    /// Yields the processor once, and forbids further yields for a while if this yield took long.
+    /// Yields the processor once. If this takes long, forbids further yields for a while.
     pub fn yield_once<H: Clock>(&mut self, rt: &H)
         ensures { (self.new ≡ self.old) ⊎ (self.new ≡ ROUNDS_WITHOUT_YIELDS) }
     {

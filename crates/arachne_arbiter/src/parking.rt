@@ -12,8 +12,8 @@ use std::thread::Parker;
 
 /// One parker for each core, on which the core's kernel thread sleeps.
 ///
-/// An unpark that comes before the park is kept: the park then returns immediately. So a kernel thread that checks
-/// whether it must park, and then parks, misses no unpark between the two.
+/// If an unpark comes before the park, the park returns immediately. So a kernel thread that checks whether it must
+/// park, and then parks, misses no unpark between the two.
 #[derive(Drop)]
 pub struct Parking {
     parkers: Vec<CachePadded<Parker>>,
@@ -27,7 +27,7 @@ pub struct Unparked {
 }
 
 impl Parking {
-    /// Creates parkers for `cores` cores. The error is a refusal of memory.
+    /// Creates parkers for `cores` cores. Returns `Err` if memory is refused.
     pub fn new(alloc: Global, cores: u8) -> Result<Parking, AllocError>
         ensures { IfOk result (λ parking. parked_cores parking ≡ cores) }
     {
@@ -38,21 +38,21 @@ impl Parking {
         Ok(Parking { parkers })
     }
 
-    /// Sleeps until the core is unparked. Only the core's kernel thread may call `park`.
+    /// Sleeps until `core` is unparked. Only the kernel thread of `core` may call `park`.
     pub fn park<H: Wait>(&self, rt: &H, core: u8)
         requires { core < parked_cores self.now }
     {
         self.parkers[usize::from(core)].park(rt);
     }
 
-    /// Wakes a core's kernel thread, or makes its next park return immediately.
+    /// Wakes the kernel thread of `core`, or makes its next park return immediately.
     pub fn unpark(&self, core: u8)
         requires { core < parked_cores self.now }
     {
         self.parkers[usize::from(core)].unpark();
     }
 
-    /// Unparks the kernel threads of all cores, as at the end of a run.
+    /// Unparks the kernel threads of all cores, for example at the end of a run.
     pub fn unpark_all(&self) -> Unparked {
         for parker in &self.parkers {
             parker.unpark();
@@ -62,10 +62,10 @@ impl Parking {
 }
 
 impl<'a, H: Wait, T: Tagged, C: Contexts<T>> Cores<'a, H, T, C> {
-    /// Parks a core's kernel thread if the core is closed and empty. Returns whether the kernel thread parked.
+    /// Parks the kernel thread of `core` if the core is closed and empty. Returns whether it parked.
     ///
-    /// If the kernel thread did park, it has been unparked since, and must look for work again. Only the core's kernel
-    /// thread may call `park_if_drained`.
+    /// If the result is true, the kernel thread has been unparked since, and must look for work again. Only the kernel
+    /// thread of `core` may call `park_if_drained`.
     pub fn park_if_drained(&self, seat: &mut C::Seat, parking: &Parking, core: u8) -> bool
         requires seat { C.sits self.now.table.now seat.old }
         requires core { core < self.now.count }

@@ -1,4 +1,4 @@
-//! Claims a place for a new thread: one place on a core with few threads, or a whole empty core.
+//! Claims room for a new thread: one thread slot of a core with few threads, or a whole empty core.
 ghost use Rattle.std.specs.Prelude.{◌≡◌, ◌≢◌, ◌<◌, ◌≤◌};
 ghost use Rattle.rand_core.specs.Stream.{next_u64};
 ghost use Rattle.arachne_contexts.specs.Out.{KeepsOut};
@@ -13,11 +13,11 @@ use std::alloc::AllocError;
 use std::sync::Wait;
 
 impl<'a, H: Wait, T: Tagged, C: Contexts<T>> Cores<'a, H, T, C> {
-    /// Claims a place for a thread that shares its core with others.
+    /// Claims a thread slot for a thread that shares its core with others.
     ///
-    /// Takes the place on the less loaded of two cores drawn at random, or else on the first other core with a free
-    /// place. Returns `None` if no core has a free place. The error is a refusal of memory for the thread that will be
-    /// put at the place. Draws exactly one word from `chooser` (a random generator), whatever the result.
+    /// Of two cores drawn at random, takes a slot of the one with fewer threads; if that fails, takes a slot of the
+    /// first other core that has a free one. Returns `None` if no core has a free slot. Returns `Err` if memory for the
+    /// thread is refused. Draws exactly one word from `chooser` (a random generator), whatever the result.
     pub fn claim_normal<R: Rng>(
         &self,
         seat: &mut C::Seat,
@@ -34,15 +34,16 @@ impl<'a, H: Wait, T: Tagged, C: Contexts<T>> Cores<'a, H, T, C> {
         if self.count == 1 {
             return self.claim_on(seat, 0);
         }
-        // For most forks of a large program no core has a place: for them this look must be cheap, and writes nothing.
+        // For most forks of a large program, no core has a free slot. For them this check must be cheap; it writes
+        // nothing.
         if !self.is_any_free() {
             return Ok(None);
         }
         self.claim_on_chosen(seat, word)
     }
 
-    /// Claims a place on the less loaded of two cores that `word` draws at random, or else on the first other core that
-    /// has a free place.
+    /// Of two cores that `word` draws, claims a thread slot of the one with fewer threads; if that fails, one of the
+    /// first other core that has a free slot.
     fn claim_on_chosen(&self, seat: &mut C::Seat, word: u64) -> Result<Option<C::Claim>, AllocError>
         requires { C.sits self.now.table.now seat.old }
         ensures seat { C.sits self.now.table.now seat.new }
@@ -61,10 +62,9 @@ impl<'a, H: Wait, T: Tagged, C: Contexts<T>> Cores<'a, H, T, C> {
         }
     }
 
-    /// Claims the first open and empty core for an exclusive thread.
+    /// Claims the first open and empty core for a thread that needs a core for itself.
     ///
-    /// Returns `None` if there is no such core. The error is a refusal of memory for the thread that will be put at the
-    /// place.
+    /// Returns `None` if there is no such core. Returns `Err` if memory for the thread is refused.
     pub fn claim_exclusive(&self, seat: &mut C::Seat) -> Result<Option<C::Claim>, AllocError>
         requires { C.sits self.now.table.now seat.old }
         ensures seat { C.sits self.now.table.now seat.new }
@@ -80,10 +80,10 @@ impl<'a, H: Wait, T: Tagged, C: Contexts<T>> Cores<'a, H, T, C> {
         Ok(None)
     }
 
-    /// Returns whether a core seems to have a place for a thread that shares it.
+    /// Returns whether some core seems to have a free slot for a thread that shares the core.
     ///
-    /// Reads the cores' occupancy words without a seat, and stops at the first core that has a free place. The result
-    /// is a hint: only a claim decides.
+    /// Reads the cores' occupancy words without a seat, and stops at the first core that has a free slot. The result is
+    /// only a hint: only a claim decides.
     pub(crate) fn is_any_free(&self) -> bool {
         for core in 0..self.count {
             let seen = OccWord::from_word(self.table.glance(self.rt, core));
@@ -96,7 +96,7 @@ impl<'a, H: Wait, T: Tagged, C: Contexts<T>> Cores<'a, H, T, C> {
         false
     }
 
-    /// Writes the occupancy of each core into `occupancies`.
+    /// Writes the occupancy of each core (its occupied slots, closed, exclusive) into `occupancies`.
     fn look_at_all(&self, seat: &mut C::Seat, occupancies: &mut [OccWord; CORES as usize])
         requires { C.sits self.now.table.now seat.old }
         ensures seat { C.sits self.now.table.now seat.new }
@@ -108,9 +108,9 @@ impl<'a, H: Wait, T: Tagged, C: Contexts<T>> Cores<'a, H, T, C> {
         }
     }
 
-    /// Claims a place on the first core other than `tried` that has a free place.
+    /// Claims a thread slot of the first core other than `tried` that has a free one.
     ///
-    /// A core that has no free place by `occupancies` is skipped.
+    /// A core that has no free slot by `occupancies` is skipped.
     fn claim_on_another(
         &self,
         seat: &mut C::Seat,
@@ -134,9 +134,9 @@ impl<'a, H: Wait, T: Tagged, C: Contexts<T>> Cores<'a, H, T, C> {
         Ok(None)
     }
 
-    /// Claims a place on a core. Returns `None` if the core has no place.
+    /// Claims a thread slot of `core`. Returns `None` if the core has no free one.
     ///
-    /// Tries again if another claim took the place in the meantime. Draws no random word.
+    /// Tries again if another claim took the slot in the meantime. Draws no random word.
     pub fn claim_on(&self, seat: &mut C::Seat, core: u8) -> Result<Option<C::Claim>, AllocError>
         requires seat { C.sits self.now.table.now seat.old }
         requires core { core < self.now.count }
@@ -154,7 +154,7 @@ impl<'a, H: Wait, T: Tagged, C: Contexts<T>> Cores<'a, H, T, C> {
         unreachable!()
     }
 
-    /// Claims a whole core. Returns `None` if the core is not both open and empty.
+    /// Claims the whole core `core`. Returns `None` if the core is not both open and empty.
     ///
     /// Tries again if the core's occupancy word changed in the meantime.
     fn claim_whole(&self, seat: &mut C::Seat, core: u8) -> Result<Option<C::Claim>, AllocError>

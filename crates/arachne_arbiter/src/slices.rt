@@ -1,4 +1,5 @@
-//! Counts the slices that have ended, for each core apart, so that an order can be due after a number of slices.
+//! Counts the ended slices (some steps of one thread each) for each core, so that an order can be due after a number of
+//! slices.
 ghost use Rattle.std.specs.Prelude.{◌≡◌, ◌<◌, IfOk};
 ghost use Rattle.arachne_arbiter.specs.KernelThreads.{counted_cores};
 
@@ -6,15 +7,14 @@ use crossbeam_utils::CachePadded;
 use std::alloc::{AllocError, Global};
 use std::sync::atomic::{AtomicU64, Ordering};
 
-/// One count of ended slices for each core, on a cache line of its own. Only the core's kernel thread writes the core's
-/// count.
+/// A count of ended slices for each core, on a cache line of its own. Only the core's kernel thread writes it.
 #[derive(Drop)]
 pub struct SliceCounts {
     counts: Vec<CachePadded<AtomicU64>>,
 }
 
 impl SliceCounts {
-    /// Creates a count of 0 for each of `cores` cores. The error is a refusal of memory.
+    /// Creates a count of 0 for each of `cores` cores. Returns `Err` if memory is refused.
     pub fn new(alloc: Global, cores: u8) -> Result<SliceCounts, AllocError>
         ensures { IfOk result (λ counts. counted_cores counts ≡ cores) }
     {
@@ -25,9 +25,9 @@ impl SliceCounts {
         Ok(SliceCounts { counts })
     }
 
-    /// Adds one to the count of a core, which stays at 2^64 - 1.
+    /// Adds one to the count of `core`. A count of 2^64 - 1 stays as it is.
     ///
-    /// Only the core's kernel thread may call `count`: two calls at the same time would count one slice.
+    /// Only the kernel thread of `core` may call `count`: of two calls at the same time, one might not be counted.
     pub fn count(&self, core: u8)
         requires { core < counted_cores self.now }
     {
@@ -36,7 +36,7 @@ impl SliceCounts {
         count.store(ended.saturating_add(1), Ordering::SeqCst);
     }
 
-    /// Returns the number of slices that have ended on all cores, at most 2^64 - 1.
+    /// Returns the number of slices that have ended on all cores together, at most 2^64 - 1.
     pub fn total(&self) -> u64 {
         let mut total: u64 = 0;
         for count in &self.counts {

@@ -15,33 +15,35 @@ use arachne_core::{CORE_BITS, Place, Rest, ThreadId};
 use std::alloc::{AllocError, Global};
 use std::sync::Wait;
 
-/// A context table for threads of one type.
+/// A context table for user threads whose values are of type `T`.
 ///
-/// Each claimed place must be used through the seat that claimed it: by a thread that is put there, or by giving the
-/// place back. Each thread that a seat has taken must be put back or ended through that seat.
+/// A *context* is the record of one thread, a *place* one of a core's thread slots, and a *seat* one kernel thread's
+/// right to call the table. Each claimed place must be used through the seat that claimed it: by putting a thread
+/// there, or by giving the place back. Each thread that a seat has taken must be put back or ended through that seat.
 pub trait Contexts<T: Tagged>: Seats {
-    /// A place that a seat has claimed.
+    /// A place that a seat has claimed (reserved for a thread).
     type Claim: Placed + Drop;
 
     /// The handle of a thread that a seat holds, by which the table knows the thread.
     type Hold: Identified + Drop;
 
-    /// The list has the places that the seat has claimed and not used, and the threads that it holds, in any order.
+    /// True if the list has the places that the seat has claimed and not used, and the threads that it holds, in any
+    /// order.
     ghost has: { Self → Self.Seat → List (Out Self.Claim Self.Hold) → Type 0 };
 
-    /// By the seat's record, each thread that was put into the table has ended or is in the list.
+    /// True if, by the seat's record, each thread that came into the table has ended or is in the list.
     ///
-    /// The list names each thread once, by its id and its tag. A table whose seats keep no record of the threads put
-    /// into it has a `settles` that is always true.
+    /// The list names each thread once, by its id and its tag. In a table whose seats keep no such record, `settles` is
+    /// always true.
     ghost settles: { Self → Self.Seat → List (ThreadId × ℕ) → Type 0 };
 
-    /// Returns the occupancy word of a core (which places are occupied, as bits), read without a seat.
+    /// Returns the occupancy word of a core (a bit for each occupied place), read without a seat.
     ///
-    /// The contract promises nothing of the word: it only helps to choose a core.
+    /// The contract promises nothing about its value: it only helps to choose a core.
     fn glance<R: Wait>(&self, rt: &R, core: u8) -> u64
         requires core { core < Self.core_count self.now };
 
-    /// Returns the occupancy word of a core: which places are occupied, as bits.
+    /// Returns the occupancy word of a core: a bit for each occupied place.
     fn look<R: Wait>(&self, rt: &R, seat: &mut Self::Seat, core: u8) -> u64
         requires seat { Self.sits self.now seat.old }
         requires core { core < Self.core_count self.now }
@@ -59,9 +61,9 @@ pub trait Contexts<T: Tagged>: Seats {
         ensures out { KeepsOut (has self.now) seat.old seat.new }
         ensures word { IsMarkWord CORE_BITS result };
 
-    /// Tries once to claim the lowest free index of a core.
+    /// Tries once to claim the lowest free place of a core.
     ///
-    /// Fails if memory for the thread that will be put there is refused. If the call fails, nothing has changed.
+    /// Returns `Err`, and changes nothing, if memory for the thread that will be put there is refused.
     fn claim<R: Wait>(
         &self,
         rt: &R,
@@ -75,9 +77,9 @@ pub trait Contexts<T: Tagged>: Seats {
         ensures out { GetsClaim (has self.now) seat.old seat.new result }
         ensures answer { IfOk result (ClaimsOn (Self.slot_count self.now) Self.Claim.place_of core) };
 
-    /// Tries once to claim an empty core for one thread, at index 0.
+    /// Tries once to claim a whole empty core for one thread, at index 0.
     ///
-    /// Fails if memory for the thread that will be put there is refused. If the call fails, nothing has changed.
+    /// Returns `Err`, and changes nothing, if memory for the thread that will be put there is refused.
     fn claim_alone<R: Wait>(
         &self,
         rt: &R,
@@ -91,7 +93,7 @@ pub trait Contexts<T: Tagged>: Seats {
         ensures out { GetsClaim (has self.now) seat.old seat.new result }
         ensures answer { IfOk result (ClaimsWhole Self.Claim.place_of core) };
 
-    /// Frees a claimed place at which no thread was put.
+    /// Frees a claimed place into which no thread was put.
     ///
     /// Returns the claim as an error if the table doesn't know it.
     fn give_back<R: Wait>(
@@ -107,9 +109,9 @@ pub trait Contexts<T: Tagged>: Seats {
         ensures out { Spends (has self.now) (a_claim claim) seat.old seat.new result }
         ensures handed_back { IfErr result (λ back. back ≡ claim) };
 
-    /// Posts a thread: puts it at a claimed place, ready to run.
+    /// Puts a thread with this value, ready to run, into a claimed place. Returns the thread's id.
     ///
-    /// The thread is ready, even if its core was closed after the claim. Returns the claim and the value as an error if
+    /// The thread is ready even if its core was closed after the claim. Returns the claim and the value as an error if
     /// the table doesn't know the claim.
     fn post<R: Wait>(
         &self,
@@ -125,7 +127,7 @@ pub trait Contexts<T: Tagged>: Seats {
         ensures out { Spends (has self.now) (a_claim claim) seat.old seat.new result }
         ensures handed_back { IfErr result (λ back. back ≡ (claim, value)) };
 
-    /// Takes the thread at a place, if it is ready.
+    /// Takes the thread in slot `index` of `core`, if it is ready. The seat then holds the thread.
     fn take<R: Wait>(
         &self,
         rt: &R,
@@ -141,7 +143,7 @@ pub trait Contexts<T: Tagged>: Seats {
         ensures out { GetsThread (has self.now) T.tag_of seat.old seat.new result }
         ensures answer { TakesAt Self.Hold.place_of (record { core = core; index = index }) result };
 
-    /// Puts a thread that the seat holds back at its place, ready or blocked.
+    /// Puts a thread that the seat holds back into the table, ready or blocked.
     ///
     /// Returns the thread as an error if the table doesn't know it, or if its tag has changed.
     fn put_back<R: Wait>(
@@ -159,8 +161,9 @@ pub trait Contexts<T: Tagged>: Seats {
         ensures answer { IfOk result (RestsAs rest) }
         ensures handed_back { IfErr result (λ back. back ≡ held) };
 
-    /// Ends a thread, and frees its place unless the context's generation (the count of its threads) is the last.
+    /// Ends a thread that the seat holds, and returns its value.
     ///
+    /// Frees the thread's place, unless its context has reached its last generation (the greatest count of threads).
     /// Returns the thread as an error if the table doesn't know it, or if its tag has changed.
     fn finish<R: Wait>(
         &self,
@@ -176,7 +179,7 @@ pub trait Contexts<T: Tagged>: Seats {
         ensures value { IfOk result (λ value. value ≡ held.value) }
         ensures handed_back { IfErr result (λ back. back ≡ held) };
 
-    /// Wakes the thread of this id. Any id may be passed.
+    /// Wakes the thread with this id. Any id may be passed.
     fn wake<R: Wait>(&self, rt: &R, seat: &mut Self::Seat, id: ThreadId) -> Woken
         requires seat { Self.sits self.now seat.old }
         ensures seat { Self.sits self.now seat.new }
@@ -184,8 +187,8 @@ pub trait Contexts<T: Tagged>: Seats {
         ensures out { KeepsOut (has self.now) seat.old seat.new }
         ensures answer { WakesAs id result };
 
-    /// Closes a core, which then takes no more threads. Returns the core's occupancy word (which places are occupied,
-    /// as bits) from before the call.
+    /// Closes a core, so that no place can be claimed on it. Returns the core's occupancy word (a bit for each occupied
+    /// place) as it was before the call.
     fn close_core<R: Wait>(&self, rt: &R, seat: &mut Self::Seat, core: u8) -> u64
         requires seat { Self.sits self.now seat.old }
         requires core { core < Self.core_count self.now }
@@ -194,7 +197,7 @@ pub trait Contexts<T: Tagged>: Seats {
         ensures out { KeepsOut (has self.now) seat.old seat.new }
         ensures word { IsOccupancyWord result };
 
-    /// Opens a core. Returns the core's occupancy word (which places are occupied, as bits) from before the call.
+    /// Opens a core. Returns the core's occupancy word (a bit for each occupied place) as it was before the call.
     fn open_core<R: Wait>(&self, rt: &R, seat: &mut Self::Seat, core: u8) -> u64
         requires seat { Self.sits self.now seat.old }
         requires core { core < Self.core_count self.now }
@@ -211,7 +214,7 @@ pub trait Contexts<T: Tagged>: Seats {
         ensures weight { Self.weight seat.new ≡ Self.weight seat.old }
         ensures out { KeepsOut (has self.now) seat.old seat.new };
 
-    /// Moves the thread at a place to the lowest free index of another core, if no worker holds the thread.
+    /// Moves the thread at `place` to the lowest free index of the core `to`, if no worker holds the thread.
     fn move_one<R: Wait>(&self, rt: &R, seat: &mut Self::Seat, place: Place, to: u8) -> Moved
         requires seat { Self.sits self.now seat.old }
         requires core { place.core < Self.core_count self.now }
@@ -223,11 +226,11 @@ pub trait Contexts<T: Tagged>: Seats {
         ensures out { KeepsOut (has self.now) seat.old seat.new }
         ensures answer { MovesAs (Self.slot_count self.now) result };
 
-    /// Closes the table. Returns the threads that were put into the table and not finished, each once, in the order of
+    /// Closes the table. Returns the threads that came into the table and were not finished, each once, in the order of
     /// their contexts.
     ///
-    /// The seat must have the whole weight (no other seat is in use), no unused claim, and hold no thread. If memory is
-    /// refused, returns the table and the seat as an error.
+    /// The seat must have the whole weight (no other seat is in use) and no unused claim, and must hold no thread. If
+    /// memory is refused, returns the table and the seat as an error.
     fn close<R: Wait>(
         self,
         rt: &R,
@@ -243,12 +246,12 @@ pub trait Contexts<T: Tagged>: Seats {
         ensures weight { IfErr result (λ back. Self.weight back.1 ≡ Self.weight seat) }
         ensures idle { IfErr result (λ back. Self.idle back.0 back.1) };
 
-    /// If a seat is idle, it has no unused claim and holds no thread.
+    /// The law that an idle seat has no unused claim and holds no thread.
     ghost nothing_out: { (table : Self) (seat : Self.Seat) → Self.idle table seat → has table seat [] };
 
     ghost is_idle: { (table : Self) (seat : Self.Seat) → has table seat [] → Self.idle table seat };
 
-    /// The list of a seat's unused claims and held threads may be in any order.
+    /// The law that the list of a seat's unused claims and held threads may be in any order.
     ghost swapped: { (table : Self) (seat : Self.Seat) (first second : Out Self.Claim Self.Hold) (outs : List (Out Self.Claim Self.Hold))
         → has table seat (first ∷ second ∷ outs) → has table seat (second ∷ first ∷ outs) };
 }

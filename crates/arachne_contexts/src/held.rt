@@ -1,20 +1,20 @@
-//! A thread that a seat holds, and the traits by which claims and handles give their place and thread id.
+//! A thread that a seat holds, and the traits by which claims and handles tell their place and thread id.
 ghost use Rattle.std.specs.Prelude.{◌≡◌};
 ghost use Rattle.arachne_core.specs.declared.place.Place.{Place};
 ghost use Rattle.arachne_core.specs.declared.thread_id.ThreadId.{ThreadId};
 
 use arachne_core::{Place, ThreadId};
 
-/// A claim or a handle, which has a place in a table.
+/// A claim or a handle, which belongs to one place of a table: one of a core's thread slots.
 pub trait Placed {
     ghost place_of: { Self → Place };
 
-    /// Returns the core and the index in the table.
+    /// Returns the place: the core and the index on it.
     fn place(&self) -> Place
         ensures { result ≡ place_of self.now };
 }
 
-/// A handle, which names a thread in a table.
+/// The handle of a thread in a table.
 pub trait Identified: Placed {
     ghost id_of: { Self → ThreadId };
 
@@ -29,7 +29,7 @@ pub trait Identified: Placed {
 #[derive(Drop)]
 pub struct Held<T, H> {
     pub value: T,
-    /// The handle of the thread. The handle must stay with the value with which it was taken.
+    /// The handle of the thread. The caller must keep it together with the value with which it was taken.
     pub hold: H,
 }
 
@@ -41,7 +41,7 @@ impl<T, H: Identified> Held<T, H> {
         self.hold.id()
     }
 
-    /// Returns the place at which the thread was taken.
+    /// Returns the place from which the thread was taken.
     pub fn place(&self) -> Place
         ensures { result ≡ H.place_of self.now.hold }
     {

@@ -1,9 +1,10 @@
 //! The trait of context tables, which workers call to create, take, wake and move threads, and its results.
 //!
-//! A *context table* keeps user threads. Each core has a number of *places*, and each place a *context*, the record of
-//! one thread. A *seat* is one kernel thread's right to call the table: it claims a free place, puts a thread there,
-//! takes threads that are ready, and puts them back or ends them. From the take until then the seat *holds* the thread.
-//! A thread is a value of the caller's type: the table needs nothing of it but its tag.
+//! A *context table* stores user threads. Each core has a number of thread slots, here *places*, and each place a
+//! *context*, the record of one thread. A *seat* is one kernel thread's right to call the table: it claims a free
+//! place, puts a thread there, takes threads that are ready, and puts them back or ends them. From the take until then,
+//! the seat *holds* the thread. A thread is a value of the caller's type: the table needs nothing of it but a number,
+//! its tag.
 #![tactic(auto)]
 
 mod answers;

@@ -1,4 +1,4 @@
-//! The trait by which a table makes its first seat, splits a seat in two, and joins two seats into one.
+//! The trait by which a table creates its first seat, splits a seat into two, and joins two seats into one.
 ghost use Rattle.std.specs.Prelude.{◌≡◌, ◌≤◌, ◌↔◌, ℕ, IfOk, IsTrue};
 ghost use Rattle.arachne_weights.specs.Weight.{whole, first_part, second_part, joined};
 
@@ -6,10 +6,10 @@ use arachne_core::{CORES, LAST_GENERATION, SLOTS};
 use std::alloc::{AllocError, Global};
 use std::sync::Wait;
 
-/// A table that makes its first seat, splits seats and joins them. Each call on the table needs a seat.
+/// A table with seats: rights to call it, one for each kernel thread. Each call on the table needs a seat.
 ///
-/// Each seat has a part of the whole weight, so whoever has the whole weight knows that no other seat is in use. A seat
-/// is used only with the table that it came from.
+/// The first seat has the whole weight. A split halves a seat's weight and a join adds two, so a seat with the whole
+/// weight is the only one. A seat must only be used with the table that it came from.
 pub trait Seats {
     type Seat: Drop;
 
@@ -25,10 +25,12 @@ pub trait Seats {
     /// The number of cores of the table.
     ghost core_count: { Self → ℕ };
 
-    /// The number of places of each core.
+    /// The number of thread slots of each core.
     ghost slot_count: { Self → ℕ };
 
-    /// Creates a table whose contexts are free and of one generation, and its first seat, which has the whole weight.
+    /// Creates a table of `cores` cores with `slots` thread slots each, and its first seat, which has the whole weight.
+    ///
+    /// All contexts are free, in generation `first_generation`.
     fn new(
         alloc: Global,
         cores: u8,
@@ -46,9 +48,9 @@ pub trait Seats {
         ensures idle { IfOk result (λ made. Self.idle made.0 made.1) }
         ensures weight { IfOk result (λ made. Self.weight made.1 ≡ whole) };
 
-    /// Splits a seat in two, each with half of its weight, rounded up for the first.
+    /// Splits a seat into two, each with half of its weight, rounded up for the first.
     ///
-    /// If the weight is 1 or 0, both seats get weight 0. The seat must have no unused claim and hold no thread.
+    /// If the weight is 1 or 0, both seats get weight 0. The seat must have no unused claim, and must hold no thread.
     fn split<R: Wait>(&self, rt: &R, seat: Self::Seat) -> (Self::Seat, Self::Seat)
         requires seat { Self.sits self.now seat }
         requires idle { Self.idle self.now seat }
@@ -61,7 +63,7 @@ pub trait Seats {
 
     /// Joins two seats into one, whose weight is the sum of theirs, but at most the whole.
     ///
-    /// Both seats must have no unused claim and hold no thread.
+    /// Both seats must have no unused claim, and must hold no thread.
     fn join_seats<R: Wait>(&self, rt: &R, seat: Self::Seat, other: Self::Seat) -> Self::Seat
         requires seat { Self.sits self.now seat }
         requires other { Self.sits self.now other }
@@ -71,10 +73,10 @@ pub trait Seats {
         ensures idle { Self.idle self.now result }
         ensures weight { Self.weight result ≡ joined (Self.weight seat) (Self.weight other) };
 
-    /// Returns whether all other seats were joined into this one.
+    /// Returns whether `seat` has the whole weight: all other seats were joined into it.
     fn is_whole(&self, seat: &Self::Seat) -> bool
         ensures { IsTrue result ↔ (Self.weight seat.now ≡ whole) };
 
-    /// Returns the number of the seat's unused claims and held threads.
+    /// Returns how many unused claims and held threads the seat has together.
     fn out(&self, seat: &Self::Seat) -> u32;
 }

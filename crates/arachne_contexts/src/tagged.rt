@@ -1,9 +1,9 @@
 //! The trait of the values that a context table stores for its threads: each value has a tag, a number.
 ghost use Rattle.std.specs.Prelude.{◌≡◌, ℕ};
 
-/// A value with a tag.
+/// A value with a tag, a number by which the table knows the value's thread.
 ///
-/// The table knows a thread by its id and its tag.
+/// The table knows a thread by its id together with this tag.
 pub trait Tagged {
     ghost tag_of: { Self → ℕ };
 

@@ -1,5 +1,4 @@
-//! The events of a context table. In each event `carrier` is the number of the seat (the right to call the table) that
-//! makes it.
+//! The events of a context table, which stores user threads.
 
 ghost use Rattle.std.specs.Prelude.{Some};
 ghost use Rattle.arachne_core.specs.ContextTable.{refusal_text};
@@ -9,22 +8,25 @@ use crate::thread_id::ThreadId;
 use std::error::Error;
 use std::fmt;
 
-/// An event of a context table.
+/// A change of a context table, which stores user threads.
 ///
-/// Each atomic operation of a table is one of these events. One that changes nothing is `Still`.
+/// A context is the record of one thread, and `carrier` the number of a seat, which is one kernel thread's right to
+/// call the table. Each atomic operation of a table is one of these events; an operation that changes nothing is
+/// `Still`.
 #[derive(Clone, Copy, Debug, PartialEq, Eq)]
 pub enum Event {
-    /// The seat `carrier` claims a free context on a core that is neither closed nor exclusive.
+    /// The seat `carrier` claims (reserves) a free context on a core that is neither closed nor exclusive.
     Claim {
         carrier: u32,
         context: u32,
     },
-    /// The seat `carrier` claims the context at index 0 of an empty core, which is exclusive from then on.
+    /// The seat `carrier` claims the context at index 0 of an empty core. The core is then exclusive: it takes no other
+    /// thread.
     Alone {
         carrier: u32,
         context: u32,
     },
-    /// The seat `carrier` puts the thread with this tag into a context that it has claimed.
+    /// The seat `carrier` puts the thread with this tag, ready to run, into a context that the seat has claimed.
     Post {
         carrier: u32,
         context: u32,
@@ -35,7 +37,7 @@ pub enum Event {
         carrier: u32,
         context: u32,
     },
-    /// The seat `carrier` puts back, as ready or as blocked, the thread of this context that it holds.
+    /// The seat `carrier` stops running the thread of this context, and makes it ready or blocked.
     Rest {
         carrier: u32,
         context: u32,
@@ -45,41 +47,42 @@ pub enum Event {
     Wake {
         id: ThreadId,
     },
-    /// The seat `carrier` ends the thread of this context that it holds. The seat keeps the context's place.
+    /// The seat `carrier` ends the thread of this context, which the seat holds. The thread's slot on the core stays
+    /// reserved for the seat.
     Retire {
         carrier: u32,
         context: u32,
     },
-    /// The seat `carrier` gives up a context that it has claimed.
+    /// The seat `carrier` frees a context that it has claimed.
     Release {
         carrier: u32,
         context: u32,
     },
-    /// The core `core` is closed, and then takes no more threads.
+    /// The core `core` is closed: no context can be claimed on it until it is opened.
     CloseCore {
         core: u8,
     },
-    /// The core `core` is opened, and takes threads again.
+    /// The core `core` is opened: contexts can be claimed on it again.
     OpenCore {
         core: u8,
     },
-    /// The seat `carrier` moves the ready or blocked thread in context `from` to the place of `to`, a context that the
-    /// seat has claimed on another core. The two contexts swap places.
+    /// The seat `carrier` moves the thread in context `from`, which no seat holds, to another core: to the slot of
+    /// context `to`, which the seat has claimed there. The two contexts swap slots.
     Move {
         carrier: u32,
         from: u32,
         to: u32,
     },
-    /// The event changes nothing in the table's state.
+    /// Nothing changes.
     Still,
 }
 
 /// The reason why an event was refused. The table's state is then unchanged.
 #[derive(Clone, Copy, Debug, PartialEq, Eq)]
 pub enum NotApplied {
-    /// The state of the table does not allow the event, or has no such core or context.
+    /// The table's state does not allow the event, or the table has no such core or context.
     NotAllowed,
-    /// The event is allowed, but memory for its record was refused.
+    /// The event is allowed, but memory for recording it was refused.
     Memory,
 }
 

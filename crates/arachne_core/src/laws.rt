@@ -1,5 +1,5 @@
-//! Laws of a table's abstract state (`World`) and of packed words. Each law is the contract of a function with an empty
-//! body.
+//! Laws of a table's abstract state (`World`) and of its packed words. Each law is the contract of a function with an
+//! empty body.
 
 ghost use Rattle.std.specs.Prelude.{◌≡◌, ℕ, ◌+◌, ◌-◌, ◌*◌, ◌/◌, ◌%◌, ◌^◌, ◌<◌, ◌↔◌, List, length, slice_index_or, true, false, bit_and, bit_or};
 ghost use Rattle.arachne_core.specs.declared.mark.Mark.{Mark};
@@ -13,29 +13,29 @@ ghost use Rattle.arachne_core.specs.Run.{IsOpening, IsRun, after_all, SharesNoth
 
 use crate::layout::{CORE_BITS, CORES, GENERATION_BITS, LAST_GENERATION, MASK_BITS, SLOTS};
 
-/// The state of a new table meets the invariant `OwnedOnce`: each context has a place of its own, and no two threads
-/// share a context or a place.
+/// The state of a new table meets the invariant `OwnedOnce`: each context has a slot of its own on a core, and no two
+/// threads share a context or a slot.
 pub fn opening_is_owned_once()
     ensures { (w : World) (first : ℕ) → IsOpening w first → OwnedOnce w }
 {}
 
-/// Each event that is allowed keeps the invariant `OwnedOnce`: no two threads share a context or a place.
+/// Each event that is allowed keeps the invariant `OwnedOnce`: no two threads share a context or a slot.
 pub fn events_keep_owned_once()
     ensures { (w : World) (e : Event) → OwnedOnce w → Allowed w e → OwnedOnce (after w e) }
 {}
 
-/// Any sequence of allowed events keeps the invariant `OwnedOnce`: no two threads share a context or a place.
+/// Any sequence of allowed events keeps the invariant `OwnedOnce`: no two threads share a context or a slot.
 pub fn runs_keep_owned_once()
     ensures { (w : World) (es : List Event) → OwnedOnce w → IsRun w es → OwnedOnce (after_all w es) }
 {}
 
-/// If the state meets `OwnedOnce`, no two live threads share a context or a place, and no two seats hold the same
+/// If the state meets `OwnedOnce`, no two live threads share a context or a slot, and no two seats hold the same
 /// thread.
 pub fn owned_once_shares_nothing()
     ensures { (w : World) → OwnedOnce w → SharesNothing w }
 {}
 
-/// If a seat holds a thread, it keeps the thread, whatever events follow, until that seat puts the thread back or ends
+/// A seat that holds a thread goes on holding it, whatever events follow, until that seat puts the thread back or ends
 /// it.
 ///
 /// So no two seats hold a thread at the same time: before the thread of a context is taken again, the seat that held
@@ -44,12 +44,12 @@ pub fn holder_keeps_its_thread()
     ensures { (w : World) (es : List Event) (h x : ℕ) → IsHeldBy h (w.state x) → IsRun w es → NeverLetsGo h x es → IsHeldBy h ((after_all w es).state x) }
 {}
 
-/// A core that is closed and has no occupied place stays closed and empty, whatever events follow, until it is opened.
+/// A core that is closed and has no occupied slot stays closed and empty, whatever events follow, until it is opened.
 pub fn drained_core_stays_drained()
     ensures { (w : World) (es : List Event) (c : ℕ) → IsDrained w c → IsRun w es → NeverOpens c es → IsDrained (after_all w es) c }
 {}
 
-/// The sizes of the machine: up to 64 cores of up to 56 places, and generations of 48 bits.
+/// The sizes of the machine: up to 64 cores, up to 56 thread slots on each, and generations of 48 bits.
 ///
 /// The fields of the packed words have room for exactly these sizes.
 pub fn sizes()
@@ -58,7 +58,7 @@ pub fn sizes()
     ensures generations { (LAST_GENERATION + 1 ≡ 2 ^ 48) × (10 + CORE_BITS + GENERATION_BITS ≡ 64) }
 {}
 
-/// An occupancy that is packed into a word is read back unchanged.
+/// Packing an occupancy into a word and reading it back gives the same occupancy.
 pub fn occupancy_words_read_as_packed()
     ensures { (c : Occupancy) → length c.occupied ≡ MASK_BITS → occupancy_of (occupancy_word c) ≡ c }
 {}
@@ -70,7 +70,7 @@ pub fn occupancy_words_pack_as_read()
     ensures { (word : ℕ) → IsOccupancyWord word ↔ ((word < 2 ^ 64) × (count_field word ≡ count_of (occupancy_of word).occupied)) }
 {}
 
-/// Adding the bit of a free index i, and one in the field of the count, occupies that index.
+/// Adding bit i of a free index i, and 1 in the field of the count, to an occupancy word occupies that index.
 ///
 /// The addition sets bit i of the mask, raises the count by one, and changes no other field.
 pub fn adding_an_index()
@@ -78,13 +78,13 @@ pub fn adding_an_index()
         → HasOneMore word i (word + (2 ^ i + 2 ^ MASK_BITS)) }
 {}
 
-/// Subtracting the bit of an occupied index i, and one in the field of the count, frees that index.
+/// Subtracting bit i of an occupied index i, and 1 in the field of the count, from an occupancy word frees that index.
 pub fn taking_an_index_away()
     ensures { (word i : ℕ) → IsOccupancyWord word → i < MASK_BITS → slice_index_or (occupancy_of word).occupied i false ≡ true
         → HasOneMore (word - (2 ^ i + 2 ^ MASK_BITS)) i word }
 {}
 
-/// Setting bit 62 of a word closes the core, and clearing it opens the core. No other field changes.
+/// Setting bit 62 of an occupancy word closes the core, and clearing it opens the core. No other field changes.
 pub fn closing_and_opening()
     ensures closing { (word : ℕ) → IsOccupancyWord word
         → IsOccupancyWord (bit_or word (2 ^ 62)) × (occupancy_of (bit_or word (2 ^ 62)) ≡ record (occupancy_of word) { closed = true }) }
@@ -92,19 +92,21 @@ pub fn closing_and_opening()
         → IsOccupancyWord (bit_and word (2 ^ 64 - 1 - 2 ^ 62)) × (occupancy_of (bit_and word (2 ^ 64 - 1 - 2 ^ 62)) ≡ record (occupancy_of word) { closed = false }) }
 {}
 
-/// Adding `2^63` to the word of a core that is not exclusive makes it exclusive. No other field changes.
+/// Adding `2^63` to the occupancy word of a core that is not exclusive makes the core exclusive. No other field
+/// changes.
 pub fn adding_exclusive()
     ensures { (word : ℕ) → IsOccupancyWord word → (occupancy_of word).exclusive ≡ false
         → IsOccupancyWord (word + 2 ^ 63) × (occupancy_of (word + 2 ^ 63) ≡ record (occupancy_of word) { exclusive = true }) }
 {}
 
-/// Subtracting `2^63` from the word of an exclusive core makes it not exclusive. No other field changes.
+/// Subtracting `2^63` from the occupancy word of an exclusive core makes the core shared. No other field changes.
 pub fn taking_exclusive_away()
     ensures { (word : ℕ) → IsOccupancyWord word → (occupancy_of word).exclusive ≡ true
         → IsOccupancyWord (word - 2 ^ 63) × (occupancy_of (word - 2 ^ 63) ≡ record (occupancy_of word) { exclusive = false }) }
 {}
 
-/// A packed mark word is read back unchanged, if its index and its core fit their fields.
+/// Packing a context's state into a mark word and reading it back gives the same state, if index and core fit their
+/// fields.
 pub fn mark_words_read_as_packed()
     ensures { (bits : ℕ) (m : Marked) → m.place.index < 2 ^ 6 → m.place.core < 2 ^ bits → marked_of bits (mark_word bits m) ≡ m }
 {}
@@ -116,14 +118,14 @@ pub fn mark_words_pack_as_read()
     ensures { (bits word : ℕ) → IsMarkWord bits word ↔ ((word < 2 ^ 64) × (word % 2 ^ 3 < 6) × (word / 2 ^ 4 % 2 ^ 6 < SLOTS)) }
 {}
 
-/// Setting the mark (the state) in a mark word changes no other field: neither `alone` (the thread is exclusive) nor
-/// the place or the generation.
+/// Setting the mark (the state) in a mark word changes no other field: neither `alone` (the thread has its core for
+/// itself) nor the slot nor the generation.
 pub fn setting_a_mark()
     ensures { (bits word : ℕ) (mark : Mark) → marked_of bits (with_mark word mark) ≡ record (marked_of bits word) { mark = mark } }
 {}
 
-/// Setting the place in a mark word changes no other field: neither the mark (the state) nor `alone` (the thread is
-/// exclusive) or the generation.
+/// Setting the slot in a mark word changes no other field: neither the mark (the state) nor `alone` (the thread has its
+/// core for itself) nor the generation.
 pub fn setting_a_place()
     ensures { (bits word : ℕ) (place : Place) → place.index < 2 ^ 6 → place.core < 2 ^ bits
         → marked_of bits (with_place bits word place) ≡ record (marked_of bits word) { place = place } }

@@ -1,15 +1,15 @@
-//! The most cores and places that a table can have, and how many bits each field of a packed word has for them.
+//! The greatest numbers of cores and of thread slots per core, and the widths of the fields of a packed word.
 
-/// The most cores that a table can have.
+/// The greatest number of cores of a table.
 pub const CORES: u8 = 64;
 
-/// The most places that a core can have. Each place holds one context.
+/// The greatest number of thread slots of a core. Each slot has one context.
 pub const SLOTS: u8 = 56;
 
-/// The number of bits of an occupancy word's mask, one for each index.
+/// The number of bits in the mask of an occupancy word, one for each slot of a core.
 pub const MASK_BITS: u8 = SLOTS;
 
-/// The last generation of a context. A context whose thread ends at this generation is never used again.
+/// The last generation of a context. After the thread of this generation has ended, the context is never used again.
 pub const LAST_GENERATION: u64 = (1 << GENERATION_BITS) - 1;
 
 /// The width of the core's number in a mark word (a context's packed state), in bits.

@@ -1,20 +1,20 @@
-//! The state of a context as its mark word shows it, without the seat that has claimed it or holds its thread, and
-//! without the thread's tag.
+//! The state of a context as its atomic word, the mark word, shows it. The word shows neither which seat has claimed
+//! the context or holds its thread, nor the thread's tag.
 
-/// The state of a context, as its mark word (state, place and generation, packed) shows it.
+/// The state of a context, as its mark word shows it. That word also has the context's slot and generation.
 #[derive(Clone, Copy, Debug, PartialEq, Eq)]
 pub enum Mark {
-    /// There is no thread. The context is free or claimed.
+    /// There is no thread. The context is free or claimed (reserved by a seat).
     Free = 0,
-    /// The thread may be taken.
+    /// The thread is ready: a seat may take it.
     Ready = 1,
-    /// The thread waits to be woken.
+    /// The thread is blocked until it is woken.
     Blocked = 2,
-    /// A seat holds the thread, to run it.
+    /// A seat holds the thread, which runs.
     Held = 3,
-    /// A seat holds the thread, and the thread was woken since it was taken.
+    /// A seat holds the thread, which was woken since the seat took it.
     Woken = 4,
-    /// The thread of the context's last generation has ended.
+    /// The thread of the context's last generation has ended, so the context is never used again.
     Spent = 5,
 }
 
@@ -22,14 +22,14 @@ impl Mark {
     ghost use Rattle.std.specs.Prelude.{◌≡◌, ◌<◌};
     ghost use Rattle.arachne_core.specs.Marked.{mark_code, mark_named};
 
-    /// Returns the code of the mark in a word.
+    /// Returns the number by which a mark word stores this state.
     pub fn code(self) -> u64
         ensures { result ≡ mark_code self }
     {
         self as u64
     }
 
-    /// Returns the mark of this code.
+    /// Returns the state that has this number in a mark word.
     pub fn from_code(code: u64) -> Self
         requires { code < 6 }
         ensures { result ≡ mark_named code }

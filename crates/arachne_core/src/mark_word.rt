@@ -1,4 +1,4 @@
-//! The mark word of a context: its state, place and generation, packed.
+//! The mark word of a context: its state, its slot on a core, and its generation, packed into 64 bits.
 
 ghost use Rattle.std.specs.Prelude.{◌≡◌, ◌<◌, ◌≤◌, ◌↔◌, IsSome, IfSome, ◌^◌};
 ghost use Rattle.arachne_core.specs.Marked.{Marked, mark_word, marked_of, IsMarkWord, FitsWord};
@@ -26,10 +26,10 @@ const FIRST_CORE_MASK: u64 = (1 << FIRST_CORE_BITS) - 1;
 
 const FIRST_GENERATION_SHIFT: u32 = CORE_SHIFT + FIRST_CORE_BITS;
 
-/// The state, place and generation of a context, packed into one word.
+/// The state, slot and generation of a context, packed into one word.
 ///
-/// The mark (the context's state) is in bits 0 to 2, `alone` (true if its thread is exclusive) in bit 3, the index in
-/// bits 4 to 9, the core in bits 10 to 15, and the generation in the bits above.
+/// The mark (the context's state) is in bits 0 to 2, `alone` (true if its thread has the core for itself) in bit 3, the
+/// slot's index in bits 4 to 9, its core in bits 10 to 15, and the generation in the bits above.
 #[derive(Clone, Copy, Debug, PartialEq, Eq)]
 pub struct MarkWord {
     word: u64,
@@ -52,7 +52,7 @@ impl Model for MarkWord {
 }
 
 impl MarkWord {
-    /// Returns the word with these fields.
+    /// Returns the mark word with these fields.
     pub fn new(mark: Mark, alone: bool, place: Place, generation: u64) -> Self
         requires { FitsWord CORE_BITS (record { mark = mark; alone = alone; place = place; generation = generation }) }
         ensures { result ≡ record { mark = mark; alone = alone; place = place; generation = generation } }
@@ -65,7 +65,7 @@ impl MarkWord {
         }
     }
 
-    /// Reads a word. Returns `None` if the word's mark is not one of the six marks, or its index is not less than 56.
+    /// Unpacks a mark word. Returns `None` if its mark is not one of the six states, or its index is not less than 56.
     pub fn from_word(word: u64) -> Option<Self>
         ensures some { IsSome result ↔ IsMarkWord CORE_BITS word }
         ensures value { IfSome result (λ mark. mark ≡ marked_of CORE_BITS word) }
@@ -79,8 +79,8 @@ impl MarkWord {
 
     /// Reads a mark word of the older layout, in which the core had 4 bits and the generation 50.
     ///
-    /// Returns the word with the same fields, or `None` if the mark is not one of the six marks, the index is not less
-    /// than 56, or the generation is past the last.
+    /// Returns a word of today's layout with the same fields, or `None` if the mark is not one of the six states, the
+    /// index is not less than 56, or the generation is greater than the last.
     pub fn from_first(word: u64) -> Option<Self>
         ensures some { IsSome result ↔ (IsMarkWord FIRST_CORE_BITS word × ((marked_of FIRST_CORE_BITS word).generation ≤ LAST_GENERATION)) }
         ensures value { IfSome result (λ mark. mark ≡ marked_of FIRST_CORE_BITS word) }
@@ -99,7 +99,7 @@ impl MarkWord {
         }
     }
 
-    /// Returns the word as a number.
+    /// Returns the packed word as a number.
     pub fn word(self) -> u64
         ensures packed { result ≡ mark_word CORE_BITS self }
         ensures read { IsMarkWord CORE_BITS result × (marked_of CORE_BITS result ≡ self) }
@@ -113,14 +113,14 @@ impl MarkWord {
         Mark::from_code(self.word & MARK_MASK)
     }
 
-    /// Returns whether the thread was put on a core that is exclusive to it (the `alone` bit).
+    /// Returns whether the context's thread has its core for itself (the `alone` bit).
     pub fn is_alone(self) -> bool
         ensures { result ≡ self.alone }
     {
         self.word & ALONE != 0
     }
 
-    /// Returns the place of the context.
+    /// Returns the context's slot: its core and its index there.
     pub fn place(self) -> Place
         ensures value { result ≡ self.place }
         ensures within { (result.core < CORES) × (result.index < SLOTS) }
@@ -138,7 +138,7 @@ impl MarkWord {
         self.word >> GENERATION_SHIFT
     }
 
-    /// Returns the word with another mark (the context's state).
+    /// Returns a copy of this word with another state.
     pub fn with_mark(self, mark: Mark) -> Self
         ensures { result ≡ record self { mark = mark } }
     {
@@ -147,7 +147,7 @@ impl MarkWord {
         }
     }
 
-    /// Returns the word with another place.
+    /// Returns a copy of this word with another slot.
     pub fn with_place(self, place: Place) -> Self
         requires index { place.index < SLOTS }
         requires core { place.core < 2 ^ CORE_BITS }

@@ -1,4 +1,4 @@
-//! The occupancy word of a core: which of its places are occupied.
+//! The occupancy word of a core: which of its thread slots are occupied, packed into 64 bits.
 
 ghost use Rattle.std.specs.Prelude.{◌≡◌, ◌≢◌, ◌<◌, ◌≤◌, ◌↔◌, ◌+◌, ◌^◌, ℕ, IsTrue, true, false, IsSome, IfSome, IfNone, EachIndex, slice_index_or, slice_set};
 ghost use Rattle.arachne_core.specs.Occupancy.{mask_of, count_of, flags, occupancy_word, occupancy_of, IsOccupancyWord, vacant};
@@ -8,23 +8,23 @@ use std::marker::Model;
 
 const COUNT_SHIFT: u32 = MASK_BITS as u32;
 
-/// The mask of a core whose indexes are all occupied.
+/// The mask of a core whose 56 slots are all occupied.
 pub const FULL_MASK: u64 = (1 << COUNT_SHIFT) - 1;
 
-/// The number that, added to a word, adds one to the field of the count.
+/// The number that adds one to the count of occupied slots, if it is added to an occupancy word.
 pub const COUNT_ONE: u64 = 1 << COUNT_SHIFT;
 
 const COUNT_MASK: u64 = (1 << 6) - 1;
 
 const CLOSED: u64 = 1 << 62;
 
-/// The bit of an exclusive core, which only one thread uses.
+/// The bit of an exclusive core, which one thread has for itself.
 pub const EXCLUSIVE: u64 = 1 << 63;
 
 /// The occupancy of a core, packed into one word.
 ///
-/// The mask of the occupied indexes is in bits 0 to 55, the number of its set bits in bits 56 to 61, the closed bit is
-/// bit 62, and the exclusive bit is bit 63.
+/// The mask of the occupied slots is in bits 0 to 55, the number of its set bits in bits 56 to 61. Bit 62 is set if the
+/// core is closed, and bit 63 if it is exclusive to one thread.
 #[derive(Clone, Copy, Debug, PartialEq, Eq)]
 pub struct OccWord {
     word: u64,
@@ -46,14 +46,14 @@ impl Model for OccWord {
 }
 
 impl OccWord {
-    /// Returns the word of an open core with no index occupied: 0.
+    /// Returns the word of an open core with no occupied slot: 0.
     pub fn empty() -> Self
         ensures { result ≡ vacant }
     {
         OccWord { word: 0 }
     }
 
-    /// Returns the word with this mask, whose count is the number of its set bits.
+    /// Returns the word with this mask. Its count is the number of set bits in `mask`.
     pub fn new(mask: u64, closed: bool, exclusive: bool) -> Self
         requires { mask < 2 ^ MASK_BITS }
         ensures { result ≡ record { occupied = flags MASK_BITS mask; closed = closed; exclusive = exclusive } }
@@ -66,7 +66,7 @@ impl OccWord {
         }
     }
 
-    /// Reads a word. Returns `None` if the word's count is not the number of set bits in its mask.
+    /// Unpacks an occupancy word. Returns `None` if its count is not the number of set bits in its mask.
     pub fn from_word(word: u64) -> Option<Self>
         ensures some { IsSome result ↔ IsOccupancyWord word }
         ensures value { IfSome result (λ occ. occ ≡ occupancy_of word) }
@@ -78,7 +78,7 @@ impl OccWord {
         }
     }
 
-    /// Returns the word as a number.
+    /// Returns the packed word as a number.
     pub fn word(self) -> u64
         ensures packed { result ≡ occupancy_word self }
         ensures read { IsOccupancyWord result × (occupancy_of result ≡ self) }
@@ -86,7 +86,7 @@ impl OccWord {
         self.word
     }
 
-    /// Returns the mask, in which bit i is set if index i is occupied.
+    /// Returns the mask, in which bit i is set if the slot with index i is occupied.
     pub fn mask(self) -> u64
         ensures bits { result ≡ mask_of self.occupied }
         ensures within { result < 2 ^ MASK_BITS }
@@ -94,7 +94,7 @@ impl OccWord {
         self.word & FULL_MASK
     }
 
-    /// Returns the number of occupied indexes.
+    /// Returns the number of occupied slots.
     pub fn count(self) -> u8
         ensures bits { result ≡ count_of self.occupied }
         ensures within { result ≤ MASK_BITS }
@@ -114,7 +114,7 @@ impl OccWord {
         self.word & EXCLUSIVE != 0
     }
 
-    /// Returns whether no index is occupied.
+    /// Returns whether no slot is occupied.
     pub fn is_empty(self) -> bool
         ensures { IsTrue result ↔ EachIndex self.occupied (λ i. slice_index_or self.occupied i false ≡ false) }
     {
@@ -128,7 +128,7 @@ impl OccWord {
         (self.word >> u32::from(index)) & 1 == 1
     }
 
-    /// Returns the lowest index that is not occupied.
+    /// Returns the lowest index of a free slot, or `None` if all 56 are occupied.
     pub fn lowest_free(self) -> Option<u8>
         ensures within { IfSome result (λ free. free < MASK_BITS) }
         ensures free { IfSome result (λ free. slice_index_or self.occupied free false ≡ false) }
@@ -143,7 +143,7 @@ impl OccWord {
         }
     }
 
-    /// Returns the lowest index that is not occupied, on a core of `slots` places.
+    /// Returns the lowest index of a free slot below `slots`, or `None` if there is none.
     pub fn lowest_free_below(self, slots: u8) -> Option<u8>
         requires { slots ≤ MASK_BITS }
         ensures within { IfSome result (λ free. free < slots) }
@@ -157,7 +157,7 @@ impl OccWord {
         }
     }
 
-    /// Returns the word with this index occupied. The count is updated too.
+    /// Returns a copy of this word in which the slot `index` is occupied, with the count to match.
     pub fn with_bit(self, index: u8) -> Self
         requires { index < MASK_BITS }
         ensures { result ≡ record self { occupied = slice_set self.occupied index true } }
@@ -171,7 +171,7 @@ impl OccWord {
         }
     }
 
-    /// Returns the word with this index free. The count is updated too.
+    /// Returns a copy of this word in which the slot `index` is free, with the count to match.
     pub fn without_bit(self, index: u8) -> Self
         requires { index < MASK_BITS }
         ensures { result ≡ record self { occupied = slice_set self.occupied index false } }
@@ -185,7 +185,7 @@ impl OccWord {
         }
     }
 
-    /// Returns the word with the closed bit set or cleared.
+    /// Returns a copy of this word with the closed bit set or cleared.
     pub fn with_closed(self, closed: bool) -> Self
         ensures { result ≡ record self { closed = closed } }
     {
@@ -194,7 +194,7 @@ impl OccWord {
         OccWord { word }
     }
 
-    /// Returns the word with the exclusive bit set or cleared.
+    /// Returns a copy of this word with the exclusive bit set or cleared.
     pub fn with_exclusive(self, exclusive: bool) -> Self
         ensures { result ≡ record self { exclusive = exclusive } }
     {

@@ -1,11 +1,11 @@
-//! A place (a core and an index on it), and the number from 0 that each place of a table has.
+//! A place, which is one of a core's thread slots. All places of a table are also numbered from 0.
 
-/// A place for one context: an index of a core.
+/// A thread slot of a core. Each slot has one context, the record of a thread.
 #[derive(Clone, Copy, Debug, PartialEq, Eq)]
 pub struct Place {
     /// The number of the core, from 0.
     pub core: u8,
-    /// The index on the core, below the number of places that each core has.
+    /// The index of the slot on its core, below the number of slots of each core.
     pub index: u8,
 }
 
@@ -13,7 +13,7 @@ impl Place {
     ghost use Rattle.std.specs.Prelude.{◌≡◌, ◌*◌, ◌<◌};
     ghost use Rattle.arachne_core.specs.Place.{first_place, number_of};
 
-    /// Returns the place of a context in a new table whose cores have `slots` places each.
+    /// Returns the slot of `context` in a new table whose cores have `slots` slots each.
     pub fn of_context(context: u32, slots: u8) -> Self
         requires { context < 256 * slots }
         ensures { result ≡ first_place slots context }
@@ -25,7 +25,7 @@ impl Place {
         }
     }
 
-    /// Returns the number of the context at this place in a new table whose cores have `slots` places each.
+    /// Returns the number of the context in this slot of a new table whose cores have `slots` slots each.
     pub fn number(self, slots: u8) -> u32
         ensures { result ≡ number_of slots self }
     {

@@ -4,41 +4,42 @@ use crate::layout::LAST_GENERATION;
 use crate::mark::Mark;
 use crate::place::Place;
 
-/// The state of a context.
+/// The state of a context, the record of a thread.
 ///
-/// The carrier is the number of the seat that has claimed the context, or holds its thread. A tag is the number that
-/// was put into the table with the thread.
+/// `carrier` is the number of the seat (a kernel thread's right to call the table) that has claimed the context, or
+/// holds its thread. `tag` is the number that came into the table with the thread.
 #[derive(Clone, Copy, Debug, PartialEq, Eq)]
 pub enum State {
     /// There is no thread, and no seat has claimed the context.
     Free,
-    /// There is no thread yet. The seat `carrier` has claimed the context, and may post a thread there.
+    /// There is no thread yet. The seat `carrier` has reserved the context, and may put a thread into it.
     Claimed { carrier: u32 },
-    /// The thread may be taken.
+    /// The thread is ready: a seat may take it.
     Ready { tag: u64 },
-    /// The thread waits to be woken.
+    /// The thread is blocked until it is woken.
     Blocked { tag: u64 },
-    /// The seat `carrier` holds the thread, and runs it. `woken`: the thread was woken since it was taken.
+    /// The seat `carrier` holds the thread, and runs it. `woken` is true if the thread was woken since the seat took
+    /// it.
     Held { carrier: u32, woken: bool, tag: u64 },
-    /// The thread of the last generation has ended. The context is never used again.
+    /// The thread of the context's last generation has ended. The context is never used again.
     Spent,
 }
 
-/// The ways in which a seat puts a thread back.
+/// The state in which a seat puts a thread back: ready or blocked.
 #[derive(Clone, Copy, Debug, PartialEq, Eq)]
 pub enum Rest {
     /// The thread is ready: any seat may take it and run it.
     Ready,
-    /// The thread waits to be woken. If the thread was woken since it was taken, it is ready instead.
+    /// The thread is blocked until it is woken. If it was woken since it was taken, it is ready instead.
     Blocked,
 }
 
-/// The record that the table keeps of a context: its place, the number of threads that it has had, and its state.
+/// The table's record of a context: its slot on a core, its generation, and its state.
 #[derive(Clone, Copy, Debug, PartialEq, Eq)]
 pub struct Context {
-    /// The context's place, which changes if its thread is moved.
+    /// The context's slot on a core. It changes if the context's thread is moved.
     pub place: Place,
-    /// The number of threads that have ended in the context, added to the table's first generation.
+    /// The number of threads that have ended in the context, plus the table's first generation.
     pub generation: u64,
     pub state: State,
 }
@@ -75,7 +76,7 @@ impl State {
         }
     }
 
-    /// Returns whether the state is ready or blocked.
+    /// Returns whether the context has a ready or a blocked thread, which no seat holds.
     pub(crate) fn is_at_rest(self) -> bool
         ensures { IsTrue result ↔ IsAtRest self }
     {
@@ -108,7 +109,7 @@ impl State {
         }
     }
 
-    /// Returns whether there is a thread: ready, blocked or held by a seat.
+    /// Returns whether there is a thread, be it ready, blocked or held by a seat.
     pub(crate) fn is_live(self) -> bool
         ensures { result ≡ is_live_state self }
     {
@@ -128,7 +129,7 @@ impl State {
         }
     }
 
-    /// Returns the mark of the state.
+    /// Returns this state as a mark word shows it.
     pub(crate) fn mark(self) -> Mark
         ensures { result ≡ mark_of self }
     {
@@ -156,7 +157,7 @@ impl State {
         }
     }
 
-    /// Returns the state after the thread was put back by the seat that held it.
+    /// Returns the state after the seat that held the thread has put it back.
     pub(crate) fn put_back(self, rest: Rest) -> Self
         ensures { result ≡ put_back rest self }
     {

@@ -1,4 +1,4 @@
-//! The lists behind a `World`, the state of a context table, and the effect of each event on them.
+//! The lists of which the type `World` consists, and the effect of each event on them.
 
 ghost use Rattle.std.specs.Prelude.{◌≡◌, ◌≢◌, ℕ, ◌<◌, ◌≤◌, ◌+◌, ◌*◌, ◌↔◌, length, map, IsTrue, IsOk, IfOk, IfErr, OnOk, OnErr, replicate, ◌++◌, ◌∷◌, []};
 ghost use Rattle.std.specs.List.{range_with_len};
@@ -17,14 +17,15 @@ use crate::thread_id::ThreadId;
 use std::alloc::{AllocError, Global};
 use std::marker::Model;
 
-/// The contexts and cores of a table by number, and the threads that were posted or have ended, in order.
+/// The contexts and cores of a table by number, and the lists of the threads that came into the table and of those that
+/// have ended, in order.
 #[derive(Debug, Drop)]
 pub struct Tables {
     contexts: Vec<Context>,
     cores: Vec<OccWord>,
-    /// The number of places of each core.
+    /// The number of thread slots of each core.
     slots: u8,
-    /// The context at each place, by the place's number.
+    /// The context in each slot, by the slot's number.
     residents: Vec<u32>,
     given: Vec<(ThreadId, u64)>,
     ended: Vec<(ThreadId, u64)>,
@@ -51,7 +52,7 @@ impl Model for Tables {
 }
 
 impl Tables {
-    /// Creates a table whose contexts are free and of one generation, each at its first place.
+    /// Creates a table whose contexts are free, in generation `first_generation`, each in the slot with its own number.
     pub fn new(
         alloc: Global,
         cores: u8,
@@ -80,8 +81,7 @@ impl Tables {
         })
     }
 
-    /// Reserves memory for `posts` more posts (threads put into the table) and `retires` more retires (ends of
-    /// threads).
+    /// Reserves memory to record `posts` more threads that come into the table, and `retires` more ends of threads.
     pub fn reserve(&mut self, posts: usize, retires: usize) -> Result<(), AllocError>
         ensures kept { self.new ≡ record self.old { posts = self.new.posts; retires = self.new.retires } }
         ensures grown { (self.old.posts ≤ self.new.posts) × (self.old.retires ≤ self.new.retires) }
@@ -115,7 +115,7 @@ impl Tables {
         self.cores.len() as u8
     }
 
-    /// Returns the number of places of each core.
+    /// Returns the number of thread slots of each core.
     pub fn slots(&self) -> u8
         ensures value { result ≡ self.now.slots }
         ensures some { 1 ≤ result }
@@ -345,7 +345,7 @@ impl Tables {
 
     // ---- each event, if it is allowed
 
-    /// Changes the lists as the event says. If memory is refused, nothing changes.
+    /// Changes the lists as the event says, which must be allowed. If memory is refused, nothing changes.
     pub fn make(&mut self, event: Event) -> Result<(), NotApplied>
         requires { Allowed (world_of self.old) event }
         ensures { Answers event self.old self.new result }
@@ -505,7 +505,7 @@ impl Tables {
     }
 }
 
-/// Returns the contexts of a new table, by number.
+/// Returns the contexts of a new table, in the order of their numbers.
 fn first_contexts(
     alloc: Global,
     count: u32,
@@ -526,14 +526,14 @@ fn first_contexts(
     Ok(contexts)
 }
 
-/// Returns the cores of a new table: open, with no index occupied.
+/// Returns the occupancy words of a new table: all cores are open, and no slot is occupied.
 fn first_cores(alloc: Global, count: u8) -> Result<Vec<OccWord>, AllocError>
     ensures { IfOk result (λ made. made.items ≡ replicate count vacant) }
 {
     vec![in alloc; OccWord::empty(); usize::from(count)]
 }
 
-/// Returns the context at each place of a new table: the context whose number is the place's.
+/// Returns the context in each slot of a new table: the one with the slot's number.
 fn first_residents(alloc: Global, count: u32) -> Result<Vec<u32>, AllocError>
     ensures { IfOk result (λ made. made.items ≡ range_with_len 0 count) }
 {

@@ -1,5 +1,4 @@
-//! The state of a context table as a type that a program can use. Contracts see it as the lists of which the specs make
-//! their `World`.
+//! The state of a context table as a type that a program can use. Contracts describe it as a `World` of the specs.
 
 use crate::event::{Event, NotApplied};
 use crate::layout::{CORES, LAST_GENERATION, SLOTS};
@@ -11,10 +10,10 @@ use crate::tables::Tables;
 use std::alloc::{AllocError, Global};
 use std::marker::Model;
 
-/// A context table for one thread, in which each event is one call: the specification of the shared tables.
+/// A context table for a single caller, in which each event is one call: the specification of the shared tables.
 ///
-/// At every moment each context, place and thread has exactly one owner. The cost of an event does not depend on the
-/// number of contexts.
+/// A context is the record of one user thread. At every moment, each context, thread slot and thread has exactly one
+/// owner. The cost of an event does not depend on the number of contexts.
 #[derive(Debug, Drop)]
 pub struct World {
     tables: Tables,
@@ -38,7 +37,7 @@ impl World {
     ghost use Rattle.arachne_core.specs.Run.{IsOpening};
     ghost use Rattle.arachne_core.specs.ContextTable.{world_of, ShowsCore, IsVacantFrom, marked, Answers};
 
-    /// Creates a table of `cores` cores with `slots` places each. All its contexts are free, in generation
+    /// Creates a table of `cores` cores with `slots` thread slots each. All its contexts are free, in generation
     /// `first_generation`.
     pub fn new(
         alloc: Global,
@@ -60,8 +59,8 @@ impl World {
         Ok(World { tables })
     }
 
-    /// Reserves memory for `posts` more posts (threads put into the table) and `retires` more retires (ends of
-    /// threads), which then take no memory.
+    /// Reserves memory to record `posts` more threads that come into the table, and `retires` more ends of threads.
+    /// These events then take no memory.
     pub fn reserve(&mut self, posts: usize, retires: usize) -> Result<(), AllocError>
         ensures kept { self.new ≡ record self.old { posts = self.new.posts; retires = self.new.retires } }
         ensures grown { (self.old.posts ≤ self.new.posts) × (self.old.retires ≤ self.new.retires) }
@@ -72,10 +71,10 @@ impl World {
         self.tables.reserve(posts, retires)
     }
 
-    /// Changes the state as the event says, if the state allows the event.
+    /// Changes the state as `event` says.
     ///
-    /// Returns `NotAllowed` if the event is not allowed, and `Memory` if memory was refused. After an error the state
-    /// is unchanged. Only a post or a retire takes memory, if no memory was reserved for it.
+    /// Returns `NotAllowed` if the state does not allow the event, and `Memory` if memory was refused. After an error
+    /// the state is unchanged. Only a post or a retire takes memory, if none was reserved for it.
     pub fn apply(&mut self, event: Event) -> Result<(), NotApplied>
         ensures answer { Answers event self.old self.new result }
         ensures err { OnErr result (self.new ≡ self.old) }
@@ -97,7 +96,7 @@ impl World {
         self.tables.count()
     }
 
-    /// Returns the number of places of each core.
+    /// Returns the number of thread slots of each core.
     pub fn slots(&self) -> u8
         ensures value { result ≡ (world_of self.now).slots }
         ensures some { 1 ≤ result }
@@ -106,14 +105,14 @@ impl World {
         self.tables.slots()
     }
 
-    /// Does nothing. The contract is a law: each context, place and thread of the table has exactly one owner.
+    /// Does nothing. Its contract is a law: each context, slot and thread of the table has exactly one owner.
     pub fn is_owned_once(&self)
         ensures { OwnedOnce (world_of self.now) }
     {
         let _ = &self.tables;
     }
 
-    /// Returns the number of the context at a place.
+    /// Returns the number of the context in this slot.
     pub fn context_at(&self, place: Place) -> u32
         requires { IsPlace (world_of self.now) place }
         ensures within { IsContext (world_of self.now) result }
@@ -122,7 +121,7 @@ impl World {
         self.tables.resident(place)
     }
 
-    /// Returns the place of a context.
+    /// Returns the slot of this context: its core and its index there.
     pub fn place_of(&self, context: u32) -> Place
         requires { IsContext (world_of self.now) context }
         ensures { result ≡ (world_of self.now).at context }
@@ -138,7 +137,7 @@ impl World {
         self.tables.context(context).state
     }
 
-    /// Returns the occupancy word of a core: which places are occupied, as bits.
+    /// Returns the occupancy word of a core, which says which of its slots are occupied.
     pub fn occ(&self, core: u8) -> OccWord
         requires { core < (world_of self.now).cores }
         ensures shows { ShowsCore (world_of self.now) core result }
@@ -147,7 +146,7 @@ impl World {
         self.tables.core(core)
     }
 
-    /// Returns the mark word of a context: its packed state, place and generation.
+    /// Returns the mark word of a context: its state, slot and generation, packed.
     pub fn mark(&self, context: u32) -> MarkWord
         requires { IsContext (world_of self.now) context }
         ensures { result ≡ marked (world_of self.now) context }

@@ -1,7 +1,8 @@
-//! The results of an executor's calls: the job that the seat holds now, why a call was refused, or which worker the
-//! caller must unpark.
+//! The results of an executor's calls: the job that the caller's seat now holds, why a call was refused, or whether the
+//! caller must unpark a worker.
 
-/// A job that a seat holds: its place, its name, and its number.
+/// A job that a seat holds: its slot (`place`), its unique `name`, and the number that the host gave to `spawn`
+/// (`job`).
 #[derive(Clone, Copy, Debug, PartialEq, Eq)]
 pub struct HeldJob {
     pub place: usize,
@@ -9,8 +10,9 @@ pub struct HeldJob {
     pub job: u64,
 }
 
-/// The place at which `spawn` has put a job, and the job's name. If `unpark` is true, the caller must unpark the worker
-/// of the place.
+/// The slot (`place`) into which `spawn` has put a job, and the job's unique name.
+///
+/// If `unpark` is true, the caller must unpark the worker `worker_of_place(place)`.
 #[derive(Clone, Copy, Debug, PartialEq, Eq)]
 pub struct PlacedJob {
     pub place: usize,
@@ -18,66 +20,67 @@ pub struct PlacedJob {
     pub unpark: bool,
 }
 
-/// The result of `spawn`: the job's place and name, or the reason why it has none.
+/// The result of `spawn`: the job's slot and name, or the reason why no job was spawned.
 #[derive(Clone, Copy, Debug, PartialEq, Eq)]
 pub enum JobSpawned {
     Placed(PlacedJob),
-    /// No place of the block was free.
+    /// No slot of the block was free.
     Full,
-    /// Another thread claimed the place first: the caller may try again.
+    /// Another thread claimed the free slot first. The caller may try again.
     Lost,
 }
 
-/// The result of `spawn_here`, which spawns a job that the seat then holds.
+/// The result of `spawn_here`: the job, which the caller's seat then holds, or the reason why no job was spawned.
 #[derive(Clone, Copy, Debug, PartialEq, Eq)]
 pub enum SpawnedHere {
     Held(HeldJob),
-    /// No place of the block was free.
+    /// No slot of the block was free.
     Full,
-    /// Another thread claimed the place first: the caller may try again.
+    /// Another thread claimed the free slot first. The caller may try again.
     Lost,
 }
 
-/// The state of the job that `rest_blocked` has put back: it is blocked, or ready because a wake had come.
+/// The result of `rest_blocked`: the job is blocked, or it is ready again because it was woken while it ran.
 #[derive(Clone, Copy, Debug, PartialEq, Eq)]
 pub enum JobRested {
     Blocked,
-    /// The job is ready: `rest_blocked` found a recorded wake.
+    /// The job is ready, because it was woken while it ran. If `unpark` is true, the caller must unpark the job's
+    /// worker.
     Ready { unpark: bool },
 }
 
-/// The next action of a worker: run a job, call `next` again, or park.
+/// The result of `next`: the worker must run a job, call `next` again, or park.
 #[derive(Clone, Copy, Debug, PartialEq, Eq)]
 pub enum Next {
     Run(HeldJob),
-    /// The worker must park: it has set its idle bit, and then found each of its summary words (which show blocks with
-    /// ready jobs) empty.
+    /// The worker must park. `next` has set the worker's idle bit, and then found each of the worker's summary words
+    /// (which show the blocks with ready jobs) empty.
     Park,
-    /// The worker must call `next` again.
+    /// No job was taken, but the worker mustn't park yet: it must call `next` again.
     Again,
 }
 
-/// The effect of `wake` on the job of the given name.
+/// The result of `wake`: its effect on the job with the given name.
 #[derive(Clone, Copy, Debug, PartialEq, Eq)]
 pub enum JobWoken {
-    /// The job was blocked, and is ready now.
+    /// The job was blocked, and is ready now. If `unpark` is true, the caller must unpark the job's worker.
     Ready { unpark: bool },
-    /// The job isn't blocked. Its mark (an atomic word) records the wake until a take or `start` clears the record, or
-    /// the job ends. A wake for the next job of a free place, by the name that this job will have, is recorded in the
-    /// same way.
+    /// The job isn't blocked, so the mark of its slot (an atomic word) now records the wake. A take or `start` of the
+    /// job clears the record, or the job's end does. If the name is the one that the next job of a free slot will have,
+    /// the wake is recorded in the same way.
     Marked,
-    /// The job's mark already records a wake.
+    /// The mark of the job's slot already records a wake.
     Already,
-    /// No job has that name now.
+    /// No job has that name at present.
     Gone,
-    /// Another thread changed the job's mark: the caller may try again.
+    /// Another thread changed the slot's mark during the call. The caller may try again.
     Lost,
 }
 
-/// The result of `wake_here`, after which the seat holds a job that was blocked.
+/// The result of `wake_here`, which wakes a job; if the job was blocked, the caller's seat then holds it.
 #[derive(Clone, Copy, Debug, PartialEq, Eq)]
 pub enum WokenHere {
-    /// The job was blocked, and is held by the caller now.
+    /// The job was blocked, and the caller's seat holds it now.
     Held(HeldJob),
     Marked,
     Already,

@@ -1,4 +1,4 @@
-//! Ends an executor, and returns the jobs that haven't ended.
+//! The calls that end an executor and return the jobs that haven't ended.
 ghost use Rattle.std.specs.Prelude.{◌≡◌, ◌*◌, ◌≤◌, [], vec_len, IfOk, IfErr};
 ghost use Rattle.std.specs.Vec.{vec_capacity};
 ghost use Rattle.arachne_weights.specs.Weight.{whole};
@@ -9,8 +9,9 @@ use crate::seat::{ExecSeat, SeatInCall};
 use std::alloc::Global;
 
 impl Executor {
-    /// Ends the executor. Returns the jobs that were spawned and haven't ended, by place. If memory for the list is
-    /// refused, returns the executor and the seat.
+    /// Ends the executor. Returns the numbers of the jobs that haven't ended, in the order of their slots.
+    ///
+    /// If memory for the list is refused, returns the executor and the seat.
     pub fn close(self, alloc: Global, seat: ExecSeat) -> Result<Vec<u64>, (Executor, ExecSeat)>
         requires own { seat.table ≡ self.table }
         requires whole { seat.weight ≡ whole }
@@ -25,8 +26,9 @@ impl Executor {
         Ok(self.close_into(seat, left))
     }
 
-    /// Ends the executor like `close`, but puts the numbers of the jobs that are left into `list`, which must be empty
-    /// and have room for all places.
+    /// Ends the executor like `close`, but puts the numbers of the jobs that haven't ended into `list`.
+    ///
+    /// The caller must pass an empty `list` with capacity for all slots.
     pub fn close_into(self, seat: ExecSeat, list: Vec<u64>) -> Vec<u64>
         requires own { seat.table ≡ self.table }
         requires whole { seat.weight ≡ whole }

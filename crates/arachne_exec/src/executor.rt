@@ -1,4 +1,4 @@
-//! Makes an executor with its first seat, splits a seat for another thread, and joins seats again.
+//! The executor, with the calls that create it with its first seat, split a seat for another thread, and join seats.
 ghost use Rattle.std.specs.Prelude.{◌≡◌, ◌*◌, ◌↔◌, ◌≤◌, [], IsTrue, IfOk};
 ghost use Rattle.arachne_weights.specs.Weight.{whole, first_part, second_part, joined};
 ghost use Rattle.arachne_exec.specs.Changes.{blank, splitting, together};
@@ -13,12 +13,15 @@ use atomic_table::Table;
 use std::alloc::{AllocError, Global};
 use std::marker::Model;
 
-/// An executor: a table of atomic words, which say which places have a ready or a blocked job, and for each place a
-/// field for the number of its job.
+/// An executor: it knows which jobs are ready or blocked, and gives each ready job to one thread.
 ///
-/// Contracts see which table it is, and the number of its shards.
-// In the methods of this type a line `let _ = self.shards;` opens the table for the prover, which learns its sizes
-// there.
+/// A job is a number of the host's. It is stored in one of the slots: 64 slots are a block, and 64 blocks a shard,
+/// whose jobs one worker runs. A block's ready word has a bit for each ready job, a shard's summary word a bit for each
+/// block that may have ready jobs, and the idle word a bit for each worker that sleeps or is about to. Threads call the
+/// executor through seats. Contracts refer to the executor's table of atomic words, which each of its seats has too,
+/// and to its number of shards.
+// In methods of this type, the line `let _ = self.shards;` gives the prover the invariant of this type, with the sizes
+// of the table.
 #[derive(Drop)]
 pub struct Executor {
     pub(crate) table: Table<u64, View, usize, Lawful, Global>,
@@ -36,8 +39,10 @@ impl Model for Executor {
 }
 
 impl Executor {
-    /// Returns an executor with `shards` shards of 4,096 free places each, and its first seat, which has the whole
-    /// weight.
+    /// Creates an executor with `shards` shards of 4,096 free slots each. Returns it with its first seat, which has the
+    /// whole weight.
+    ///
+    /// A split halves a seat's weight and a join adds two, so a seat with the whole weight is the only one.
     pub fn new(alloc: Global, shards: usize) -> Result<(Executor, ExecSeat), AllocError>
         requires { shards ≤ 256 }
         ensures shards { IfOk result (λ made. made.0.shards ≡ shards) }
@@ -57,14 +62,14 @@ impl Executor {
         Ok((Executor { table, shards }, seat))
     }
 
-    /// Returns the number of shards, which have 4,096 places each.
+    /// Returns the number of shards, each of which has 4,096 job slots.
     pub fn shards(&self) -> usize
         ensures { result ≡ self.now.shards }
     {
         self.shards
     }
 
-    /// Returns the number of places.
+    /// Returns the number of job slots, 4,096 for each shard.
     pub fn places(&self) -> usize
         ensures { result ≡ 4096 * self.now.shards }
     {
@@ -72,7 +77,7 @@ impl Executor {
         4096 * self.shards
     }
 
-    /// Does nothing. The contract is the law that there are at most 256 shards.
+    /// Does nothing. Its contract states that an executor has at most 256 shards.
     pub(crate) fn few(&self)
         ensures { self.now.shards ≤ 256 }
     {
@@ -99,8 +104,9 @@ impl Executor {
         self.table.shared.join_seat::<Halve>(&mut seat.seat, spent);
     }
 
-    /// Returns a seat for another thread, with half of `seat`'s weight and nothing else. If the weight is 1 or 0, both
-    /// seats then have weight 0.
+    /// Splits off a seat for another thread, which gets half of `seat`'s weight and holds no job.
+    ///
+    /// If the weight is 1 or 0, both seats then have weight 0.
     pub fn split(&self, seat: &mut ExecSeat) -> ExecSeat
         requires own { seat.old.table ≡ self.now.table }
         ensures first { seat.new ≡ record seat.old { weight = first_part seat.old.weight; known = splitting seat.old.known } }
@@ -117,8 +123,9 @@ impl Executor {
         }
     }
 
-    /// Joins `other` into `seat`, which gets the weight of `other` (at most the whole) and its record. `other` must
-    /// hold no job and have no worker number.
+    /// Joins `other` into `seat`, which gets `other`'s weight (up to the whole) and its record.
+    ///
+    /// The caller must pass an `other` that holds no job and has no worker number.
     pub fn join_seats(&self, seat: &mut ExecSeat, other: ExecSeat)
         requires own { (seat.old.table ≡ self.now.table) × (other.table ≡ self.now.table) }
         requires nothing_in_hand { other.known.hand ≡ [] }
@@ -134,7 +141,7 @@ impl Executor {
         seat.weight = seat.weight.join(added);
     }
 
-    /// Returns true if all other seats were joined into `seat`.
+    /// Returns true if `seat` has the whole weight: all other seats were joined into it.
     pub fn is_whole(&self, seat: &ExecSeat) -> bool
         ensures { IsTrue result ↔ (seat.now.weight ≡ whole) }
     {

@@ -1,4 +1,4 @@
-//! The calls that spawn a job, take it to run it, put it back, and end it.
+//! The calls that spawn a job, take one to run it, make it ready or block it again, and end it.
 ghost use Rattle.std.specs.Prelude.{◌≡◌, ℕ, ◌+◌, ◌*◌, ◌%◌, ◌<◌, IsTrue, IsFalse, IfSome, IfNone};
 ghost use Rattle.arachne_exec.specs.Layout.{mark_at, name_of};
 ghost use Rattle.arachne_exec.specs.Changes.{laying_down, noted, rousing, using_up};
@@ -11,7 +11,7 @@ use crate::layout::{LAST_GENERATION, free_word, mark_word, name_at, ready_word};
 use crate::seat::{ExecSeat, SeatInCall};
 use crate::turns::{First, TakenJob, first_from, has_more, lowest_index};
 
-/// Returns the job with number `job` at `place`, with the name that the place's mark gives it.
+/// Returns the job with number `job` in slot `place`. Its name consists of `place` and the generation in `mark`.
 #[inline(always)]
 pub(crate) fn job_at(place: usize, mark: u64, job: u64) -> HeldJob
     requires { place < 1048576 }
@@ -25,8 +25,10 @@ pub(crate) fn job_at(place: usize, mark: u64, job: u64) -> HeldJob
 }
 
 impl Executor {
-    /// Clears the record of a wake of the seat's newest job, if there is one. Returns the mark (an atomic word with
-    /// that record) from before.
+    /// Clears the record of a wake, if there is one, in the mark of slot `place`. Returns the mark (an atomic word) as
+    /// it was before.
+    ///
+    /// `place` must be the slot of the job that `seat` got last of those that it holds.
     pub(crate) fn refresh(&self, seat: &mut SeatInCall, place: usize) -> u64
         requires own { seat.old.table ≡ self.now.table }
         requires place { place < 4096 * self.now.shards }
@@ -43,7 +45,7 @@ impl Executor {
         mark
     }
 
-    /// Tries once to put a job at a free place of a block. The job is then ready at that place.
+    /// Tries once to put `job` into a free slot of `block`, ready to be run by any thread.
     pub fn spawn(&self, seat: &mut ExecSeat, block: usize, job: u64) -> JobSpawned
         requires own { seat.old.table ≡ self.now.table }
         requires block { block < 64 * self.now.shards }
@@ -70,7 +72,8 @@ impl Executor {
         })
     }
 
-    /// Tries once to put a job at a free place of a block, so that the seat holds the job and nobody else can take it.
+    /// Tries once to put `job` into a free slot of `block`. The caller's seat then holds the job: no other thread can
+    /// take it.
     pub fn spawn_here(&self, seat: &mut ExecSeat, block: usize, job: u64) -> SpawnedHere
         requires own { seat.old.table ≡ self.now.table }
         requires block { block < 64 * self.now.shards }
@@ -92,8 +95,8 @@ impl Executor {
         SpawnedHere::Held(job_at(place, mark, job))
     }
 
-    /// Tries once to take a ready job of a block: the one at the first ready place from the index `from` on, going
-    /// round the block. Also returns whether the block had another ready place behind that one.
+    /// Tries once to take a ready job of `block`, from the first slot at or behind `from` that has one, going round the
+    /// block. The second result is true if another ready slot lies behind that slot.
     pub(crate) fn take_from(
         &self,
         seat: &mut ExecSeat,
@@ -126,8 +129,11 @@ impl Executor {
         Some(TakenJob::new(job_at(place, mark, job), has_more(ready, index)))
     }
 
-    /// Tries once to take a ready job of any worker's block. The search goes round the block, and begins behind the
-    /// index of the job that this call last took for the seat.
+    /// Tries once to take a ready job of `block`, which may be any worker's. Returns `None` if there is none, or if
+    /// another thread took the job first.
+    ///
+    /// The search goes round the block, and begins behind the slot index at which this seat's last `take` found its
+    /// job.
     pub fn take(&self, seat: &mut ExecSeat, block: usize) -> Option<HeldJob>
         requires own { seat.old.table ≡ self.now.table }
         requires block { block < 64 * self.now.shards }
@@ -143,7 +149,9 @@ impl Executor {
         Some(taken.in_block(&mut seat.take_turn))
     }
 
-    /// Makes the seat's newest job ready again. Returns true if the caller must unpark the worker of its place.
+    /// Makes the job in slot `place` ready again. Returns true if the caller must unpark the slot's worker.
+    ///
+    /// `place` must be the slot of the job that `seat` got last of those that it holds.
     pub fn rest_ready(&self, seat: &mut ExecSeat, place: usize) -> bool
         requires own { seat.old.table ≡ self.now.table }
         requires place { place < 4096 * self.now.shards }
@@ -153,7 +161,7 @@ impl Executor {
         self.publish(&mut seat.at, place)
     }
 
-    /// Blocks the newest job that the seat holds, unless a wake of the job is recorded in its mark (an atomic word).
+    /// Blocks the job in slot `place`, unless a wake of the job is recorded in the slot's mark (an atomic word).
     /// Returns true if the job is blocked now.
     fn try_block(&self, seat: &mut SeatInCall, place: usize) -> bool
         requires own { seat.old.table ≡ self.now.table }
@@ -171,7 +179,9 @@ impl Executor {
         self.put_blocked(seat, place, mark)
     }
 
-    /// Blocks the newest job that the seat holds, or makes it ready if a wake of the job is recorded.
+    /// Blocks the job in slot `place`; if the job was woken while it ran, makes it ready instead.
+    ///
+    /// `place` must be the slot of the job that `seat` got last of those that it holds.
     pub fn rest_blocked(&self, seat: &mut ExecSeat, place: usize) -> JobRested
         requires own { seat.old.table ≡ self.now.table }
         requires place { place < 4096 * self.now.shards }
@@ -187,7 +197,10 @@ impl Executor {
         JobRested::Ready { unpark }
     }
 
-    /// Ends the newest job that the seat holds, and frees its place for a job of the next generation.
+    /// Ends the job in slot `place`, and frees the slot for another job, whose name will differ. After 2^44 - 1 jobs, a
+    /// slot is retired instead, and takes no more jobs.
+    ///
+    /// `place` must be the slot of the job that `seat` got last of those that it holds.
     pub fn finish(&self, seat: &mut ExecSeat, place: usize)
         requires own { seat.old.table ≡ self.now.table }
         requires place { place < 4096 * self.now.shards }

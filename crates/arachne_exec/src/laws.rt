@@ -1,5 +1,5 @@
-//! The laws that hold for an executor between any two atomic operations. The functions do nothing: a law is their
-//! contract.
+//! The laws that hold for an executor between any two atomic operations. The functions do nothing: each law is the
+//! contract of a function.
 ghost use Rattle.std.specs.Prelude.{◌≡◌, ◌≢◌, Bool, ℕ, ◌+◌, ◌*◌, ◌/◌, ◌<◌, ◌≤◌, min, List, ◌∷◌};
 ghost use mathlib.Core.Option.{some};
 ghost use lib.ListN.{get_elem?};
@@ -23,21 +23,21 @@ ghost use Rattle.arachne_exec.specs.Promises.{spawns, ends, times_in_hand, spawn
 use crate::executor::Executor;
 use crate::seat::ExecSeat;
 
-/// An executor's state is reached by one atomic operation (*step*) after another. The state, a *board*, is the numbers
-/// in the atomic words with what each seat has recorded. Each step found the number that was in its word, and kept the
-/// rule, the invariant of the table.
+/// An executor reaches its state by one atomic operation (*step*) after another. The state, a *board*, consists of the
+/// values of the atomic words and of the record that each seat has for the proofs. Each step found the value that was
+/// in its word, and kept the table's invariant, the *rule*.
 ///
-/// A seat records only the number that its step found in a word, or that its step put into a mark, and keeps what it
-/// has recorded. While its call must still set a bit of a summary word, a seat records nothing of summary words. A seat
-/// records each change of the worker numbers, each ready bit that it clears, and why it holds a job no more. So a
-/// number that was recorded was in its word, whatever kind of step recorded it. What a seat records of a worker's sleep
-/// is what the step did to the worker's idle bit. A seat that has claimed a place must spawn a job there before its
-/// call ends, after it has read the place's mark.
+/// A seat records only a value that its step found in a word, or that its step put into a mark, and never forgets a
+/// record. While its call must still set a bit of a summary word, a seat records nothing of summary words. A seat
+/// records each change of the worker numbers, each ready bit that it clears, and why it no longer holds a job. So each
+/// recorded value was in its word, whatever kind of step recorded it. A record of a worker's sleep says exactly what
+/// the step did to the worker's idle bit. A seat that has claimed a slot must, before its call ends, read the slot's
+/// mark and then spawn a job there.
 pub fn boards_come_by_steps()
     ensures { (shards : ℕ) (b : Board) → IsLawful shards b → HasCome shards b }
 {}
 
-/// Each place is exactly one of these: free, ready, blocked (or retired), or held by one seat. So a job that is neither
+/// Each slot is exactly one of these: free, ready, blocked (or retired), or held by one seat. So a job that is neither
 /// blocked nor held by a seat has its bit set in its block's ready word. If that word is 0, each job of the block is
 /// blocked or held by a seat.
 pub fn ready_jobs_are_shown()
@@ -46,14 +46,14 @@ pub fn ready_jobs_are_shown()
         → keepers_of place b ≡ 1 }
 {}
 
-/// At a free place no job's number is stored.
+/// A free slot stores no job number.
 pub fn free_places_are_empty()
     ensures { (shards : ℕ) (b : Board) → IsLawful shards b → (place : ℕ) → place < 4096 * shards → is_free b.words place ≡ 1 → IsEmptyPlace place b }
 {}
 
-/// For each job that was spawned at a place, the place was freed since, or isn't free. If a place isn't free, a job was
-/// spawned there since it was freed last, or a call in progress must still spawn one. So each ready job was spawned,
-/// and a call that spawns none takes no free place, not even for a time.
+/// For each job that was spawned in a slot, the slot was freed since, or isn't free. If a slot isn't free, a job was
+/// spawned there since the slot was freed last, or a call in progress must still spawn one. So each ready job was
+/// spawned, and a call that spawns no job takes no free slot, not even for a short time.
 pub fn jobs_are_spawned()
     ensures { (shards : ℕ) (b : Board) → IsLawful shards b → (place : ℕ) → place < 4096 * shards
         → spawns_at place b + unspawned_by place b.views + is_free b.words place ≡ frees_at place b + 1 }
@@ -71,17 +71,17 @@ pub fn sleepers_are_woken()
     ensures { (shards : ℕ) (b : Board) → IsLawful shards b → (worker : ℕ) → IsParked shards worker b → AreOwedTo shards worker b }
 {}
 
-/// Each time that a worker set its idle bit (lay down), the bit was cleared once since, by the worker itself (it rose)
-/// or by a seat that wakes it (it was roused); or the bit is still set. So each sleep of a worker whose bit is clear
-/// was ended by a call of its own or another's.
+/// Each time that a worker's idle bit was set, it was cleared once since, by the worker itself or by a seat that wakes
+/// the worker; or it is still set. So if a worker's idle bit is clear, each of its sleeps was ended by a call, of its
+/// own seat or of another.
 pub fn sleepers_are_told()
     ensures { (shards : ℕ) (b : Board) → IsLawful shards b → (worker : ℕ) → worker < 64
         → lies worker b.views ≡ rises worker b.views + rouses worker b.views + is_idle b.words worker }
 {}
 
-/// The results of calls say which workers were roused (their idle bits were cleared to wake them). A worker is roused,
-/// once, exactly if a result says to unpark it; but a worker's own `next` may rouse it without a result that says so.
-/// Only a worker's own `next` and `may_park` let it lie down (set its idle bit).
+/// The calls' results say which workers must be unparked. For each time that a worker's idle bit was cleared to wake
+/// the worker, one result says to unpark it, unless the worker's own `next` cleared the bit; and no other result says
+/// so. Only a worker's own `next` and `may_park` set its idle bit.
 pub fn calls_say_whom_they_rouse()
     ensures spawn { (answer : JobSpawned) (block job : ℕ) (k after : Notes) → HasSpawned answer block job k after → Rouses (spawn_unparks answer) (worker_of (block / 64)) k after }
     ensures rest_ready { (unpark : Bool) (place : ℕ) (k : Notes) → Rouses unpark (worker_at place) k (rousing unpark (worker_at place) (laying_down k)) }
@@ -97,8 +97,8 @@ pub fn calls_say_whom_they_rouse()
     ensures finish { (place : ℕ) (k after : Notes) → HasFinished place k after → RousesNobody k after }
 {}
 
-/// Each job number but 0 was spawned as often as it has ended, is held by a seat, or is stored at a place. The counts
-/// agree over all places together, and at each place.
+/// Each job number except 0 was spawned as often as it has ended, is held by a seat, or is stored in a slot. These
+/// counts agree for all slots together, and for each slot.
 pub fn jobs_are_conserved()
     ensures all { (shards : ℕ) (b : Board) → IsLawful shards b → (job : ℕ) → 0 < job
         → spawns job b ≡ ends job b + times_in_hand job b + at_home job b.homes }
@@ -106,26 +106,26 @@ pub fn jobs_are_conserved()
         → spawned_at place job b ≡ ended_at place job b + lives_at place job b }
 {}
 
-/// A place was blocked or retired as often as it was unblocked, once more if it is blocked now. So no atomic operation
-/// blocks a job, or wakes one, without being counted.
+/// A slot was blocked or retired as often as it was unblocked, and once more if it is blocked now. So no atomic
+/// operation blocks or wakes a job without being counted.
 pub fn blocks_are_counted()
     ensures { (shards : ℕ) (b : Board) → IsLawful shards b → (place : ℕ) → place < 4096 * shards
         → blocks place b ≡ unblocks place b + is_blocked b.words place }
 {}
 
-/// Each wake that was recorded at a place was cleared once, or is still recorded; by the clauses of the calls, only a
-/// take, a `start` or a `finish` of that place clears it. At a blocked job's place no wake is recorded. So a job blocks
-/// only after each wake that was recorded for it was cleared.
+/// Each wake that was recorded in a slot's mark was cleared once, or is still recorded. The clauses of the calls show
+/// that only a take, a `start` or a `finish` of the slot clears it. While a job is blocked, no wake is recorded for it.
+/// So a job blocks only after each wake that was recorded for it was cleared.
 pub fn wakes_are_heard()
     ensures blocked { (shards : ℕ) (b : Board) → IsLawful shards b → (place : ℕ) → place < 4096 * shards → is_blocked b.words place ≡ 1 → is_marked b.words place ≡ 0 }
     ensures heard { (shards : ℕ) (b : Board) → IsLawful shards b → (place : ℕ) → place < 4096 * shards
         → wakes place b ≡ wakes_heard place b + is_marked b.words place }
 {}
 
-/// The generation in a place's mark is the number of jobs that have ended there, up to the largest that a name can
-/// have, and at most one job is at the place. As long as a seat holds the place, the mark keeps the generation that the
-/// seat has last found in it. So a name, which has that generation, belongs to one job for good: once the job has ended
-/// the place's mark never has that generation again, and a wake by the name does nothing.
+/// The generation in a slot's mark is the number of jobs that have ended in the slot, up to the largest that a name can
+/// hold, and at most one job is in the slot. As long as a seat holds the slot, the mark keeps the generation that the
+/// seat last found in it. So a name, which contains the generation, belongs to one job forever: after that job's end
+/// the mark never has this generation again, and a wake by the old name does nothing.
 pub fn names_are_of_one_job()
     ensures generation { (shards : ℕ) (b : Board) → IsLawful shards b → (place : ℕ) → place < 4096 * shards
         → generation_at place b ≡ min last_generation (ends_at place b.views) }
@@ -135,8 +135,8 @@ pub fn names_are_of_one_job()
         → lives_at place job b + lives_at place other b ≤ 1 }
 {}
 
-/// No two seats are the same worker. If the bit of a worker number isn't set in the word of unused numbers, a seat has
-/// that number.
+/// No two seats have the same worker number. If the bit of a worker number is clear in the word of unused numbers, a
+/// seat has that number.
 pub fn workers_are_one()
     ensures one { (shards : ℕ) (b : Board) → IsLawful shards b → (worker : ℕ) → worker < 64 → seats_of worker b.views ≤ 1 }
     ensures taken { (shards : ℕ) (b : Board) → IsLawful shards b → (worker : ℕ) → worker < 64 → is_unused b.words worker ≡ 0 → seats_of worker b.views ≡ 1 }
@@ -144,8 +144,7 @@ pub fn workers_are_one()
 
 fn may_be_shared<T: Send + Sync>() {}
 
-/// Kernel threads may share an executor, a seat may be sent to another thread, and several threads may have a shared
-/// reference to one seat.
+/// Threads may share an executor, a seat may be sent to another thread, and threads may share a reference to a seat.
 pub fn executors_cross_threads() {
     may_be_shared::<Executor>();
     may_be_shared::<ExecSeat>();

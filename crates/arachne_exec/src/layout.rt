@@ -1,36 +1,36 @@
-//! The index of each atomic word in an executor's table, and the word's first value.
+//! The index of each atomic word in an executor's table, and its initial value.
 ghost use Rattle.std.specs.Prelude.{◌≡◌, ℕ, ◌+◌, ◌*◌, ◌/◌, ◌%◌, ◌^◌, ◌<◌, ◌≤◌, IfOk, vec_len, slice_index};
 ghost use Rattle.arachne_exec.specs.Layout.{summary_at, ready_at, free_at, mark_at, others, name_of, worker_of};
 ghost use Rattle.arachne_exec.specs.First.{AreFirstWords, first_word};
 
 use std::alloc::{AllocError, Global};
 
-/// The number of places of a block. A shard has as many blocks.
+/// The number of job slots in a block. A shard has as many blocks.
 pub const PLACES_PER_BLOCK: usize = 64;
 
 pub const BLOCKS_PER_SHARD: usize = 64;
 
-/// The most workers. The blocks of worker `w` are those of the shards `w`, `w + 64`, `w + 128` and so on.
+/// The greatest number of workers. Worker `w` runs the jobs of the shards `w`, `w + 64`, `w + 128` and so on.
 pub const WORKERS: usize = 64;
 
-/// The most shards of an executor.
+/// The greatest number of shards of an executor.
 pub const MOST_SHARDS: usize = 256;
 
 pub(crate) const IDLE: usize = 0;
 
 pub(crate) const NUMBERS: usize = 8;
 
-/// The generation in the mark of a retired place: the last job that can have a name has ended there.
+/// The generation of a retired slot: the last job that can have a name has ended there, so no other job is put there.
 pub(crate) const LAST_GENERATION: u64 = (1 << 44) - 1;
 
-/// Returns the place that a job's name contains.
+/// Returns the slot in which the job of this name is, or was.
 pub fn place_of(name: u64) -> usize
     ensures { result ≡ name % 2 ^ 20 }
 {
     (name % (1 << 20)) as usize
 }
 
-/// Returns the worker whose shards have this place.
+/// Returns the number of the worker that runs the jobs of this slot.
 pub fn worker_of_place(place: usize) -> usize
     ensures { result ≡ worker_of (place / 4096) }
 {
@@ -98,7 +98,7 @@ fn first_word_at(index: usize) -> u64
     }
 }
 
-/// Returns the first values of the words: all places are free, and no seat has a worker number.
+/// Returns the initial values of the atomic words: all slots are free, and all worker numbers are unused.
 pub(crate) fn first_words(alloc: Global, blocks: usize) -> Result<Vec<u64>, AllocError>
     requires { blocks ≤ 16384 }
     ensures { IfOk result (λ words. AreFirstWords blocks words.items) }
@@ -111,7 +111,7 @@ pub(crate) fn first_words(alloc: Global, blocks: usize) -> Result<Vec<u64>, Allo
     Ok(words)
 }
 
-/// Returns the field for a job's number, with no job in it, for each place of `blocks` blocks.
+/// Returns the job number of each slot in `blocks` blocks, all 0, which means that no job is there.
 pub(crate) fn empty_slots(alloc: Global, blocks: usize) -> Result<Vec<u64>, AllocError>
     requires { blocks ≤ 16384 }
     ensures { IfOk result (λ slots. (vec_len slots ≡ 64 * blocks) × ((i : ℕ) → slice_index slots.items i ≡ 0)) }

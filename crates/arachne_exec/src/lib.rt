@@ -1,17 +1,17 @@
 //! The core of an executor, on atomic words: which jobs are ready, which thread holds each job that runs, and which
-//! worker to wake.
+//! worker must be woken.
 //!
-//! A job is at a *place* from its spawn to its end. A place's *mark* is an atomic word: the number of jobs that have
-//! ended there (the *generation*), and whether the job is blocked or was woken. Place and generation are the job's
-//! *name*. A *block* has 64 places, and a *ready word* with a bit for each place whose job is ready. A *shard* has 64
-//! blocks, and a *summary word* with a bit for each block that may have ready jobs. The *idle word* has a bit for each
-//! worker that sleeps or is about to.
+//! From its spawn to its end, a job stays in one slot, here a *place*. The *mark* of a slot is an atomic word with the
+//! number of jobs that have ended there (the *generation*); it also says if the job is blocked or was woken. Slot and
+//! generation are the job's *name*. A *block* has 64 slots, and a *ready word* with a bit for each slot whose job is
+//! ready. A *shard* has 64 blocks, and a *summary word* with a bit for each block that may have ready jobs. The *idle
+//! word* has a bit for each worker that sleeps or is about to.
 //!
 //! A *seat* is one thread's right to call the executor. A seat *holds* a job from the call that takes it until a call
-//! puts it back or ends it, and no other thread can take it meanwhile. If a seat holds several jobs, only the *newest*,
-//! the one that it got last, can be put back or ended. After it has made a job ready, a call must still set the block's
-//! bit in the summary word, and then read the idle word for a worker to wake. As long as these steps are missing, the
-//! seat *owes* them.
+//! makes it ready or blocked again or ends it; meanwhile no other thread can take it. If a seat holds several jobs,
+//! such calls concern only the *newest*, the one that it got last. A call that has made a job ready must then set the
+//! block's bit in the summary word, and read the idle word for a worker to wake. Until it has done both, the seat
+//! *owes* them.
 #![tactic(auto)]
 
 mod answers;

@@ -1,4 +1,4 @@
-//! Reads, by one load each, which blocks of a shard may have ready jobs, and which places of a block have one.
+//! Calls that read, by one load, which blocks of a shard may have ready jobs, or which slots of a block have one.
 ghost use Rattle.std.specs.Prelude.{◌≡◌, ◌*◌, ◌<◌};
 ghost use Rattle.arachne_exec.specs.Layout.{summary_at, ready_at};
 ghost use Rattle.arachne_exec.specs.Changes.{noted};
@@ -8,8 +8,9 @@ use crate::layout::{ready_word, summary_word};
 use crate::seat::ExecSeat;
 
 impl Executor {
-    /// Returns the blocks of a shard that may have ready jobs, a bit for each, by one load. A block whose bit is clear
-    /// has no ready job, or another thread is in a call that will set the bit, or find that it needn't.
+    /// Returns a bit for each block of `shard` that may have ready jobs, by one load.
+    ///
+    /// A block whose bit is clear has no ready job, unless a call in progress will still set the bit or find it set.
     pub fn shown(&self, seat: &mut ExecSeat, shard: usize) -> u64
         requires own { seat.old.table ≡ self.now.table }
         requires shard { shard < self.now.shards }
@@ -19,7 +20,7 @@ impl Executor {
         self.look(&mut seat.at, summary_word(shard))
     }
 
-    /// Returns the places of a block that have a ready job, a bit for each, by one load.
+    /// Returns a bit for each slot of `block` that has a ready job, by one load.
     pub fn ready(&self, seat: &mut ExecSeat, block: usize) -> u64
         requires own { seat.old.table ≡ self.now.table }
         requires block { block < 64 * self.now.shards }

@@ -1,4 +1,4 @@
-//! Finds a worker's next job, or lets the worker park if it has none.
+//! The calls by which a worker finds its next job, or parks if it has none.
 ghost use Rattle.std.specs.Prelude.{◌≡◌, ℕ, ◌+◌, ◌*◌, ◌<◌, IsTrue, IsFalse, IfSome, IfNone};
 ghost use Rattle.std.specs.Int.{bit_at};
 ghost use Rattle.arachne_exec.specs.Layout.{numbers_at};
@@ -11,7 +11,7 @@ use crate::layout::summary_word;
 use crate::rounds::Round;
 use crate::seat::{ExecSeat, SeatInCall};
 
-/// Returns how many of `shards` shards are a worker's.
+/// Returns how many of the executor's `shards` shards belong to `worker`.
 fn shards_of(worker: usize, shards: usize) -> usize
     requires { worker < 64 }
     ensures all { (j : ℕ) → worker + 64 * j < shards → j < result }
@@ -25,7 +25,7 @@ fn shards_of(worker: usize, shards: usize) -> usize
 }
 
 impl Executor {
-    /// Makes the seat the worker of this number. Returns false if another seat has the number.
+    /// Gives `seat` the worker number `worker`. Returns false if another seat has that number.
     pub fn register(&self, seat: &mut ExecSeat, worker: usize) -> bool
         requires own { seat.old.table ≡ self.now.table }
         requires worker { (seat.old.known.worker ≡ 0) × (worker < 64) }
@@ -36,7 +36,7 @@ impl Executor {
         self.take_number(&mut seat.at, worker)
     }
 
-    /// Frees the seat's worker number.
+    /// Gives the worker number of `seat` back, so that another seat can get it.
     pub fn leave(&self, seat: &mut ExecSeat, worker: usize)
         requires own { seat.old.table ≡ self.now.table }
         requires worker { (seat.old.known.worker ≡ worker + 1) × (worker < 64) }
@@ -45,7 +45,9 @@ impl Executor {
         self.give_number(&mut seat.at, worker);
     }
 
-    /// Clears the worker's idle bit. The worker calls this if it ends its sleep by itself.
+    /// Clears the worker's idle bit. A worker calls this if it stops sleeping without having been unparked.
+    ///
+    /// Other threads unpark a worker only if its idle bit is set.
     pub fn wake_up(&self, seat: &mut ExecSeat, worker: usize)
         requires own { seat.old.table ≡ self.now.table }
         requires worker { (seat.old.known.worker ≡ worker + 1) × (worker < 64) }
@@ -54,8 +56,8 @@ impl Executor {
         self.clear_idle(&mut seat.at, worker);
     }
 
-    /// Sets the worker's idle bit. Returns true if the worker's summary words are then all empty. If one of them isn't,
-    /// clears the idle bit again, and returns false.
+    /// Sets the worker's idle bit, and then reads the worker's summary words. Returns true if all of them are 0; else
+    /// clears the idle bit, and returns false.
     fn lie_down(&self, seat: &mut SeatInCall, worker: usize) -> bool
         requires own { seat.old.table ≡ self.now.table }
         requires worker { (seat.old.known.worker ≡ worker + 1) × (worker < 64) }
@@ -75,8 +77,10 @@ impl Executor {
         true
     }
 
-    /// Returns true if the worker may park: it has set its idle bit, and then found each of its summary words empty. If
-    /// the result is false, one of the summary words wasn't empty, and the worker has cleared its idle bit.
+    /// Returns true if the worker may park: its idle bit is set, and after that each of its summary words was found
+    /// empty.
+    ///
+    /// If one of them isn't empty, clears the worker's idle bit, and returns false.
     pub fn may_park(&self, seat: &mut ExecSeat, worker: usize) -> bool
         requires own { seat.old.table ≡ self.now.table }
         requires worker { (seat.old.known.worker ≡ worker + 1) × (worker < 64) }
@@ -87,8 +91,8 @@ impl Executor {
         self.lie_down(&mut seat.at, worker)
     }
 
-    /// Takes the first ready job of a shard, from the place on at which the seat's search begins. Clears the bits of
-    /// blocks that have no ready job in the shard's summary word.
+    /// Takes the first ready job of `shard`, from the slot on at which the seat's search begins. Clears the summary bit
+    /// of each block in which it finds no ready job.
     fn take_in_shard(&self, seat: &mut ExecSeat, shard: usize) -> Option<HeldJob>
         requires own { seat.old.table ≡ self.now.table }
         requires shard { shard < self.now.shards }
@@ -113,7 +117,7 @@ impl Executor {
         None
     }
 
-    /// Returns the worker's next action: it runs a job of its blocks, parks, or asks again.
+    /// Returns the worker's next action: run the job that was taken for it, park, or call `next` again.
     pub fn next(&self, seat: &mut ExecSeat, worker: usize) -> Next
         requires own { seat.old.table ≡ self.now.table }
         requires worker { (seat.old.known.worker ≡ worker + 1) × (worker < 64) }

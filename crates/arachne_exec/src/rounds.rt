@@ -1,10 +1,10 @@
-//! Iterates over the shards of a worker in the order of a search for ready jobs.
+//! An iterator over the shards of a worker, in the order in which they are searched for ready jobs.
 ghost use Rattle.std.specs.Prelude.{◌≡◌, ℕ, ◌+◌, ◌*◌, ◌/◌, ◌<◌, ◌≤◌, IfSome, IfNone};
 
 use crate::turns::{SearchTurn, shard_in_turn};
 
-/// The shards of a worker that a search for ready jobs has still to visit, in order: from the shard at which the search
-/// begins, round to the shard before that.
+/// The shards that a worker's search has yet to visit: from the shard at which the search began, round to the one
+/// before.
 #[derive(Drop)]
 pub(crate) struct Round {
     worker: usize,
@@ -17,7 +17,7 @@ pub(crate) struct Round {
 }
 
 impl Round {
-    /// Returns a search of all `count` shards of a worker.
+    /// Returns the search of all `count` shards of `worker`, which begins at the shard that `turn` says.
     #[inline(always)]
     pub(crate) fn of(turn: &SearchTurn, worker: usize, count: usize) -> Round
         requires { worker + 64 * count ≤ 512 }

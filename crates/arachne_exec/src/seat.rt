@@ -1,12 +1,12 @@
-//! A seat: the right of one thread to call the executor.
+//! The right of one thread to call an executor, as a value that a call takes.
 use crate::turns::{SearchTurn, TakeTurn};
 use crate::view::View;
 use arachne_weights::Weight;
 use atomic_table::Seat;
 use std::marker::Model;
 
-/// A seat while a call runs. Contracts see the seat's table, its weight, what the seat has recorded, and the places
-/// that it holds with the job numbers stored there.
+/// A seat during a call. Contracts refer to the seat's table and weight, the seat's record, and for each slot that it
+/// holds the stored job number.
 #[derive(Drop)]
 pub(crate) struct SeatInCall {
     pub(crate) seat: Seat<u64, View>,
@@ -23,19 +23,19 @@ impl Model for SeatInCall {
     ghost invariant = { λ s. IsLive s.seat.me };
 }
 
-/// A thread's right to call an executor, and the jobs that the thread has taken.
+/// One thread's right to call an executor, with the jobs that the thread holds.
 ///
-/// A seat is used by one thread at a time, and only with the executor that it came from. If a seat is dropped, its
-/// weight is lost, so that no seat can have the whole weight any more, and the jobs that it holds are lost too.
-/// Contracts see the seat's executor, its part of the whole weight, what it holds and has recorded, and the index at
-/// which its next `take` begins.
+/// Only one thread at a time can use a seat, and only with the executor that created it. If a seat is dropped, the jobs
+/// that it holds are lost, and so is its weight: then no seat can have the whole weight, and the executor can't be
+/// closed. Contracts refer to the seat's table, its weight, its record, and the slot index at which its next `take`
+/// begins.
 #[derive(Drop)]
 pub struct ExecSeat {
     pub(crate) at: SeatInCall,
     pub(crate) weight: Weight,
-    /// The place at which the next search of the worker's blocks begins.
+    /// The slot at which the next search of the worker's blocks begins.
     pub(crate) turn: SearchTurn,
-    /// The index in a block at which the seat's next `take` begins.
+    /// The slot index in a block at which the seat's next `take` begins.
     pub(crate) take_turn: TakeTurn,
 }
 

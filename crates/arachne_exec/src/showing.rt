@@ -1,5 +1,5 @@
-//! Makes a job ready: sets its bit in the block's ready word and the block's bit in the summary word, and checks if a
-//! sleeping worker must be woken.
+//! Makes a job ready: sets the job's bit in the ready word and the block's bit in the summary word, and then checks
+//! whether a sleeping worker must be woken.
 ghost use Rattle.std.specs.Prelude.{◌≡◌, ◌≢◌, ℕ, ◌+◌, ◌*◌, ◌/◌, ◌<◌};
 ghost use Rattle.atomic_table.specs.Table.{rest};
 ghost use Rattle.arachne_exec.specs.Board.{IsLast};
@@ -12,8 +12,10 @@ use crate::seat::SeatInCall;
 use crate::sleepers::Hidden;
 
 impl Executor {
-    /// Clears the idle bit of the shard's worker if it is set, as a call must after it has set the first bit of a
-    /// summary word. Returns true if this call cleared the idle bit: then the caller must unpark the worker.
+    /// Clears the idle bit of the shard's worker. Returns true if the bit was set, so that the caller must unpark the
+    /// worker.
+    ///
+    /// A call must do this after it has set the first bit of a summary word.
     pub(crate) fn pay(&self, seat: &mut SeatInCall, shard: usize) -> bool
         requires own { seat.old.table ≡ self.now.table }
         requires owed { seat.old.known.owes ≡ shard + 1 }
@@ -25,8 +27,9 @@ impl Executor {
         self.unpark(seat, shard)
     }
 
-    /// Sets the bit of a block in its summary word, as the call must after it has set the first bit of the block's
-    /// ready word. Returns true if the caller must unpark the block's worker.
+    /// Sets the bit of `block` in its summary word. Returns true if the caller must unpark the block's worker.
+    ///
+    /// A call must do this after it has set the first bit of the block's ready word.
     pub(crate) fn show(&self, seat: &mut SeatInCall, block: usize) -> bool
         requires own { seat.old.table ≡ self.now.table }
         requires block { block < 64 * self.now.shards }
@@ -42,8 +45,9 @@ impl Executor {
         self.pay(seat, block / 64)
     }
 
-    /// Makes the job at `place` ready, which must be the job that the seat took last of those that it holds. Returns
-    /// true if the caller must unpark the worker of that place.
+    /// Makes the job in slot `place` ready. Returns true if the caller must unpark the worker of that slot.
+    ///
+    /// `place` must be the slot of the job that `seat` got last of those that it holds.
     pub(crate) fn publish(&self, seat: &mut SeatInCall, place: usize) -> bool
         requires own { seat.old.table ≡ self.now.table }
         requires place { place < 4096 * self.now.shards }
@@ -57,8 +61,8 @@ impl Executor {
         self.show(seat, place / 64)
     }
 
-    /// Makes a new job ready, at the place that the seat has just claimed. Returns true if the caller must unpark the
-    /// worker of that place.
+    /// Makes the new job `job` ready in slot `place`, which the seat has just claimed. Returns true if the caller must
+    /// unpark the worker of that slot.
     pub(crate) fn publish_new(&self, seat: &mut SeatInCall, place: usize, job: u64) -> bool
         requires own { seat.old.table ≡ self.now.table }
         requires place { place < 4096 * self.now.shards }
@@ -74,8 +78,8 @@ impl Executor {
         self.show(seat, place / 64)
     }
 
-    /// Clears the bit of a block in its summary word, unless the block has a ready job. Returns the block, and whether
-    /// the caller must unpark its worker.
+    /// Clears the bit of `block` in its summary word, unless the block has a ready job. Returns the block, and true if
+    /// the caller must unpark the block's worker.
     pub(crate) fn tidy(&self, seat: &mut SeatInCall, block: usize) -> (Hidden, bool)
         requires own { seat.old.table ≡ self.now.table }
         requires block { block < 64 * self.now.shards }

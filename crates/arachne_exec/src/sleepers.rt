@@ -1,5 +1,4 @@
-//! One function for each atomic operation on the summary words, on the idle word and on the word of unused worker
-//! numbers.
+//! One function for each atomic operation on the summary words, the idle word, and the word of unused worker numbers.
 ghost use Rattle.std.specs.Prelude.{◌≡◌, ◌≢◌, ℕ, ◌+◌, ◌*◌, ◌/◌, ◌%◌, ◌<◌, IsTrue, IsFalse};
 ghost use Rattle.std.specs.Int.{bit_at};
 ghost use Rattle.arachne_exec.specs.Layout.{numbers_at, summary_at, worker_of};
@@ -13,7 +12,7 @@ use crate::steps::{
     Unregister,
 };
 
-/// A block whose bit was cleared in its summary word. Only [`Executor::hide`] makes a value of this type.
+/// A block whose bit in its summary word was cleared. Only [`Executor::hide`] creates a value of this type.
 #[derive(Drop)]
 pub(crate) struct Hidden {
     block: usize,
@@ -30,7 +29,7 @@ impl Hidden {
 }
 
 impl Executor {
-    /// Returns true if the bit of the block is set in the summary word. If it is, the call needn't set the bit.
+    /// Returns true if the bit of `block` is set in the summary word. Then the call needn't set it.
     pub(crate) fn finds_shown(&self, seat: &mut SeatInCall, block: usize) -> bool
         requires own { seat.old.table ≡ self.now.table }
         requires block { block < 64 * self.now.shards }
@@ -44,8 +43,8 @@ impl Executor {
         found >> (block % 64) as u32 & 1 == 1
     }
 
-    /// Sets the bit of the block in the summary word. Returns true if the word was 0 before: then the call must read
-    /// the idle word.
+    /// Sets the bit of `block` in the summary word. Returns true if the word was 0 before. Then the call must read the
+    /// idle word.
     pub(crate) fn put_shown(&self, seat: &mut SeatInCall, block: usize) -> bool
         requires own { seat.old.table ≡ self.now.table }
         requires block { block < 64 * self.now.shards }
@@ -58,7 +57,7 @@ impl Executor {
         shared.fetch_or::<Show>(&mut seat.seat, summary_word(block / 64), bit(block % 64)) == 0
     }
 
-    /// Clears the bit of the block in the summary word.
+    /// Clears the bit of `block` in the summary word.
     pub(crate) fn hide(&self, seat: &mut SeatInCall, block: usize) -> Hidden
         requires own { seat.old.table ≡ self.now.table }
         requires block { block < 64 * self.now.shards }
@@ -76,8 +75,7 @@ impl Executor {
         Hidden { block }
     }
 
-    /// Returns true if the block has no ready job. If it has none, the call needn't set the block's bit in the summary
-    /// word.
+    /// Returns true if `block` has no ready job. Then the call needn't set the block's bit in the summary word.
     pub(crate) fn has_none(&self, seat: &mut SeatInCall, block: usize) -> bool
         requires own { seat.old.table ≡ self.now.table }
         requires block { block < 64 * self.now.shards }
@@ -90,7 +88,7 @@ impl Executor {
         shared.load::<LookAgain>(&mut seat.seat, ready_word(block)) == 0
     }
 
-    /// Returns true if the shard's worker is idle. If the worker isn't idle, the call need do nothing more to wake it.
+    /// Returns true if the idle bit of the shard's worker is set. If it is clear, nobody needs to wake the worker.
     pub(crate) fn finds_idle(&self, seat: &mut SeatInCall, shard: usize) -> bool
         requires own { seat.old.table ≡ self.now.table }
         requires owed { seat.old.known.owes ≡ shard + 1 }
@@ -102,7 +100,7 @@ impl Executor {
         found >> (shard % 64) as u32 & 1 == 1
     }
 
-    /// Clears the idle bit of the shard's worker. Returns true if the bit was set: then the caller must unpark the
+    /// Clears the idle bit of the shard's worker. Returns true if the bit was set. Then the caller must unpark the
     /// worker.
     pub(crate) fn unpark(&self, seat: &mut SeatInCall, shard: usize) -> bool
         requires own { seat.old.table ≡ self.now.table }
@@ -137,7 +135,7 @@ impl Executor {
         shared.fetch_and::<Rise>(&mut seat.seat, IDLE, all_but(worker));
     }
 
-    /// Reads the worker's next summary word. Returns true if the word is 0.
+    /// Reads the summary word with index `next` of the worker's words. Returns true if the word is 0.
     pub(crate) fn sees_none(&self, seat: &mut SeatInCall, worker: usize, next: usize) -> bool
         requires own { seat.old.table ≡ self.now.table }
         requires worker { (seat.old.known.worker ≡ worker + 1) × (worker + 64 * next < self.now.shards) }
@@ -151,8 +149,7 @@ impl Executor {
         shared.load::<LookNext>(&mut seat.seat, summary_word(worker + 64 * next)) == 0
     }
 
-    /// Makes the seat the worker of this number, unless another seat is that worker. Returns true if the seat got the
-    /// number.
+    /// Gives the seat the worker number `worker`. Returns false if another seat has that number.
     pub(crate) fn take_number(&self, seat: &mut SeatInCall, worker: usize) -> bool
         requires own { seat.old.table ≡ self.now.table }
         requires worker { (seat.old.known.worker ≡ 0) × (worker < 64) }
@@ -165,7 +162,7 @@ impl Executor {
         found >> worker as u32 & 1 == 1
     }
 
-    /// Frees the seat's worker number.
+    /// Gives the seat's worker number back, so that another seat can get it.
     pub(crate) fn give_number(&self, seat: &mut SeatInCall, worker: usize)
         requires own { seat.old.table ≡ self.now.table }
         requires worker { (seat.old.known.worker ≡ worker + 1) × (worker < 64) }

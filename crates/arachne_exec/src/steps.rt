@@ -1,10 +1,10 @@
-//! The invariant (*rule*) of the executor's table, and the kinds of atomic operation on the table. These types are only
-//! for proofs.
+//! The invariant (*rule*) of the executor's table, and the kinds of atomic operation on the table. All of it exists
+//! only for proofs.
 use crate::view::View;
 use atomic_table::{Join, Play, Split, TableRule};
 
-/// The invariant: each place is free, ready, blocked or held by one seat, and if a parked worker's block has a ready
-/// job, some call will wake the worker. The table's key, which never changes, is the number of shards.
+/// The invariant: each slot is free, ready, blocked or held by one seat, and if a block of a parked worker has a ready
+/// job, a call in progress will wake the worker. The table's constant key is the number of shards.
 pub struct Lawful;
 
 impl TableRule<u64, View, usize> for Lawful {
@@ -216,7 +216,7 @@ impl Play<u64, View> for Unregister {
     ghost then = { Leaves };
 }
 
-/// The split of a seat: the new seat gets half the weight, and holds no job.
+/// The kind of step that splits a seat: the new seat gets half the weight, and holds no job.
 pub(crate) struct Halve;
 
 impl Split<View> for Halve {

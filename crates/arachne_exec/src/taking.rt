@@ -1,4 +1,4 @@
-//! Takes several ready jobs of a block by one atomic operation.
+//! Takes several ready jobs of a block in one atomic operation.
 ghost use Rattle.std.specs.Prelude.{◌≡◌, ℕ, ◌*◌, ◌<◌};
 ghost use Rattle.std.specs.Int.RustNames.{bit_and};
 ghost use Rattle.arachne_exec.specs.Layout.{PicksLowest};
@@ -12,7 +12,7 @@ use crate::layout::{all_but, bit, ready_word};
 use crate::seat::ExecSeat;
 use crate::turns::lowest_index;
 
-/// Returns the lowest `most` of the bits that are set in a word (one if `most` is 0), or all if fewer are set.
+/// Returns the lowest `most` set bits of `word`, or all of them if fewer are set. A `most` of 0 counts as 1.
 fn lowest(word: u64, most: u32) -> u64
     requires { 0 < word }
     ensures some { 0 < result }
@@ -34,8 +34,11 @@ fn lowest(word: u64, most: u32) -> u64
 }
 
 impl Executor {
-    /// Tries once to take up to `most` (at least one) ready jobs of a block, by one atomic operation. Returns the
-    /// places of the jobs that were taken, a bit for each. The job at the lowest place counts as the one taken last.
+    /// Tries once to take up to `most` ready jobs of `block`, in one atomic operation. Returns a bit for each slot
+    /// whose job was taken.
+    ///
+    /// A `most` of 0 counts as 1. The seat then holds these jobs; the one in the lowest slot counts as the one that it
+    /// got last.
     pub fn take_many(&self, seat: &mut ExecSeat, block: usize, most: u32) -> u64
         requires own { seat.old.table ≡ self.now.table }
         requires block { block < 64 * self.now.shards }
@@ -52,8 +55,10 @@ impl Executor {
         self.take_bits(&mut seat.at, block, pick)
     }
 
-    /// Prepares the newest job that the seat holds to be run: clears the record of a wake that has come since the job
-    /// became ready. Returns the job's name and number.
+    /// Prepares the job in slot `place` to be run. Returns the job's name and number.
+    ///
+    /// Clears the record of a wake that came since the job became ready. `place` must be the slot of the job that
+    /// `seat` got last of those that it holds.
     pub fn start(&self, seat: &mut ExecSeat, place: usize) -> HeldJob
         requires own { seat.old.table ≡ self.now.table }
         requires place { place < 4096 * self.now.shards }

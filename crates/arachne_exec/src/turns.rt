@@ -1,4 +1,4 @@
-//! Decides where a search begins, so that jobs which become ready again and again don't keep others waiting.
+//! Decides at which slot each search begins, so that jobs that become ready again and again don't keep others waiting.
 ghost use Rattle.std.specs.Prelude.{◌≡◌, ◌≢◌, ◌⊎◌, ◌↔◌, ℕ, ◌+◌, ◌-◌, ◌*◌, ◌/◌, ◌%◌, ◌^◌, ◌<◌, ◌≤◌, false, true, IsTrue, IfSome, IfNone};
 ghost use Rattle.std.specs.Int.{bit_at};
 ghost use Rattle.std.specs.Int.RustNames.{bit_and};
@@ -10,7 +10,7 @@ use crate::layout::all_but;
 use crate::sleepers::Hidden;
 use std::snapshot::Snapshot;
 
-/// Returns the lowest index whose bit is set.
+/// Returns the index of the lowest set bit of `word`.
 pub(crate) fn lowest_index(word: u64) -> usize
     requires { 0 < word }
     ensures low { result < 64 }
@@ -20,7 +20,7 @@ pub(crate) fn lowest_index(word: u64) -> usize
     word.trailing_zeros() as usize
 }
 
-/// Returns the first index whose bit is set, from `from` on to the end of the word and then from its beginning.
+/// Returns the index of the first set bit of `word`, searched from `from` to the highest bit, and then from bit 0.
 pub(crate) fn first_from(word: u64, from: usize) -> usize
     requires { 0 < word }
     ensures { IsFirstFrom word from result }
@@ -34,7 +34,7 @@ pub(crate) fn first_from(word: u64, from: usize) -> usize
     }
 }
 
-/// Returns true if the word has a bit set at a higher index than `index`.
+/// Returns true if a bit of `word` above the bit `index` is set.
 pub(crate) fn has_more(word: u64, index: usize) -> bool
     requires { index < 64 }
     ensures { IsTrue result ↔ (2 * 2 ^ index ≤ word) }
@@ -42,8 +42,8 @@ pub(crate) fn has_more(word: u64, index: usize) -> bool
     word >> index as u32 > 1
 }
 
-/// Returns the shard that a search reaches at `index`, if it goes from shard `first` to the last of `count` and then
-/// round to the one before `first`.
+/// Returns the shard at position `index` of a search that goes from shard `first` up to shard `count - 1`, and then
+/// from shard 0 up to the one before `first`.
 pub(crate) fn shard_in_turn(first: usize, index: usize, count: usize) -> usize
     requires first { first < count }
     requires index { index < count }
@@ -57,8 +57,8 @@ pub(crate) fn shard_in_turn(first: usize, index: usize, count: usize) -> usize
     }
 }
 
-/// The blocks of a shard that a search has still to visit, a bit for each, and the index of the block at which the
-/// search began.
+/// The blocks of a shard that a search has yet to visit, a bit for each, and the index of the block at which the search
+/// began.
 #[derive(Drop)]
 pub(crate) struct Unsearched {
     blocks: u64,
@@ -66,7 +66,7 @@ pub(crate) struct Unsearched {
 }
 
 impl Unsearched {
-    /// Returns the index of the next block.
+    /// Returns the index of the block to visit next, or `None` after the last.
     pub(crate) fn next(&self) -> Option<usize>
         ensures some { IfSome result (λ index. IsFirstFrom self.now.blocks self.now.from index) }
         ensures none { IfNone result (self.now.blocks ≡ 0) }
@@ -77,14 +77,14 @@ impl Unsearched {
         Some(first_from(self.blocks, self.from))
     }
 
-    /// Goes on to the next block, behind one that had no ready job and whose bit was cleared.
+    /// Removes a block from the search: one that had no ready job, and whose summary bit was cleared.
     pub(crate) fn pass(&mut self, hidden: Hidden)
         ensures { self.new ≡ record self.old { blocks = bit_and self.old.blocks (others (hidden.block % 64)) } }
     {
         self.blocks &= all_but(hidden.block() % 64);
     }
 
-    /// Returns true if the search has another block to visit behind this index, before it is back at its beginning.
+    /// Returns true if the search has yet to visit another block after the block `index`.
     fn has_more(&self, index: usize) -> bool
         requires { index < 64 }
         ensures { IsTrue result ↔ HasMoreBehind self.now index }
@@ -93,8 +93,9 @@ impl Unsearched {
     }
 }
 
-/// A job that was taken, and whether its block had another ready place behind it. The value can't be dropped, and gives
-/// the job only to a call that records where the next search begins.
+/// A job that was taken, and whether its block had another ready slot behind the job's.
+///
+/// The value can't be dropped: its methods return the job only to a caller that also sets the start of the next search.
 pub(crate) struct TakenJob {
     job: HeldJob,
     more: bool,
@@ -108,7 +109,8 @@ impl TakenJob {
         TakenJob { job, more }
     }
 
-    /// Returns the job that a search of the worker's blocks has taken. The next search begins behind the job's place.
+    /// Returns the job that a worker's search has taken. Sets `turn` so that the next search begins behind the job's
+    /// slot.
     pub(crate) fn in_turn(self, turn: &mut SearchTurn, left: &Unsearched) -> HeldJob
         requires { self.job.place < 1048576 }
         ensures job { result ≡ self.job }
@@ -122,7 +124,8 @@ impl TakenJob {
         job
     }
 
-    /// Returns the job that a take has taken. The seat's next take begins behind the job's index in its block.
+    /// Returns the job that a `take` has taken. Sets `turn` to the index behind the job's, at which the seat's next
+    /// `take` begins.
     pub(crate) fn in_block(self, turn: &mut TakeTurn) -> HeldJob
         ensures job { result ≡ self.job }
         ensures index { turn.new.index ≡ self.job.place % 64 + 1 }
@@ -133,15 +136,15 @@ impl TakenJob {
     }
 }
 
-/// The index at which a search of a block begins. Only `TakeTurn` and `SearchTurn` make a value of this type, and no
-/// block is searched without one.
+/// The slot index at which the search of a block begins. Only `TakeTurn` and `SearchTurn` create a value of this type,
+/// and no block is searched without one.
 pub(crate) struct First {
     index: usize,
     block: Snapshot<usize>,
 }
 
 impl First {
-    /// Returns the index, at which the caller must begin its search.
+    /// Returns the slot index at which the caller must begin its search.
     #[inline(always)]
     pub(crate) fn begun(self) -> usize
         ensures { result ≡ self.index }
@@ -151,7 +154,7 @@ impl First {
     }
 }
 
-/// The index in a block at which the next `take` of a seat begins, modulo 64.
+/// The slot index in a block at which a seat's next `take` begins. The index counts modulo 64.
 #[derive(Clone, Copy, Drop)]
 pub(crate) struct TakeTurn {
     index: usize,
@@ -164,7 +167,7 @@ impl TakeTurn {
         TakeTurn { index: 0 }
     }
 
-    /// Returns the index at which a take of this block begins.
+    /// Returns the slot index at which a `take` from `block` begins.
     #[inline(always)]
     pub(crate) fn first_place(&self, block: usize) -> First
         ensures index { result.index ≡ self.now.index }
@@ -177,7 +180,7 @@ impl TakeTurn {
     }
 }
 
-/// The number of the place at which a worker's next search for ready jobs begins.
+/// The slot at which a worker's next search for ready jobs begins.
 #[derive(Clone, Copy, Drop)]
 pub(crate) struct SearchTurn {
     place: usize,
@@ -190,8 +193,10 @@ impl SearchTurn {
         SearchTurn { place: 0 }
     }
 
-    /// Returns where the next search begins, after a job was taken at `place`. `in_block` and `in_shard` are true if
-    /// the block, and the shard, had another ready place behind it.
+    /// Returns the start of the next search, after a job was taken from slot `place`.
+    ///
+    /// `in_block` is true if a slot behind that one in its block was ready too, and `in_shard` if its shard has another
+    /// block to search.
     pub(crate) fn behind(place: usize, in_block: bool, in_shard: bool) -> SearchTurn
         requires { place < 1048576 }
         ensures in_block { in_block ≡ true → result.place ≡ place + 1 }
@@ -208,7 +213,7 @@ impl SearchTurn {
         SearchTurn { place }
     }
 
-    /// Returns the index of the shard, of a worker's `count` shards, at which the search begins.
+    /// Returns the position, among the worker's `count` shards, of the shard at which the search begins.
     pub(crate) fn first_shard(&self, count: usize) -> usize
         ensures within { (result ≡ 0) ⊎ (result < count) }
         ensures turn { self.now.place / 262144 < count → result ≡ self.now.place / 262144 }
@@ -218,8 +223,8 @@ impl SearchTurn {
         if first < count { first } else { 0 }
     }
 
-    /// Returns a search of the blocks with a bit in `shown`. In the shard of this turn's place it begins at the block
-    /// of that place, in any other at block 0.
+    /// Returns a search of the blocks whose bits are set in `shown`. In the shard in which this turn's slot lies, the
+    /// search begins at the block of that slot; in any other shard, at block 0.
     pub(crate) fn unsearched(&self, shard: usize, shown: u64) -> Unsearched
         ensures blocks { result.blocks ≡ shown }
         ensures turn { self.now.place / 4096 ≡ shard → result.from ≡ self.now.place / 64 % 64 }
@@ -231,7 +236,7 @@ impl SearchTurn {
         }
     }
 
-    /// Returns the block at which the search of this shard begins.
+    /// Returns the index of the block at which the search of `shard` begins.
     fn first_block(&self, shard: usize) -> usize
         ensures within { result < 64 }
         ensures turn { self.now.place / 4096 ≡ shard → result ≡ self.now.place / 64 % 64 }
@@ -244,7 +249,7 @@ impl SearchTurn {
         }
     }
 
-    /// Returns the index at which the search of this block begins.
+    /// Returns the slot index at which the search of `block` begins.
     pub(crate) fn first_place(&self, block: usize) -> First
         ensures turn { self.now.place / 64 ≡ block → result.index ≡ self.now.place % 64 }
         ensures other { self.now.place / 64 ≢ block → result.index ≡ 0 }

@@ -1,55 +1,56 @@
-//! The part of a seat that the table's invariant speaks of. These types are only for proofs: no value of them is made.
+//! The record that a seat has for the proofs. The table's invariant is stated about these records; no value of these
+//! types exists at run time.
 use arachne_weights::Token;
 use std::collections::LinkedList;
 
-/// A change of a worker's idle bit. The number is the worker's.
+/// A change of a worker's idle bit. Each variant has the worker's number.
 pub enum SleepDeed {
-    /// The worker's seat has set the worker's idle bit, which was clear.
+    /// The worker's own seat set the idle bit, which was clear.
     LayDown(u64),
-    /// The worker's seat has set the worker's idle bit, which was set.
+    /// The worker's own seat set the idle bit, which was set already.
     LayOn(u64),
-    /// The worker's seat has cleared the worker's idle bit, which was set.
+    /// The worker's own seat cleared the idle bit, which was set.
     Rose(u64),
-    /// A seat has found the worker's idle bit set, and cleared it to wake the worker.
+    /// A seat found the idle bit set, and cleared it to wake the worker.
     Roused(u64),
 }
 
-/// The record of a seat: the jobs that it holds, and what was done through it. Each of the lists has its newest entry
+/// The record of a seat, for proofs: the jobs that it holds, and its past operations. Each list has its newest entry
 /// first.
 pub struct Notes {
-    /// The places that the seat holds, each with its job's number.
+    /// The slots that the seat holds, each with the number of its job.
     pub hand: LinkedList<(u64, u64)>,
-    /// The jobs that were spawned through the seat, and those that it has ended, each with its place.
+    /// The jobs that were spawned through the seat, and those that were ended through it, each as slot and job number.
     pub spawned: LinkedList<(u64, u64)>,
     pub ended: LinkedList<(u64, u64)>,
-    /// The places at which the seat has recorded a wake, and those at which it has cleared such a record.
+    /// The slots for which the seat has recorded a wake, and those for which it has cleared one.
     pub woken: LinkedList<u64>,
     pub heard: LinkedList<u64>,
-    /// The places that the seat has blocked or retired, and those that it has found blocked and taken.
+    /// The slots that the seat has blocked or retired, and the blocked slots that it has taken.
     pub blocked: LinkedList<u64>,
     pub unblocked: LinkedList<u64>,
-    /// The places that the seat has freed.
+    /// The slots that the seat has freed.
     pub freed: LinkedList<u64>,
-    /// The number of times that the seat has made a job that it held ready.
+    /// The number of times that the seat has made a held job ready.
     pub rested: u64,
-    /// The seat's changes of workers' idle bits.
+    /// The changes of workers' idle bits that the seat has made.
     pub sleeps: LinkedList<SleepDeed>,
-    /// The numbers that the seat has found in words or put there, each with its word.
+    /// The values that the seat has found in atomic words, or put there, each with the index of its word.
     pub looks: LinkedList<(usize, u64)>,
-    /// One more than the place that the seat has claimed, and at which it has spawned no job yet; 0 if there is none.
+    /// One more than the slot that the seat has claimed and for which it must still spawn a job; 0 if there is none.
     pub unspawned: u64,
-    /// One more than the block whose bit in the summary word the seat must still set; 0 if there is none.
+    /// One more than the block whose summary bit the seat must still set; 0 if there is none.
     pub unshown: u64,
     /// One more than the shard for whose worker the seat must still read the idle word; 0 if there is none.
     pub owes: u64,
-    /// One more than the number of the worker that the seat is; 0 if it is none.
+    /// One more than the seat's worker number; 0 if the seat has none.
     pub worker: u64,
-    /// The number of the worker's summary words, from the first on, that the seat has found empty since it set its idle
-    /// bit; 0 if it has cleared the bit since.
+    /// The number of the worker's summary words, in order, that the seat has found empty since it set its idle bit; 0
+    /// if the bit was cleared since.
     pub seen: u64,
-    /// The number of times that the seat was split, plus that number of each seat that was joined into it.
+    /// The number of times that this seat, or a seat that was joined into it, was split.
     pub splits: u64,
 }
 
-/// The part of a seat that the table's invariant speaks of, with its weight.
+/// A seat's weight together with its record.
 pub type View = Token<Notes>;

@@ -1,4 +1,4 @@
-//! Wakes a job by its name: a blocked job becomes ready; for any other job, its mark records the wake.
+//! Wakes a job by its name: a blocked job becomes ready; for any other job, the slot's mark records the wake.
 ghost use Rattle.std.specs.Prelude.{◌≡◌, ◌≢◌, ◌⊎◌, ℕ, ◌+◌, ◌*◌, ◌/◌, ◌%◌, ◌^◌, ◌<◌, ◌≤◌, ◌∷◌};
 ghost use Rattle.arachne_exec.specs.Layout.{mark_at, last_generation};
 ghost use Rattle.arachne_exec.specs.Calls.{HasWoken, HasWokenHere, HandsWoken, KeepsHand, IsFound};
@@ -8,7 +8,7 @@ use crate::executor::Executor;
 use crate::layout::{LAST_GENERATION, mark_word, place_of};
 use crate::seat::{ExecSeat, SeatInCall};
 
-/// The result of `rouse`. If the result is `Held`, the seat holds the job's place.
+/// The result of `rouse`. With `Held`, the seat now holds the job in that slot.
 enum RouseResult {
     Held(usize),
     Marked,
@@ -18,7 +18,7 @@ enum RouseResult {
 }
 
 impl Executor {
-    /// Wakes the job of a generation at a place. If the job is blocked, the seat takes it.
+    /// Wakes the job with this generation in slot `place`. If the job is blocked, the seat takes it.
     fn rouse(&self, seat: &mut SeatInCall, place: usize, generation: u64) -> RouseResult
         requires own { seat.old.table ≡ self.now.table }
         requires calm { seat.old.known.unshown ≡ 0 }
@@ -47,7 +47,7 @@ impl Executor {
         RouseResult::Lost
     }
 
-    /// Tries once to wake the job of a name, which may be any number.
+    /// Tries once to wake the job with this name. `name` may be any number.
     pub fn wake(&self, seat: &mut ExecSeat, name: u64) -> JobWoken
         requires own { seat.old.table ≡ self.now.table }
         ensures seat { seat.new ≡ record seat.old { known = seat.new.known } }
@@ -66,8 +66,8 @@ impl Executor {
         }
     }
 
-    /// Wakes the job of a name like `wake`, but takes a job that was blocked, so that the seat holds it and nobody else
-    /// can take it.
+    /// Tries once to wake the job with this name. If the job was blocked, the caller's seat then holds it, and no other
+    /// thread can take it.
     pub fn wake_here(&self, seat: &mut ExecSeat, name: u64) -> WokenHere
         requires own { seat.old.table ≡ self.now.table }
         ensures seat { seat.new ≡ record seat.old { known = seat.new.known } }

@@ -1,5 +1,5 @@
-//! One function for each atomic operation on the words of a place: its free bit, its ready bit and its mark. The
-//! contract of each function says what the seat holds and records then.
+//! One function for each atomic operation on the words of a slot: its free bit, its ready bit and its mark. The
+//! contract of each function says what the seat then holds and records.
 ghost use Rattle.std.specs.Prelude.{◌≡◌, ◌≢◌, ℕ, ◌+◌, ◌-◌, ◌*◌, ◌/◌, ◌%◌, ◌^◌, ◌<◌, ◌≤◌, ◌∷◌, IsTrue, IsFalse};
 ghost use Rattle.std.specs.Int.{bit_at};
 ghost use Rattle.atomic_table.specs.Table.{rest};
@@ -18,7 +18,7 @@ use crate::steps::{
 };
 
 impl Executor {
-    /// Loads a word. Returns the number in it, which the seat records.
+    /// Loads the word with index `word`, and returns its value.
     pub(crate) fn look(&self, seat: &mut SeatInCall, word: usize) -> u64
         requires own { seat.old.table ≡ self.now.table }
         requires inside { word < words_of (64 * self.now.shards) }
@@ -29,7 +29,7 @@ impl Executor {
         self.table.shared.load::<LookAtWord>(&mut seat.seat, word)
     }
 
-    /// Stores `new` as the job number of the seat's newest place. Returns the number that was stored before.
+    /// Stores `new` as the job number of the slot that the seat got last. Returns the number that was stored before.
     pub(crate) fn lay(&self, seat: &mut SeatInCall, place: usize, new: u64) -> u64
         requires own { seat.old.table ≡ self.now.table }
         requires out { (old : ℕ) × (seat.old.slots ≡ (place, old) ∷ rest seat.old.slots) }
@@ -40,7 +40,7 @@ impl Executor {
         self.table.shared.exchange(&mut seat.seat, place, new)
     }
 
-    /// Clears the ready bit of a place. Returns true if the bit was set: then the place is held by the seat.
+    /// Clears the ready bit of slot `place`. Returns true if the bit was set. Then the seat holds the slot.
     pub(crate) fn take_bit(&self, seat: &mut SeatInCall, place: usize) -> bool
         requires own { seat.old.table ≡ self.now.table }
         requires place { place < 4096 * self.now.shards }
@@ -58,8 +58,9 @@ impl Executor {
         found >> index as u32 & 1 == 1
     }
 
-    /// Clears the ready bits of several places of a block. Returns the bits that were set. The seat then holds their
-    /// places, the lowest as the newest.
+    /// Clears those ready bits of `block` that are set in `pick`. Returns the bits that were set.
+    ///
+    /// The seat then holds their slots; the lowest of these counts as the one that it got last.
     pub(crate) fn take_bits(&self, seat: &mut SeatInCall, block: usize, pick: u64) -> u64
         requires own { seat.old.table ≡ self.now.table }
         requires block { block < 64 * self.now.shards }
@@ -75,8 +76,8 @@ impl Executor {
         found & pick
     }
 
-    /// Clears the free bit of a place. Returns true if the bit was set: then the seat holds the place, and the call
-    /// must spawn a job there.
+    /// Clears the free bit of slot `place`. Returns true if the bit was set. Then the seat holds the slot, and the
+    /// caller must spawn a job there.
     pub(crate) fn claim_bit(&self, seat: &mut SeatInCall, place: usize) -> bool
         requires own { seat.old.table ≡ self.now.table }
         requires place { place < 4096 * self.now.shards }
@@ -95,7 +96,7 @@ impl Executor {
         found >> index as u32 & 1 == 1
     }
 
-    /// Frees the seat's newest place, whose job has ended.
+    /// Frees slot `place`, the one that the seat got last. Its job must have ended.
     pub(crate) fn put_free(&self, seat: &mut SeatInCall, place: usize)
         requires own { seat.old.table ≡ self.now.table }
         requires place { place < 4096 * self.now.shards }
@@ -107,7 +108,8 @@ impl Executor {
         shared.fetch_or::<PutFree>(&mut seat.seat, free_word(place / 64), bit(place % 64));
     }
 
-    /// Makes the job at the seat's newest place ready. Returns true if the block's bit in the summary word must be set.
+    /// Sets the ready bit of slot `place`, the one that the seat got last. Returns true if the caller must then set the
+    /// block's bit in the summary word.
     pub(crate) fn put_ready(&self, seat: &mut SeatInCall, place: usize) -> bool
         requires own { seat.old.table ≡ self.now.table }
         requires place { place < 4096 * self.now.shards }
@@ -121,8 +123,8 @@ impl Executor {
         shared.fetch_or::<PutReady>(&mut seat.seat, ready_word(place / 64), bit(place % 64)) == 0
     }
 
-    /// Makes the new job at the seat's newest place ready. Returns true if the block's bit in the summary word must be
-    /// set.
+    /// Sets the ready bit of slot `place`, which the seat has claimed for the new job `job`. Returns true if the caller
+    /// must then set the block's bit in the summary word.
     pub(crate) fn put_spawned(&self, seat: &mut SeatInCall, place: usize, job: u64) -> bool
         requires own { seat.old.table ≡ self.now.table }
         requires place { place < 4096 * self.now.shards }
@@ -138,7 +140,8 @@ impl Executor {
         shared.fetch_or::<PutSpawned>(&mut seat.seat, ready_word(place / 64), bit(place % 64)) == 0
     }
 
-    /// Begins a new job at the seat's newest place, which the seat keeps. Returns the mark of the place.
+    /// Records that the new job `job` is in slot `place`, which the seat has claimed and goes on holding. Returns the
+    /// slot's mark.
     pub(crate) fn begin(&self, seat: &mut SeatInCall, place: usize, job: u64) -> u64
         requires own { seat.old.table ≡ self.now.table }
         requires place { place < 4096 * self.now.shards }
@@ -152,8 +155,9 @@ impl Executor {
             .load::<Begin>(&mut seat.seat, mark_word(place))
     }
 
-    /// Blocks the seat's newest job if its mark (an atomic word) is `old`, in which no wake may be recorded. Returns
-    /// true if the mark was `old`.
+    /// Blocks the job in slot `place`, if the slot's mark (an atomic word) is `old`. Returns true if it was.
+    ///
+    /// `old` must be a mark in which no wake is recorded.
     pub(crate) fn put_blocked(&self, seat: &mut SeatInCall, place: usize, old: u64) -> bool
         requires own { seat.old.table ≡ self.now.table }
         requires place { place < 4096 * self.now.shards }
@@ -173,7 +177,7 @@ impl Executor {
         found == old
     }
 
-    /// Clears the record of a wake of the seat's newest job, which is in the job's mark.
+    /// Clears the record of a wake in the mark of slot `place`, the one that the seat got last.
     pub(crate) fn hear(&self, seat: &mut SeatInCall, place: usize)
         requires own { seat.old.table ≡ self.now.table }
         requires place { place < 4096 * self.now.shards }
@@ -185,7 +189,7 @@ impl Executor {
         shared.fetch_and::<Hear>(&mut seat.seat, mark_word(place), u64::MAX - 3);
     }
 
-    /// Ends the seat's newest job. The mark of its place gets this generation, and no wake is recorded in it.
+    /// Ends the job in slot `place`: stores a mark with the next `generation`, in which no wake is recorded.
     pub(crate) fn renew(&self, seat: &mut SeatInCall, place: usize, generation: u64)
         requires own { seat.old.table ≡ self.now.table }
         requires place { place < 4096 * self.now.shards }
@@ -198,7 +202,7 @@ impl Executor {
         shared.swap::<Renew>(&mut seat.seat, mark_word(place), 4 * generation);
     }
 
-    /// Retires the seat's newest place, whose job has ended: no other job comes there.
+    /// Retires slot `place`, whose job has ended, after the last generation: no other job is put there.
     pub(crate) fn retire(&self, seat: &mut SeatInCall, place: usize)
         requires own { seat.old.table ≡ self.now.table }
         requires place { place < 4096 * self.now.shards }
@@ -211,8 +215,9 @@ impl Executor {
         shared.swap::<RetirePlace>(&mut seat.seat, mark_word(place), 4 * LAST_GENERATION + 2);
     }
 
-    /// Takes the blocked job of a place for the seat if the place's mark is `old`, which must be that of a blocked job.
-    /// Returns true if the mark was `old`.
+    /// Takes the blocked job of slot `place`, if the slot's mark is `old`. Returns true if it was.
+    ///
+    /// `old` must be the mark of a blocked job.
     pub(crate) fn wake_mark(&self, seat: &mut SeatInCall, place: usize, old: u64) -> bool
         requires own { seat.old.table ≡ self.now.table }
         requires place { place < 4096 * self.now.shards }
@@ -226,8 +231,9 @@ impl Executor {
         found == old
     }
 
-    /// Records a wake in a place's mark if the mark is `old`, which must be that of a job that isn't blocked. Returns
-    /// true if the mark was `old`.
+    /// Records a wake in the mark of slot `place`, if the mark is `old`. Returns true if it was.
+    ///
+    /// `old` must be the mark of a job that isn't blocked, with no wake recorded.
     pub(crate) fn mark(&self, seat: &mut SeatInCall, place: usize, old: u64) -> bool
         requires own { seat.old.table ≡ self.now.table }
         requires place { place < 4096 * self.now.shards }

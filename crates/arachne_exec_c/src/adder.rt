@@ -1,4 +1,4 @@
-//! The handle by which C adds to ledgers: a pointer to a share (a thread's right to add) with its ledgers, or null.
+//! The handle by which C adds to ledgers (counters): a pointer to a share, which is a thread's right to add, or null.
 ghost use Rattle.std.specs.Prelude.{◌≡◌, ◌↔◌, IfNone, IfSome, IsSome, IsTrue};
 ghost use Rattle.std.specs.Option.{option_flatten};
 ghost use Rattle.std.specs.declared.option.Option.{Option};
@@ -14,7 +14,7 @@ use std::alloc::Global;
 use std::marker::Model;
 use std::mem;
 
-/// A share of a set of ledgers in C's layout: one pointer, which is null if there is no share.
+/// C's handle on a set of ledgers: one pointer, to a thread's right to add (a share), or null if the handle is empty.
 #[repr(C)]
 pub struct ArachneAdder {
     at: *mut u8,
@@ -47,7 +47,7 @@ impl ArachneAdder {
         }
     }
 
-    /// Takes the box out of the handle, if the handle has one.
+    /// Returns the box that the handle holds, if any, and leaves the handle empty.
     pub(crate) fn take(&mut self, alloc: Global) -> Option<Box<Option<Adding>>>
         ensures none { IfNone result (self.old.value ≡ None) }
         ensures some { IfSome result (λ taken. self.old.value ≡ Some taken.value) }
@@ -57,7 +57,7 @@ impl ArachneAdder {
         mem::replace(self, empty).into_handle().into_box()
     }
 
-    /// Puts a box into the handle. A box that the handle had before is freed.
+    /// Puts `value` into the handle. If the handle held a box, frees that box.
     pub(crate) fn put(&mut self, value: Box<Option<Adding>>)
         ensures { self.new.value ≡ Some value.value }
     {

@@ -1,4 +1,4 @@
-//! The value behind a handle on ledgers: a share (the right to add to them), with the ledgers.
+//! The value behind C's handle on ledgers (counters): a share, which is a thread's right to add, with its ledgers.
 ghost use Rattle.std.specs.Prelude.{◌≡◌, ◌↔◌, IfOk, IfErr, IfSome, IfNone, IsSome, MatchBool, IsTrue};
 ghost use Rattle.std.specs.Option.{ForSome};
 ghost use Rattle.std.specs.declared.option.Option.TheVariants.{None, Some};
@@ -9,7 +9,7 @@ use std::alloc::{AllocError, Global};
 use std::marker::Model;
 use std::sync::Arc;
 
-/// The value behind a handle on ledgers: a share, and the ledgers to which it adds.
+/// The value behind C's handle on ledgers: a share, and the ledgers to which it may add.
 #[derive(Drop)]
 pub struct Adding {
     ledgers: Arc<Ledgers>,
@@ -29,7 +29,7 @@ impl Model for Adding {
 }
 
 impl Adding {
-    /// Makes `count` ledgers, with their first share, which has the whole weight.
+    /// Creates `count` ledgers, each of total 0. Returns their first share, which has the whole weight.
     pub(crate) fn new(alloc: Global, count: usize) -> Result<Adding, AllocError>
         ensures { IfOk result (IsNew count) }
     {
@@ -51,7 +51,8 @@ impl Adding {
         self.ledgers.add(&mut self.share, ledger, amount);
     }
 
-    /// Returns the sum of all that was added to a ledger, if all other shares were joined into this one.
+    /// Returns the sum of all amounts added to `ledger`, or `None` if another share wasn't joined into this one or
+    /// there is no such ledger.
     pub(crate) fn total(&mut self, ledger: usize) -> Option<u64>
         ensures read { IsSome result ↔ MayRead ledger self.old }
         ensures some { IfSome result (λ total. (total ≡ total_of ledger self.old) × (self.new ≡ with_reading ledger self.old)) }
@@ -63,7 +64,8 @@ impl Adding {
         Some(self.ledgers.read(&mut self.share, ledger))
     }
 
-    /// Splits the share in two. Fails, with nothing changed, if the reference count of the ledgers can't grow.
+    /// Splits the share into two. Returns `self` unchanged as an error if the reference count of the ledgers can't
+    /// grow.
     pub(crate) fn split(self) -> Result<(Adding, Adding), Adding>
         ensures ok { IfOk result (λ parts. (parts.0 ≡ first_of self) × (parts.1 ≡ second_of self)) }
         ensures err { IfErr result (λ same. same ≡ self) }
@@ -102,9 +104,9 @@ impl Adding {
     }
 }
 
-/// Splits the share in `mine`, and puts the second part into `theirs`.
+/// Splits the share in `mine` into two, and puts the second one into `theirs`.
 ///
-/// Returns false, with nothing changed, if the ledgers' `Arc` can't be cloned, or if `mine` is empty.
+/// Returns false, and changes nothing, if `mine` is empty or the reference count of the ledgers can't grow.
 pub(crate) fn cut(mine: &mut Option<Adding>, theirs: &mut Option<Adding>) -> bool
     requires { theirs.old ≡ None }
     ensures cut { ForSome mine.old (λ old. MatchBool result
@@ -128,8 +130,7 @@ pub(crate) fn cut(mine: &mut Option<Adding>, theirs: &mut Option<Adding>) -> boo
     }
 }
 
-/// Joins the share in `theirs` into the share in `mine`. Returns false, with nothing changed, if one of them is
-/// missing.
+/// Joins the share in `theirs` into the one in `mine`. Returns false, and changes nothing, if either of them is empty.
 pub(crate) fn join_held(mine: &mut Option<Adding>, theirs: &mut Option<Adding>) -> bool
     requires { (a b : Adder) → mine.old ≡ Some a → theirs.old ≡ Some b → b.ledgers.table ≡ a.ledgers.table }
     ensures { IsJoined mine.old theirs.old mine.new theirs.new result }

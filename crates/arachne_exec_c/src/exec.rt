@@ -1,4 +1,4 @@
-//! The C functions by which a host makes an executor, and spawns, takes, rests, wakes and finishes jobs.
+//! The C functions by which a host creates an executor, and spawns, takes, rests, wakes and finishes jobs.
 ghost use Rattle.std.specs.Prelude.{◌≡◌, ◌%◌, ◌^◌};
 ghost use Rattle.std.specs.declared.option.Option.TheVariants.{None};
 ghost use Rattle.arachne_exec.specs.Layout.{summary_at, ready_at};
@@ -20,10 +20,10 @@ use crate::executing::Executing;
 use arachne_exec::MOST_SHARDS;
 use std::alloc::Global;
 
-/// Makes an executor of `shards` shards, and puts its first seat into an empty handle.
+/// Creates an executor with `shards` shards, and puts its first seat into `exec`, which must be empty.
 ///
-/// Shard s has the blocks 64 s to 64 s + 63, each of 64 places; worker s % 64 runs its jobs. Returns DONE; REFUSED if
-/// the handle is in use, or if `shards` is greater than 256; NO_MEMORY.
+/// Shard s has the blocks 64 s to 64 s + 63, each with slots for 64 jobs; worker s % 64 runs these jobs. Returns DONE;
+/// REFUSED if the handle is in use, or if `shards` is greater than 256; NO_MEMORY.
 #[unsafe(no_mangle)]
 pub extern "C" fn arachne_exec_new(alloc: Global, exec: &mut ArachneExec, shards: usize) -> u32
     ensures { IsMade shards (held exec.old) (held exec.new) result }
@@ -41,12 +41,12 @@ pub extern "C" fn arachne_exec_new(alloc: Global, exec: &mut ArachneExec, shards
     DONE
 }
 
-/// Splits a seat in two, for another thread: `other` gets the second part, which holds no job and has no worker number.
+/// Splits the seat of `exec` for another thread: `other` gets a new seat, without a job or a worker number.
 ///
 /// Returns DONE; REFUSED if `exec` is empty or `other` is in use; NO_MEMORY.
 ///
-/// After more than 127 splits in a row, each of a part of the one before, splits still succeed but the executor can't
-/// be ended any more.
+/// After more than 127 splits in a row, each of one of the two seats that the split before resulted in (such as `exec`
+/// each time), splits still succeed, but the executor can't be ended any more.
 #[unsafe(no_mangle)]
 #[tactic(auto, using(crate::proofs::ExecCut::is_split))]
 pub extern "C" fn arachne_exec_split(
@@ -75,11 +75,11 @@ pub extern "C" fn arachne_exec_split(
     DONE
 }
 
-/// Joins the seat of `other` into that of `exec`, so that `other` holds nothing.
+/// Joins the seat of `other` into that of `exec`, and leaves `other` empty.
 ///
-/// Returns DONE, or REFUSED if one of the handles is empty, or if `other` holds a job or is a worker. Both handles must
-/// be of one executor, which is not checked. If they are of two executors, the executor of `other` can't be ended any
-/// more, and the end of the executor of `exec` may return too few jobs.
+/// Returns DONE, or REFUSED if one of the handles is empty, or if `other` holds a job or has a worker number. The
+/// caller must pass two handles of one executor, which is not checked. If they are of two executors, the executor of
+/// `other` can't be ended any more, and the end of the executor of `exec` may return too few jobs.
 #[unsafe(no_mangle)]
 pub extern "C" fn arachne_exec_join(
     alloc: Global,
@@ -104,13 +104,13 @@ pub extern "C" fn arachne_exec_join(
     code
 }
 
-/// Ends the executor, writes the jobs that are left to the beginning of `left`, and empties the handle.
+/// Ends the executor, writes the numbers of the jobs that haven't ended to the beginning of `left`, and empties the
+/// handle.
 ///
-/// The jobs that are left were spawned and have not ended; jobs of number 0 are not written. A number that several jobs
-/// have is written once for each of these jobs. Returns DONE with the count of jobs written; REFUSED if the handle is
-/// empty or holds a job, or if not all other handles were joined into this one; NO_MEMORY. Returns REFUSED also if
-/// `left` has less room than 4,096 jobs for each shard. Unless the code is DONE, the count is 0, and the executor and
-/// `left` are unchanged.
+/// A number that several such jobs have is written once for each of them; the number 0 is never written. Returns DONE
+/// with the count of numbers written; REFUSED if the handle is empty or holds a job, if not all other handles were
+/// joined into this one, or if `left` has room for fewer than 4,096 numbers for each shard; NO_MEMORY. Unless the code
+/// is DONE, the count is 0, and the executor and `left` are unchanged.
 #[unsafe(no_mangle)]
 pub extern "C" fn arachne_exec_end(
     alloc: Global,
@@ -127,9 +127,9 @@ pub extern "C" fn arachne_exec_end(
     told
 }
 
-/// Frees the seat of a handle, if it has one, and the executor with the last of its handles.
+/// Frees the seat of a handle, if it has one. The last handle of an executor frees the executor too.
 ///
-/// A job that the handle holds stays at its place for ever, and the other handles can't end the executor any more.
+/// If the handle holds a job, that job can never be run again. After this call, the executor can't be ended any more.
 #[unsafe(no_mangle)]
 pub extern "C" fn arachne_exec_close(alloc: Global, exec: &mut ArachneExec)
     ensures { held exec.new ≡ None }
@@ -137,10 +137,10 @@ pub extern "C" fn arachne_exec_close(alloc: Global, exec: &mut ArachneExec)
     drop(exec.take(alloc));
 }
 
-/// Makes the seat the worker with a number from 0 to 63.
+/// Gives the handle's seat the worker number `worker`, from 0 to 63.
 ///
-/// Returns DONE; LOST if another seat has that number; REFUSED if the handle is empty, if its seat is a worker already,
-/// or if `worker` is greater than 63.
+/// Returns DONE; LOST if another seat has that number; REFUSED if the handle is empty, if its seat already has a worker
+/// number, or if `worker` is greater than 63.
 #[unsafe(no_mangle)]
 pub extern "C" fn arachne_exec_register(alloc: Global, exec: &mut ArachneExec, worker: u32) -> u32
     ensures { IsTold (MayRegister worker) (Registers worker) refused (held exec.old) (held exec.new) result }
@@ -153,7 +153,7 @@ pub extern "C" fn arachne_exec_register(alloc: Global, exec: &mut ArachneExec, w
     told
 }
 
-/// Frees the seat's worker number. Returns DONE, or REFUSED if the handle is empty or its seat is no worker.
+/// Gives the seat's worker number back. Returns DONE, or REFUSED if the handle is empty or its seat has no such number.
 #[unsafe(no_mangle)]
 pub extern "C" fn arachne_exec_leave(alloc: Global, exec: &mut ArachneExec) -> u32
     ensures { IsTold IsWorker Leaves refused (held exec.old) (held exec.new) result }
@@ -166,10 +166,10 @@ pub extern "C" fn arachne_exec_leave(alloc: Global, exec: &mut ArachneExec) -> u
     told
 }
 
-/// Puts a job at a free place of a block, where it is ready: one try.
+/// Tries once to put `job` into a free slot of `block`, ready to be run by any thread.
 ///
-/// Returns READY with the job's name, and the worker to unpark; FULL if no place of the block is free; LOST if another
-/// thread was first; REFUSED if the handle is empty or there is no such block. A job with the number 0 is not returned
+/// Returns READY with the job's name, and the worker to unpark; FULL if no slot of the block is free; LOST if another
+/// thread was faster; REFUSED if the handle is empty or there is no such block. A job with the number 0 is not returned
 /// by `arachne_exec_end`.
 #[unsafe(no_mangle)]
 pub extern "C" fn arachne_exec_spawn(
@@ -188,9 +188,9 @@ pub extern "C" fn arachne_exec_spawn(
     told
 }
 
-/// Tries once to put a job at a free place of a block, so that the handle holds the job and nobody else can take it.
+/// Tries once to put `job` into a free slot of `block`. The handle then holds the job, so nobody else can take it.
 ///
-/// Returns RUN with the job's name and number; FULL if no place of the block is free; LOST if another thread was first;
+/// Returns RUN with the job's name and number; FULL if no slot of the block is free; LOST if another thread was faster;
 /// REFUSED if the handle is empty or holds a job, or if there is no such block.
 #[unsafe(no_mangle)]
 pub extern "C" fn arachne_exec_spawn_here(
@@ -209,10 +209,10 @@ pub extern "C" fn arachne_exec_spawn_here(
     told
 }
 
-/// Returns the blocks of a shard that may have ready jobs, a bit for each of its 64 blocks, by one load.
+/// Returns a bit for each of the 64 blocks of `shard` that may have ready jobs, by one load.
 ///
-/// A block whose bit is clear has no ready job, or another thread is in a call that will set the bit, or find that it
-/// needn't. Returns 0 also if the handle is empty or there is no such shard.
+/// A block whose bit is clear has no ready job, unless a call in progress will still set the bit or find it set.
+/// Returns 0 also if the handle is empty or there is no such shard.
 #[unsafe(no_mangle)]
 pub extern "C" fn arachne_exec_shown(alloc: Global, exec: &mut ArachneExec, shard: usize) -> u64
     ensures { IsTold (HasShard shard) (LooksAt (summary_at shard)) 0 (held exec.old) (held exec.new) result }
@@ -225,7 +225,7 @@ pub extern "C" fn arachne_exec_shown(alloc: Global, exec: &mut ArachneExec, shar
     told
 }
 
-/// Returns the places of a block that have a ready job, a bit for each of its 64 places, by one load.
+/// Returns a bit for each of the 64 slots of `block` that has a ready job, by one load.
 ///
 /// Returns 0 also if the handle is empty or there is no such block.
 #[unsafe(no_mangle)]
@@ -240,10 +240,10 @@ pub extern "C" fn arachne_exec_ready(alloc: Global, exec: &mut ArachneExec, bloc
     told
 }
 
-/// Tries once to take a ready job of a block, so that the handle holds it. The block may be any worker's.
+/// Tries once to take a ready job of `block`, so that the handle holds the job. The block may be any worker's.
 ///
-/// Returns RUN with the job's name and number; AGAIN if it took none; REFUSED if the handle is empty or holds a job, or
-/// if there is no such block.
+/// Returns RUN with the job's name and number; AGAIN if no job was taken; REFUSED if the handle is empty or holds a
+/// job, or if there is no such block.
 #[unsafe(no_mangle)]
 pub extern "C" fn arachne_exec_take(
     alloc: Global,
@@ -260,13 +260,13 @@ pub extern "C" fn arachne_exec_take(
     told
 }
 
-/// Takes up to `most` ready jobs of one block (64 places) by one atomic operation. The handle then holds them: nobody
-/// else can run them. A `most` of 0 counts as 1.
+/// Takes up to `most` ready jobs of `block` in one atomic operation. The handle then holds them, so nobody else can
+/// take them. A `most` of 0 counts as 1.
 ///
-/// Returns the places of the jobs that were taken, a bit for each of the block's 64 places. The next calls concern the
-/// job at the lowest place, and once it rests or has ended the job at the next place. `arachne_exec_start` returns that
-/// job's name and number. Returns 0 if no job was taken, if the handle is empty or holds a job already, or if there is
-/// no such block.
+/// Returns a bit for each of the block's 64 slots whose job was taken. The next calls concern the job in the lowest of
+/// these slots; when that job rests or ends, the next calls concern the job in the next slot, and so on.
+/// `arachne_exec_start` returns the number and the name of that job. Returns 0 if no job was taken, if the handle is
+/// empty or holds a job already, or if there is no such block.
 #[unsafe(no_mangle)]
 pub extern "C" fn arachne_exec_take_many(
     alloc: Global,
@@ -284,8 +284,8 @@ pub extern "C" fn arachne_exec_take_many(
     told
 }
 
-/// Begins to run the next of the jobs that `arachne_exec_take_many` has taken: clears the record of a wake that has
-/// come since the take.
+/// Begins to run the next of the jobs that `arachne_exec_take_many` has taken. Clears the record of a wake that came
+/// since the take.
 ///
 /// Returns RUN with the job's name and number, or REFUSED if the handle holds no job.
 #[unsafe(no_mangle)]
@@ -300,10 +300,10 @@ pub extern "C" fn arachne_exec_start(alloc: Global, exec: &mut ArachneExec) -> A
     told
 }
 
-/// Takes the next job of the worker's blocks that is ready, or lets the worker park.
+/// Takes the next job that is ready in the blocks of the handle's worker, or lets the worker park.
 ///
 /// Returns RUN with the job's name and number; PARK if the worker must sleep; AGAIN if the caller must call again;
-/// REFUSED if the handle is empty or holds a job, or if its seat is no worker.
+/// REFUSED if the handle is empty or holds a job, or if its seat has no worker number.
 #[unsafe(no_mangle)]
 pub extern "C" fn arachne_exec_next(alloc: Global, exec: &mut ArachneExec) -> ArachneExecTold
     ensures { IsTold MayGoOn (Tells GoesOn told_next) (code_alone refused) (held exec.old) (held exec.new) result }
@@ -316,10 +316,11 @@ pub extern "C" fn arachne_exec_next(alloc: Global, exec: &mut ArachneExec) -> Ar
     told
 }
 
-/// Sets the worker's idle bit, and then checks if a block of the worker may have ready jobs. `arachne_exec_next` does
-/// the same if it finds no job.
+/// Sets the worker's idle bit, by which other threads know to unpark it, and then checks if a block of the worker may
+/// have ready jobs. `arachne_exec_next` does the same if it finds no job.
 ///
-/// Returns PARK; AGAIN, with the bit cleared again; REFUSED if the handle is empty or its seat is no worker.
+/// Returns PARK if no block may have any; AGAIN, after clearing the idle bit, if one may; REFUSED if the handle is
+/// empty or its seat has no worker number.
 #[unsafe(no_mangle)]
 pub extern "C" fn arachne_exec_may_park(alloc: Global, exec: &mut ArachneExec) -> u32
     ensures { IsTold IsWorker ParksOrNot refused (held exec.old) (held exec.new) result }
@@ -332,9 +333,9 @@ pub extern "C" fn arachne_exec_may_park(alloc: Global, exec: &mut ArachneExec) -
     told
 }
 
-/// Clears the worker's idle bit, after a sleep that ended by itself.
+/// Clears the worker's idle bit. Call it if the worker stops sleeping without having been unparked.
 ///
-/// Returns DONE, or REFUSED if the handle is empty or its seat is no worker.
+/// Returns DONE, or REFUSED if the handle is empty or its seat has no worker number.
 #[unsafe(no_mangle)]
 pub extern "C" fn arachne_exec_wake_up(alloc: Global, exec: &mut ArachneExec) -> u32
     ensures { IsTold IsWorker WakesUp refused (held exec.old) (held exec.new) result }
@@ -361,10 +362,10 @@ pub extern "C" fn arachne_exec_rest_ready(alloc: Global, exec: &mut ArachneExec)
     told
 }
 
-/// Lets the job that the handle holds wait for a wake.
+/// Blocks the job that the handle holds until it is woken.
 ///
-/// Returns BLOCKED; READY with the worker to unpark, if a wake has come since the job was taken or started; REFUSED if
-/// the handle holds no job.
+/// Returns BLOCKED; READY with the worker to unpark, if the job was woken since it was taken or started, and so is
+/// ready again; REFUSED if the handle holds no job.
 #[unsafe(no_mangle)]
 pub extern "C" fn arachne_exec_rest_blocked(
     alloc: Global,
@@ -380,9 +381,9 @@ pub extern "C" fn arachne_exec_rest_blocked(
     told
 }
 
-/// Ends the job that the handle holds, and frees its place. Returns DONE, or REFUSED if the handle holds no job.
+/// Ends the job that the handle holds, and frees its slot. Returns DONE, or REFUSED if the handle holds no job.
 ///
-/// A place is used for at most 2^44 - 1 jobs.
+/// After 2^44 - 1 jobs a slot is retired and takes no more jobs.
 #[unsafe(no_mangle)]
 pub extern "C" fn arachne_exec_finish(alloc: Global, exec: &mut ArachneExec) -> u32
     ensures { IsToldOf Finishes refused (held exec.old) (held exec.new) result }
@@ -395,11 +396,11 @@ pub extern "C" fn arachne_exec_finish(alloc: Global, exec: &mut ArachneExec) -> 
     told
 }
 
-/// Wakes the job of a name: one try.
+/// Tries once to wake the job with this name.
 ///
 /// Returns READY with the worker to unpark, if the job was blocked; MARKED if it wasn't, and this wake is recorded;
-/// ALREADY_MARKED if a wake was recorded before; GONE if no job has the name; LOST if another thread was first; REFUSED
-/// if the handle is empty.
+/// ALREADY_MARKED if a wake was recorded before; GONE if no job has the name; LOST if another thread was faster;
+/// REFUSED if the handle is empty.
 #[unsafe(no_mangle)]
 pub extern "C" fn arachne_exec_wake(
     alloc: Global,
@@ -416,7 +417,7 @@ pub extern "C" fn arachne_exec_wake(
     told
 }
 
-/// Tries once to wake the job of a name, and takes the job if it was blocked, so that the handle holds it.
+/// Tries once to wake the job with this name. If the job was blocked, the handle then holds it.
 ///
 /// Returns RUN with the job's name and number, if the job was blocked. MARKED, ALREADY_MARKED, GONE and LOST are as in
 /// `arachne_exec_wake`; REFUSED if the handle is empty or holds a job.

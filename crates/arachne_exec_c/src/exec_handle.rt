@@ -1,4 +1,4 @@
-//! The handle by which C calls an executor: a pointer to a seat (a thread's right to call) with its executor, or null.
+//! The handle by which C calls an executor: a pointer to a seat (a thread's right to call), or null.
 ghost use Rattle.std.specs.Prelude.{◌≡◌, ◌↔◌, IfNone, IfSome, IsSome, IsTrue};
 ghost use Rattle.std.specs.Option.{option_flatten};
 ghost use Rattle.std.specs.declared.option.Option.{Option};
@@ -14,7 +14,7 @@ use std::alloc::Global;
 use std::marker::Model;
 use std::mem;
 
-/// A seat at an executor in C's layout: one pointer, which is null if there is no seat.
+/// C's handle on an executor: one pointer, to a thread's right to call it (a seat), or null if the handle is empty.
 #[repr(C)]
 pub struct ArachneExec {
     at: *mut u8,
@@ -47,7 +47,7 @@ impl ArachneExec {
         }
     }
 
-    /// Takes the box out of the handle, if the handle has one.
+    /// Returns the box that the handle holds, if any, and leaves the handle empty.
     pub(crate) fn take(&mut self, alloc: Global) -> Option<Box<Option<Executing>>>
         ensures none { IfNone result (self.old.value ≡ None) }
         ensures some { IfSome result (λ taken. self.old.value ≡ Some taken.value) }
@@ -57,7 +57,7 @@ impl ArachneExec {
         mem::replace(self, empty).into_handle().into_box()
     }
 
-    /// Puts a box into the handle. A box that the handle had before is freed.
+    /// Puts `value` into the handle. If the handle held a box, frees that box.
     pub(crate) fn put(&mut self, value: Box<Option<Executing>>)
         ensures { self.new.value ≡ Some value.value }
     {

@@ -1,4 +1,4 @@
-//! Each call on an executor by a handle that may be empty, with the code that C gets.
+//! For each C function on an executor: the call by a handle that may be empty, which returns the code for C.
 ghost use Rattle.std.specs.Prelude.{◌≡◌, ◌↔◌, ◌%◌, ◌^◌, MatchBool, IsTrue};
 ghost use Rattle.std.specs.Option.{ForSome, IsSomeAnd};
 ghost use Rattle.std.specs.declared.option.Option.TheVariants.{None, Some};
@@ -207,9 +207,9 @@ pub(crate) fn leave_held(held: &mut Option<Executing>) -> u32
     }
 }
 
-/// Splits the seat in `mine`, and puts the second part into `theirs`.
+/// Splits the seat in `mine` into two, and puts the second one into `theirs`.
 ///
-/// Returns false, with nothing changed, if the executor's `Arc` can't be cloned, or if `mine` is empty.
+/// Returns false, and changes nothing, if `mine` is empty or the executor's reference count can't grow.
 pub(crate) fn cut_held(mine: &mut Option<Executing>, theirs: &mut Option<Executing>) -> bool
     requires { theirs.old ≡ None }
     ensures cut { ForSome mine.old (λ old. MatchBool result
@@ -227,7 +227,7 @@ pub(crate) fn cut_held(mine: &mut Option<Executing>, theirs: &mut Option<Executi
     true
 }
 
-/// Ends the handle's executor, and writes the jobs that are left to the beginning of `room`.
+/// Ends the handle's executor, and writes the numbers of the jobs that haven't ended to the beginning of `room`.
 pub(crate) fn end_held(
     alloc: Global,
     held: &mut Option<Executing>,
@@ -254,7 +254,7 @@ pub(crate) fn end_held(
     }
 }
 
-/// Returns true if the handle has a seat that holds no job and has no worker number.
+/// Returns true if `held` has a seat that holds no job and has no worker number.
 fn is_idle_held(held: &Option<Executing>) -> bool
     ensures { IsTrue result ↔ IsSomeAnd held.now IsIdle }
 {
@@ -264,7 +264,7 @@ fn is_idle_held(held: &Option<Executing>) -> bool
     }
 }
 
-/// Joins the seat in `theirs` into the seat in `mine`, if both are there and the seat in `theirs` holds no job and has
+/// Joins the seat in `theirs` into the one in `mine`, if there are both and the seat in `theirs` holds no job and has
 /// no worker number.
 #[tactic(auto, using(crate::proofs::ExecCut::not_joined))]
 pub(crate) fn join_held(mine: &mut Option<Executing>, theirs: &mut Option<Executing>) -> u32

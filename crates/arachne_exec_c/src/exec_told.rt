@@ -10,25 +10,25 @@ use arachne_exec::{
     worker_of_place,
 };
 
-/// The result of a call on an executor: a code, the job, and the worker whose thread the caller must unpark.
+/// The result of a call on an executor: a code, the job, and the worker that the caller must unpark.
 #[repr(C)]
 #[derive(Clone, Copy)]
 pub struct ArachneExecTold {
-    /// The name of the job that was spawned, or that the handle holds: 20 bits for its place, and 44 for the place's
-    /// generation.
+    /// The name of the job that was spawned, or that the handle holds: 20 bits for its slot, and 44 for the slot's
+    /// generation, which is the number of jobs that have ended there.
     pub name: u64,
-    /// The number of the job that the handle holds, with which it was spawned.
+    /// The number of the job that the handle holds, as it was given to the spawn.
     pub job: u64,
     pub code: u32,
     /// The worker whose thread the caller must unpark, or NOBODY.
     pub unpark: u32,
 }
 
-/// The result of an executor's end, for C: a code, and the jobs that had not ended.
+/// The result of ending an executor: a code, and the number of jobs that had not ended.
 #[repr(C)]
 #[derive(Clone, Copy)]
 pub struct ArachneExecLeft {
-    /// The number of jobs that are left, which were written to the caller's array.
+    /// The number of jobs that had not ended. Their numbers were written to the caller's array.
     pub count: u64,
     pub code: u32,
 }

@@ -1,4 +1,4 @@
-//! The value behind a handle on an executor: a seat with its executor, its worker number, and the places of the jobs
+//! The value behind C's handle on an executor: a seat with its executor, its worker number, and the slots of the jobs
 //! that it holds.
 ghost use Rattle.std.specs.Prelude.{◌≡◌, ◌↔◌, ℕ, ◌+◌, ◌*◌, ◌/◌, ◌^◌, ◌<◌, ◌≤◌, IsTrue, IsFalse, IfOk, IfErr, IfSome};
 ghost use Rattle.std.specs.declared.option.Option.TheVariants.{None, Some};
@@ -21,19 +21,19 @@ use std::alloc::{AllocError, Global};
 use std::marker::Model;
 use std::sync::Arc;
 
-/// The value behind a handle on an executor.
+/// The value behind C's handle on an executor.
 ///
-/// Each call writes to this value, so 64 unused bytes at its end keep the value of another handle off its cache lines.
+/// Each call writes to this value. The 64 unused bytes at its end keep it off the cache lines of other handles' values.
 #[derive(Drop)]
 #[repr(C)]
 pub struct Executing {
     executor: Arc<Executor>,
     seat: ExecSeat,
-    /// The place of the newest job that the seat holds.
+    /// The slot of the job that the seat got last of those that it holds.
     hand: Option<usize>,
-    /// The other places of the same block whose jobs the seat holds, a bit for each.
+    /// A bit for each other slot of the same block whose job the seat holds.
     more: u64,
-    /// One more than the seat's worker number; 0 if the seat is no worker.
+    /// One more than the seat's worker number; 0 if the seat has none.
     worker: usize,
     apart: [u64; 8],
 }
@@ -49,7 +49,7 @@ impl Model for Executing {
     ghost invariant = { λ e. IsKept (record { executor = arc_value e.executor; seat = e.seat; hand = e.hand; more = e.more; worker = e.worker }) };
 }
 
-/// Returns the place of the lowest bit that is set in a block's word, and the word without it.
+/// Returns the slot of the lowest set bit in `word`, a bit set of `block`'s slots, and `word` without that bit.
 fn in_hand(block: usize, word: u64) -> (Option<usize>, u64)
     requires { block < 2 ^ 58 }
     ensures { result ≡ (lowest_place block word, without_lowest word) }
@@ -65,7 +65,7 @@ fn in_hand(block: usize, word: u64) -> (Option<usize>, u64)
 }
 
 impl Executing {
-    /// Makes an executor of `shards` shards, with its first seat, which has the whole weight.
+    /// Creates an executor with `shards` shards. Returns its first seat, which has the whole weight.
     pub(crate) fn new(alloc: Global, shards: usize) -> Result<Executing, AllocError>
         requires { shards ≤ 256 }
         ensures { IfOk result (IsNew shards) }
@@ -106,7 +106,7 @@ impl Executing {
         self.worker > 0
     }
 
-    /// Returns the place of the newest job that the seat holds.
+    /// Returns the slot of the job that the seat got last of those that it holds.
     pub(crate) fn hand(&self) -> Option<usize>
         ensures { result ≡ self.now.hand }
     {
@@ -131,7 +131,7 @@ impl Executing {
         spawned
     }
 
-    /// Returns the blocks of a shard that may have ready jobs, a bit for each.
+    /// Returns a bit for each block of `shard` that may have ready jobs.
     pub(crate) fn shown(&mut self, shard: usize) -> u64
         requires { HasShard shard self.old }
         ensures { LooksAt (summary_at shard) self.old self.new result }
@@ -139,7 +139,7 @@ impl Executing {
         self.executor.shown(&mut self.seat, shard)
     }
 
-    /// Returns the places of a block that have a ready job, a bit for each.
+    /// Returns a bit for each slot of `block` that has a ready job.
     pub(crate) fn ready(&mut self, block: usize) -> u64
         requires { HasBlock block self.old }
         ensures { LooksAt (ready_at block) self.old self.new result }
@@ -158,8 +158,8 @@ impl Executing {
         taken
     }
 
-    /// Takes up to `most` ready jobs of a block by one atomic operation. Returns the jobs' places, a bit for each. The
-    /// job at the lowest place counts as the newest.
+    /// Takes up to `most` ready jobs of `block` in one atomic operation. Returns a bit for each slot whose job was
+    /// taken. The job in the lowest slot counts as the one that the seat got last.
     pub(crate) fn take_many(&mut self, block: usize, most: u32) -> u64
         requires { MayTake block self.old }
         ensures { TakesMany block most self.old self.new result }
@@ -170,7 +170,7 @@ impl Executing {
         bits
     }
 
-    /// Begins to run the newest job that the seat holds.
+    /// Begins to run the job in slot `place`, the one that the seat got last of those that it holds.
     pub(crate) fn start(&mut self, place: usize) -> HeldJob
         requires { self.old.hand ≡ Some place }
         ensures { Starts place self.old self.new result }
@@ -270,7 +270,8 @@ impl Executing {
         self.worker = 0;
     }
 
-    /// Splits the seat in two. Fails, with nothing changed, if the executor's `Arc` can't be cloned.
+    /// Splits the seat into two, and returns the second one. Fails, and changes nothing, if the executor's reference
+    /// count can't grow.
     pub(crate) fn split(&mut self) -> Result<Executing, AllocError>
         ensures ok { IfOk result (λ other. (self.new ≡ first_of self.old) × (other ≡ second_of self.old)) }
         ensures err { IfErr result (λ _. self.new ≡ self.old) }
@@ -287,17 +288,16 @@ impl Executing {
         })
     }
 
-    /// Returns true if this seat has the whole weight of the executor (no other seat is in use), and holds no job.
+    /// Returns true if this seat is the only one of the executor (it has the whole weight), and holds no job.
     fn may_end(&self) -> bool
         ensures { IsTrue result → IsEmptyHanded self.now × (self.now.seat.weight ≡ whole) }
     {
         self.hand.is_none() && self.executor.is_whole(&self.seat)
     }
 
-    /// Ends the executor, if this seat has the whole weight (no other seat is in use) and holds no job, and `room`
-    /// suffices for a job of each place.
+    /// Ends the executor, if this seat is the only one, holds no job, and `room` suffices for one job in each slot.
     ///
-    /// Returns the jobs that have not ended; or the unchanged value, with the code for C.
+    /// Returns the numbers of the jobs that have not ended; or, as an error, the unchanged value with the code for C.
     pub(crate) fn end(self, alloc: Global, room: usize) -> Result<Vec<u64>, (Executing, u32)>
         ensures ended { IfOk result (λ jobs. HasEnded self jobs.items × (vec_len jobs ≤ room)) }
         ensures same { IfErr result (λ back. (back.0 ≡ self) × ((back.1 ≡ refused) ⊎ (back.1 ≡ no_memory))) }

@@ -1,4 +1,4 @@
-//! The C functions by which a host makes ledgers, adds to them, reads them and closes them.
+//! The C functions by which a host creates ledgers (counters to which many threads add), uses them and closes them.
 ghost use Rattle.std.specs.Prelude.{◌≡◌, ◌↔◌, IsTrue, MatchBool};
 ghost use Rattle.std.specs.Option.{option_map, IsSomeAnd};
 ghost use Rattle.std.specs.declared.option.Option.TheVariants.{None};
@@ -10,9 +10,9 @@ use crate::adding::{Adding, cut, join_held};
 use crate::codes::{DONE, NO_MEMORY, REFUSED};
 use std::alloc::Global;
 
-/// Makes `count` ledgers, each of total 0, and puts their first share into an empty handle.
+/// Creates `count` ledgers (counters), each of total 0, and puts their first share into `adder`, which must be empty.
 ///
-/// Returns DONE; REFUSED if the handle is in use; NO_MEMORY.
+/// A share is one thread's right to add to the ledgers. Returns DONE; REFUSED if the handle is in use; NO_MEMORY.
 #[unsafe(no_mangle)]
 pub extern "C" fn arachne_ledgers_new(alloc: Global, adder: &mut ArachneAdder, count: usize) -> u32
     ensures { IsMade count (held adder.old) (held adder.new) result }
@@ -30,9 +30,9 @@ pub extern "C" fn arachne_ledgers_new(alloc: Global, adder: &mut ArachneAdder, c
     DONE
 }
 
-/// Adds an amount to a ledger.
+/// Adds `amount` to a ledger.
 ///
-/// Returns false, with nothing changed, if the handle is empty or there is no such ledger.
+/// Returns false, and changes nothing, if the handle is empty or there is no such ledger.
 #[unsafe(no_mangle)]
 pub extern "C" fn arachne_ledger_add(
     alloc: Global,
@@ -57,9 +57,10 @@ pub extern "C" fn arachne_ledger_add(
     known
 }
 
-/// Reads the total of a ledger, modulo 2^64, once all other handles were joined into this one.
+/// Writes the sum of all amounts added to a ledger, modulo 2^64, to `total`. The caller must first have joined all
+/// other handles into this one.
 ///
-/// Returns false, with nothing changed, if another handle was not joined into this one, if the handle is empty, or if
+/// Returns false, and changes nothing, if another handle was not joined into this one, if the handle is empty, or if
 /// there is no such ledger.
 #[unsafe(no_mangle)]
 pub extern "C" fn arachne_ledger_total(
@@ -90,12 +91,12 @@ pub extern "C" fn arachne_ledger_total(
     }
 }
 
-/// Splits a share in two, for another thread: `other` gets the second part, to which nothing was added.
+/// Splits the share of `adder` for another thread: `other` gets a new share, which has added nothing.
 ///
 /// Returns DONE; REFUSED if `adder` is empty or `other` is in use; NO_MEMORY.
 ///
-/// After more than 127 splits in a row, each of a part of the one before, splits still succeed but no total can be
-/// read.
+/// After more than 127 splits in a row, each of one of the two shares that the split before resulted in (such as
+/// `adder` each time), splits still succeed, but no total can be read any more.
 #[unsafe(no_mangle)]
 #[tactic(auto, using(crate::proofs::AdderCut::is_split))]
 pub extern "C" fn arachne_ledger_split(
@@ -124,11 +125,11 @@ pub extern "C" fn arachne_ledger_split(
     DONE
 }
 
-/// Joins the share of `other` into that of `adder`, so that `other` holds nothing.
+/// Joins the share of `other` into that of `adder`, and leaves `other` empty.
 ///
-/// Returns false, with nothing changed, if one of the handles is empty. Both handles must be of one set of ledgers,
-/// which is not checked. If they are of two sets, totals of the ledgers of `adder` may be read before all of their
-/// handles were joined, and totals of the ledgers of `other` can't be read any more.
+/// Returns false, and changes nothing, if one of the handles is empty. The caller must pass two handles of one set of
+/// ledgers, which is not checked. If they are of two sets, the totals of `adder`'s ledgers may be readable before all
+/// of their handles were joined, and the totals of `other`'s ledgers can't be read any more.
 #[unsafe(no_mangle)]
 pub extern "C" fn arachne_ledger_join(
     alloc: Global,
@@ -153,9 +154,9 @@ pub extern "C" fn arachne_ledger_join(
     is_joined
 }
 
-/// Frees the share of a handle, if it has one, and the ledgers with the last of their handles.
+/// Frees the share of a handle, if it has one. The last handle of a set of ledgers frees the ledgers too.
 ///
-/// The other handles can't read a total any more.
+/// After this call, no other handle can read a total.
 #[unsafe(no_mangle)]
 pub extern "C" fn arachne_ledger_close(alloc: Global, adder: &mut ArachneAdder)
     ensures { held adder.new ≡ None }

@@ -1,10 +1,10 @@
 //! The executor, locks, ledgers and the core policy for hosts in C or Rust, as one static library.
 //!
-//! A *handle* has a seat at an executor or at locks (a thread's right to call them), or a share of ledgers, or is
-//! empty. An empty handle is one null pointer, so C starts with it. A handle *holds* a job that was taken through it
-//! until the job rests or ends. Calls synchronize by atomics only: none waits, sleeps or yields, and only C's allocator
-//! may lock. `scripts/declarations` makes `examples/c/arachne_exec.h` and `examples/rust/arachne_exec/declared.rs` from
-//! these files.
+//! A *handle* is empty, or has a seat (one thread's right to call an executor or a set of locks), or a share (one
+//! thread's right to add to ledgers). An empty handle is one null pointer, with which C begins. A handle *holds* a job
+//! that was taken through it until the job rests or ends. Calls synchronize by atomics only: none waits, sleeps or
+//! yields, and only C's allocator may lock. `scripts/declarations` makes `examples/c/arachne_exec.h` and
+//! `examples/rust/arachne_exec/declared.rs` from these files.
 #![tactic(auto)]
 
 mod adder;

@@ -1,4 +1,4 @@
-//! The C functions by which a host makes a set of locks, and asks for a lock and frees it.
+//! The C functions by which a host creates a set of locks, and asks for a lock and frees it.
 ghost use Rattle.std.specs.Prelude.{◌≡◌};
 ghost use Rattle.std.specs.declared.option.Option.TheVariants.{None};
 ghost use Rattle.arachne_exec_c.specs.LockTold.{IsAskTold, IsFreeTold, IsWithdrawTold, IsCheckTold};
@@ -13,7 +13,7 @@ use crate::seated::{
 use crate::told::{ArachneLockTold, code_alone};
 use std::alloc::Global;
 
-/// Makes `count` locks, and puts the first seat into an empty handle.
+/// Creates `count` locks, and puts their first seat, a thread's right to use them, into `locks`, which must be empty.
 ///
 /// Returns DONE; REFUSED if the handle is in use; NO_MEMORY.
 #[unsafe(no_mangle)]
@@ -33,7 +33,7 @@ pub extern "C" fn arachne_locks_new(alloc: Global, locks: &mut ArachneLocks, cou
     DONE
 }
 
-/// Splits a seat in two, for another thread: `other` gets the new seat.
+/// Splits the seat of `locks` for another thread: `other` gets a new seat.
 ///
 /// Returns DONE; REFUSED if `locks` is empty or `other` is in use; NO_MEMORY.
 #[unsafe(no_mangle)]
@@ -64,10 +64,10 @@ pub extern "C" fn arachne_locks_split(
     DONE
 }
 
-/// Joins the seat of `other` into that of `locks`, so that `other` holds nothing.
+/// Joins the seat of `other` into that of `locks`, and leaves `other` empty.
 ///
-/// Returns DONE, or REFUSED if one of the handles is empty. Both handles must be of one set of locks, which is not
-/// checked. If they are of two sets, the seat of `other` is only freed, as by `arachne_locks_close`.
+/// Returns DONE, or REFUSED if one of the handles is empty. The caller must pass two handles of one set of locks, which
+/// is not checked. If they are of two sets, the seat of `other` is only freed, as by `arachne_locks_close`.
 #[unsafe(no_mangle)]
 pub extern "C" fn arachne_locks_join(
     alloc: Global,
@@ -92,7 +92,7 @@ pub extern "C" fn arachne_locks_join(
     code
 }
 
-/// Frees the seat of a handle, if it has one, and the locks with the last of their handles.
+/// Frees the seat of a handle, if it has one. The last handle of a set of locks frees the locks too.
 #[unsafe(no_mangle)]
 pub extern "C" fn arachne_locks_close(alloc: Global, locks: &mut ArachneLocks)
     ensures { held locks.new ≡ None }
@@ -100,11 +100,11 @@ pub extern "C" fn arachne_locks_close(alloc: Global, locks: &mut ArachneLocks)
     drop(locks.take(alloc));
 }
 
-/// Tries once to ask for a lock for `who`.
+/// Tries once to ask for a lock for the task with the number `who`.
 ///
-/// Returns GRANTED if `who` holds the lock now; QUEUED if `who` waits for it; ALREADY_IN if `who` held it or waited
-/// before; NO_MEMORY, only if `who` would have to wait; CONTENDED if another thread was in a call on the lock; REFUSED
-/// if the handle is empty or there is no such lock.
+/// Returns GRANTED if `who` holds the lock now; QUEUED if `who` now waits for it; ALREADY_IN if `who` already held it
+/// or waited; NO_MEMORY, only if `who` would have to wait; CONTENDED if another thread was in a call on the lock;
+/// REFUSED if the handle is empty or there is no such lock.
 #[unsafe(no_mangle)]
 pub extern "C" fn arachne_lock_ask(
     alloc: Global,
@@ -124,8 +124,9 @@ pub extern "C" fn arachne_lock_ask(
 
 /// Tries once to free a lock that `who` holds.
 ///
-/// Returns FREED if nobody waited; HANDED_ON if the waiter `next` owns the lock now; NOT_HOLDER if `who` didn't hold
-/// it; CONTENDED if another thread was in a call on the lock; REFUSED if the handle is empty or there is no such lock.
+/// Returns FREED if nobody waited; HANDED_ON if the longest waiter, `next`, holds the lock now; NOT_HOLDER if `who`
+/// didn't hold it; CONTENDED if another thread was in a call on the lock; REFUSED if the handle is empty or there is no
+/// such lock.
 #[unsafe(no_mangle)]
 pub extern "C" fn arachne_lock_free(
     alloc: Global,
@@ -143,11 +144,11 @@ pub extern "C" fn arachne_lock_free(
     told
 }
 
-/// Tries once to take `who` out of the queue of a lock, such as when the future of `who` is dropped.
+/// Tries once to take `who` out of the queue of a lock, for example because the future of `who` is dropped.
 ///
-/// Returns LEFT if `who` waits no longer; GRANTED if `who` was granted the lock meanwhile, and must free it; NOT_HOLDER
-/// if `who` neither waited nor held it; CONTENDED if another thread was in a call on the lock; REFUSED if the handle is
-/// empty or there is no such lock.
+/// Returns LEFT if `who` waits no longer; GRANTED if `who` was granted the lock meanwhile, so that the caller must free
+/// it; NOT_HOLDER if `who` neither waited nor held it; CONTENDED if another thread was in a call on the lock; REFUSED
+/// if the handle is empty or there is no such lock.
 #[unsafe(no_mangle)]
 pub extern "C" fn arachne_lock_withdraw(
     alloc: Global,
@@ -165,10 +166,10 @@ pub extern "C" fn arachne_lock_withdraw(
     told
 }
 
-/// Tries once to find out if `who` holds a lock.
+/// Tries once to find out whether `who` holds a lock.
 ///
-/// Returns GRANTED with the number of the grant to `who`; NOT_HOLDER if `who` doesn't hold the lock; CONTENDED if
-/// another thread was in a call on the lock; REFUSED if the handle is empty or there is no such lock.
+/// Returns GRANTED, with the event number of the grant, if `who` holds it; NOT_HOLDER if not; CONTENDED if another
+/// thread was in a call on the lock; REFUSED if the handle is empty or there is no such lock.
 #[unsafe(no_mangle)]
 pub extern "C" fn arachne_lock_check(
     alloc: Global,

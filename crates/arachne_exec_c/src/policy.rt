@@ -1,6 +1,6 @@
 //! The C functions that advise, from samples of the load, when to ask for a core and when to give one back.
 //!
-//! An estimator lies in the caller's memory, and no call allocates. Each call is defined whatever bytes are there.
+//! An estimator lies in the caller's memory, and no call allocates. No call is undefined, whatever bytes are there.
 ghost use Rattle.std.specs.Prelude.{◌≡◌, ◌≢◌, ◌≤◌, ◌↔◌, List, [], IsTrue, MatchBool};
 ghost use Rattle.arachne_policy.specs.declared.samples.Sample.{Sample as Past};
 ghost use Rattle.arachne_policy.specs.State.{most_cores, StandsFor};
@@ -9,7 +9,8 @@ ghost use Rattle.arachne_exec_c.specs.Estimating.{state_of, sample_of, number_of
 use crate::codes::{ADD, REFUSED, REMOVE, STAY};
 use arachne_policy::{Advice, Estimator, MAX_CORES, Sample};
 
-/// An estimator in C's layout: its settings, and the threshold of each number of cores from 1.
+/// An estimator in C's layout: its settings, and for each number of cores from 1 its threshold, which is the
+/// utilisation below which a core may be given back.
 #[repr(C)]
 #[derive(Clone, Copy)]
 pub struct ArachneEstimator {
@@ -30,7 +31,8 @@ pub struct ArachneSample {
     pub elapsed: u64,
 }
 
-/// Makes an estimator that has judged no sample yet. Returns false, with nothing changed, if `max` is greater than 64.
+/// Sets `estimator` to one that has judged no sample yet. Returns false, and changes nothing, if `max` is greater than
+/// 64.
 #[unsafe(no_mangle)]
 pub extern "C" fn arachne_estimator_new(
     up: u64,
@@ -55,10 +57,10 @@ pub extern "C" fn arachne_estimator_new(
     true
 }
 
-/// Judges a sample, and returns STAY, ADD or REMOVE.
+/// Judges `sample`, and returns STAY, ADD or REMOVE.
 ///
-/// Returns REFUSED, with nothing changed, if the sample can't have been measured, or if the estimator's `max` is
-/// greater than 64.
+/// Returns REFUSED, and changes nothing, if the sample can't have been measured, or if the estimator's `max` is greater
+/// than 64.
 #[unsafe(no_mangle)]
 pub extern "C" fn arachne_estimator_judge(
     estimator: &mut ArachneEstimator,

@@ -1,4 +1,4 @@
-//! The value behind a handle on locks: a seat (one thread's right to use them), with the locks.
+//! The value behind C's handle on locks: a seat, which is one thread's right to use them, with the locks.
 ghost use Rattle.std.specs.Prelude.{◌≡◌, ◌↔◌, IsTrue, IfOk, IfErr, MatchBool};
 ghost use Rattle.std.specs.Option.{ForSome};
 ghost use Rattle.std.specs.declared.option.Option.TheVariants.{None, Some};
@@ -18,7 +18,7 @@ use std::alloc::{AllocError, Global};
 use std::marker::Model;
 use std::sync::Arc;
 
-/// The value behind a handle on locks: a seat, and the set of locks at which it is.
+/// The value behind C's handle on locks: a seat, and the locks that it may use.
 #[derive(Drop)]
 pub struct Seated {
     locks: Arc<Locks>,
@@ -38,7 +38,7 @@ impl Model for Seated {
 }
 
 impl Seated {
-    /// Makes `count` locks, with the first seat.
+    /// Creates `count` locks, and returns their first seat.
     pub(crate) fn new(alloc: Global, count: usize) -> Result<Seated, AllocError>
         ensures { IfOk result (IsNew count) }
     {
@@ -89,7 +89,7 @@ impl Seated {
         self.locks.check(&mut self.seat, lock, who)
     }
 
-    /// Splits off another seat. Fails, with nothing changed, if the locks' `Arc` can't be cloned.
+    /// Splits off another seat. Fails, and changes nothing, if the locks' reference count can't grow.
     fn split(&mut self) -> Result<Seated, AllocError>
         ensures ok { IfOk result (λ other. (self.new ≡ first_of self.old) × (other ≡ second_of self.old)) }
         ensures err { IfErr result (λ _. self.new ≡ self.old) }
@@ -110,7 +110,7 @@ impl Seated {
 
 /// Splits the seat in `mine`, and puts the new seat into `theirs`.
 ///
-/// Returns false, with nothing changed, if the locks' `Arc` can't be cloned, or if `mine` is empty.
+/// Returns false, and changes nothing, if `mine` is empty or the locks' reference count can't grow.
 pub(crate) fn split_held(mine: &mut Option<Seated>, theirs: &mut Option<Seated>) -> bool
     requires { theirs.old ≡ None }
     ensures split { ForSome mine.old (λ old. MatchBool result
@@ -128,7 +128,7 @@ pub(crate) fn split_held(mine: &mut Option<Seated>, theirs: &mut Option<Seated>)
     true
 }
 
-/// Joins the seat in `theirs` into the seat in `mine`, if both are there.
+/// Joins the seat in `theirs` into the one in `mine`, if there are both.
 pub(crate) fn join_held(mine: &mut Option<Seated>, theirs: &mut Option<Seated>) -> u32
     requires { (a b : Seating) → mine.old ≡ Some a → theirs.old ≡ Some b → b.locks ≡ a.locks }
     ensures { IsJoined mine.old theirs.old mine.new theirs.new result }

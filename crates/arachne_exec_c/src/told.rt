@@ -8,13 +8,14 @@ use crate::codes::{
 };
 use arachne_lock::{Admitted, AskRefusal, Attempt, NotOwner, Released, Withdrawn};
 
-/// The answer of a lock. The events of each lock are numbered from 0, modulo 2^64.
+/// The result of a call on a lock. The events of each lock (grants, asks, frees and leaves) are numbered from 0, modulo
+/// 2^64.
 #[repr(C)]
 #[derive(Clone, Copy)]
 pub struct ArachneLockTold {
-    /// The number of the event: the grant, the ask, the free or the leave.
+    /// The number of this call's event: the grant, the ask, the free or the leave.
     pub at: u64,
-    /// The waiter that holds the lock now, if a free handed it on. The number of that grant is `at` + 1.
+    /// The task that holds the lock now, if a free handed it on. The event number of that grant is `at` + 1.
     pub next: u64,
     pub code: u32,
 }

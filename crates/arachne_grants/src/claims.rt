@@ -2,34 +2,33 @@
 ghost use Rattle.std.specs.Prelude.{◌≡◌};
 ghost use Rattle.arachne_grants.specs.Claims.{before_alike, claim_of, gets_before, goes_before, level_before, reserve_of};
 
-/// A client of the daemon: its priority, and the numbers of cores that it reserves, asks for and has.
+/// A program that asks a daemon for cores: its priority, and the numbers of cores that it reserves, asks for and has.
 #[derive(Clone, Copy, Debug, PartialEq, Eq)]
 pub struct Client {
-    /// The client's priority; 0 goes first.
+    /// The client's priority. 0 is the highest.
     pub priority: u8,
-    /// The number of cores that the client gets before any client gets more than its reserve.
+    /// The client's reserve: the number of cores that it gets before any client gets more than its reserve.
     pub reserved: u32,
     /// The number of cores that the client asks for.
     pub asks: u32,
-    /// The number of cores that the client has.
+    /// The number of cores that the client has at present.
     pub held: u32,
 }
 
-/// A client's claim to one core more, by which clients are ordered.
+/// A client's claim to one core more. Claims are met in the order of `goes_before`.
 #[derive(Clone, Copy, Debug, PartialEq, Eq)]
 pub(crate) struct Claim {
-    /// True if the client has been given its reserve already.
+    /// True if the client has been given its whole reserve already.
     pub beyond: bool,
     pub priority: u8,
-    /// The number of cores that the client has been given already.
+    /// The number of cores that the client has been given before this claim.
     pub gets: u32,
-    /// True if the client doesn't have the claimed core yet (it has at most `gets` cores), so that granting the claim
-    /// moves a core to it.
+    /// True if granting the claim moves a core to the client, because it has at most `gets` cores at present.
     pub moves: bool,
 }
 
 impl Client {
-    /// The entry at a place that no client has: it asks for nothing.
+    /// A client that doesn't exist: it asks for nothing.
     pub(crate) const NONE: Client = Client {
         priority: 0,
         reserved: 0,
@@ -37,15 +36,15 @@ impl Client {
         held: 0,
     };
 
-    /// Returns the client's reserve, but at most the cores that it asks for. The client gets these cores before any
-    /// client gets more than its reserve.
+    /// Returns the client's reserve, but at most the number of cores that it asks for. The client gets these cores
+    /// before any client gets more than its reserve.
     fn reserve(&self) -> u32
         ensures { result ≡ reserve_of self.now }
     {
         self.reserved.min(self.asks)
     }
 
-    /// Returns the client's claim to one core more, once it has been given `gets` cores.
+    /// Returns the client's claim to one core more, if it has been given `gets` cores.
     pub(crate) fn claim(&self, gets: u32) -> Claim
         ensures { result ≡ claim_of self.now gets }
     {
@@ -57,7 +56,8 @@ impl Client {
         }
     }
 
-    /// Returns the number of this client's claims that go before `claim`: it is given as many cores before that one.
+    /// Returns the number of this client's claims that go before `claim`. The client gets this many cores before that
+    /// claim is met.
     pub(crate) fn gets_before(&self, claim: &Claim) -> u32
         ensures { result ≡ gets_before claim.now self.now }
     {
@@ -68,9 +68,9 @@ impl Client {
         }
     }
 
-    /// Returns how many of this client's first `most` claims go before `claim`.
+    /// Returns the number of this client's first `most` claims that go before `claim`.
     ///
-    /// The number is right if all of these claims, or none, are below the client's reserve.
+    /// The result is right if all of these claims are below the client's reserve, or none is.
     fn before_alike(&self, claim: &Claim, most: u32) -> u32
         ensures { result ≡ before_alike claim.now self.now most }
     {
@@ -83,8 +83,8 @@ impl Client {
         }
     }
 
-    /// Returns the number of cores up to which this client's claims go before `claim`. The claim must be another
-    /// client's of the same priority.
+    /// Returns how many cores this client is given by claims that go before `claim`, if it asks for enough. The claim
+    /// must be another client's of the same priority.
     fn level_before(&self, claim: &Claim) -> u32
         ensures { result ≡ level_before claim.now self.now }
     {
@@ -105,8 +105,10 @@ impl Claim {
         moves: false,
     };
 
-    /// Returns true if this claim goes before `other`. A client below its reserve goes first, then one of higher
-    /// priority, then one that was given fewer cores, then one that already has the core.
+    /// Returns true if this claim goes before `other`.
+    ///
+    /// The claim of a client below its reserve goes first, then that of a higher priority, then that of a client that
+    /// was given fewer cores, then that of a client that already has the core.
     pub(crate) fn goes_before(&self, other: &Claim) -> bool
         ensures { result ≡ goes_before self.now other.now }
     {

@@ -4,11 +4,11 @@ ghost use Rattle.arachne_grants.specs.Grants.{AreEnough, AreFilled, AreGrants, I
 
 use crate::claims::{Claim, Client};
 
-/// Writes the number of cores that each client gets into `targets`, at the client's index.
+/// Writes into `targets` the number of cores that each client gets, at the client's index.
 ///
-/// One core at a time goes to the client that asks for more and has the first claim. If claims are equal, the core goes
-/// to the client that came first. Many claims are met at a time, so that the time grows only with the logarithm of the
-/// number of cores.
+/// One core after another goes to the client that asks for more and has the first claim by [`Claim::goes_before`]. If
+/// claims are equal, the core goes to the client with the lower index. Many claims are met in one step, so the time
+/// grows only with the logarithm of the number of cores.
 pub fn targets(clients: &[Client], cores: u32, targets: &mut [u32])
     requires { length targets.old ≡ length clients.now }
     ensures order { IsInOrder clients.now targets.new }
@@ -29,14 +29,16 @@ pub fn targets(clients: &[Client], cores: u32, targets: &mut [u32])
     }
 }
 
-/// The clauses of `targets` leave one result only: any two results that meet them give each client the same number of
+/// The contract of `targets` allows one result only: any two results that meet it give each client the same number of
 /// cores.
 pub fn targets_are_decided(clients: &[Client], cores: u32)
     ensures { IsDecided clients.now cores }
 {}
 
-/// Finds the last claim for which there are enough cores for all claims before it, and gives each client a core for
-/// each of its claims before that one. Returns the number of cores given.
+/// Meets many claims in one step: gives each client one core for each of its claims that go before a certain claim.
+/// Returns the number of cores given.
+///
+/// That claim is the last one for which there are enough cores for all claims before it.
 fn fill_levels(clients: &[Client], cores: u32, targets: &mut [u32]) -> u32
     requires { length targets.old ≡ length clients.now }
     ensures few { result ≤ cores }
@@ -53,8 +55,8 @@ fn fill_levels(clients: &[Client], cores: u32, targets: &mut [u32]) -> u32
     given
 }
 
-/// Returns the last claim for which there are enough cores for all claims before it, in the order of
-/// [`Claim::goes_before`].
+/// Returns the last claim, in the order of [`Claim::goes_before`], for which there are enough cores for all claims
+/// before it.
 fn last_filled(clients: &[Client], cores: u32) -> Claim
     ensures { AreEnough clients.now cores result }
 {
@@ -86,8 +88,7 @@ fn last_filled(clients: &[Client], cores: u32) -> Claim
     )
 }
 
-/// Returns a claim like `claim`, but for more cores: the most (fewer than `cores`) such that there are enough for all
-/// claims before it.
+/// Returns `claim` with the greatest `gets` (below `cores`) for which there are enough cores for all claims before it.
 fn last_level(clients: &[Client], cores: u32, claim: Claim) -> Claim
     requires { AreEnough clients.now cores claim }
     ensures { AreEnough clients.now cores result }
@@ -121,7 +122,7 @@ fn later(clients: &[Client], cores: u32, claim: Claim, next: Claim) -> Claim
     }
 }
 
-/// Returns true if there are cores for all claims that go before `claim`.
+/// Returns true if there are enough cores for all claims that go before `claim`.
 fn are_enough(clients: &[Client], cores: u32, claim: &Claim) -> bool
     ensures { IsTrue result ↔ AreEnough clients.now cores claim.now }
 {
@@ -136,7 +137,7 @@ fn are_enough(clients: &[Client], cores: u32, claim: &Claim) -> bool
     true
 }
 
-/// Returns the client that gets the next core, or `None` if nobody asks for more.
+/// Returns the index of the client that gets the next core, or `None` if no client asks for more.
 fn next_client(clients: &[Client], targets: &[u32]) -> Option<usize>
     requires { length targets.now ≡ length clients.now }
     ensures { IsNext clients.now targets.now (length clients.now) result }
@@ -148,8 +149,8 @@ fn next_client(clients: &[Client], targets: &[u32]) -> Option<usize>
     next
 }
 
-/// Returns the client that gets the next core: the client at `place` if its claim goes first, and otherwise `next`, the
-/// best client before `place`.
+/// Returns the client that gets the next core: the client with the index `place` if its claim goes first, and otherwise
+/// `next`, which has the first claim of the clients before `place`.
 fn first_of(clients: &[Client], targets: &[u32], next: Option<usize>, place: usize) -> Option<usize>
     requires sized { length targets.now ≡ length clients.now }
     requires within { place < length clients.now }

@@ -1,7 +1,7 @@
-//! The decision of an arbiter, a daemon that grants cores to programs: how many cores each client gets, and which cores
-//! go from one client to another.
+//! The decisions of an arbiter, a daemon that grants cores to programs: how many cores each client gets, and which
+//! cores go from one client to another.
 //!
-//! Every call is a pure function over numbers: none takes memory, none waits, and none knows a process or a thread.
+//! Every call is a pure function of numbers: none takes memory, none waits, and none knows a process or a thread.
 #![tactic(auto)]
 
 mod claims;

@@ -1,14 +1,14 @@
-//! Reads the messages that clients send to the daemon: four numbers of 32 bits each, the lowest byte first.
+//! Reads the messages that clients send to the daemon. Each is four numbers of 32 bits, the lowest byte first.
 ghost use Rattle.std.specs.Prelude.{◌≡◌, ◌+◌, ◌<◌, ◌≤◌, IfErr, IfOk, length};
 ghost use Rattle.arachne_grants.specs.Messages.{number_at, numbers_in, AreOf, IsFaultOf, IsFirstWrong, IsMessageOf, IsUnambiguous};
 
-/// The bytes of a message.
+/// The number of bytes of a message.
 pub const MESSAGE_BYTES: usize = 16;
 
-/// The version of the protocol, which a client names first.
+/// The version of the protocol, which a client's first message names.
 pub const PROTOCOL_VERSION: u32 = 1;
 
-/// The number of priorities that a message may name.
+/// The number of priorities: a message may name the priorities from 0 to 7.
 pub const PRIORITIES: u32 = 8;
 
 const HELLO: u32 = 1;
@@ -19,24 +19,25 @@ const WAIT: u32 = 3;
 
 const ASK: u32 = 4;
 
-/// A client's message to the daemon: it registers, asks for a number of cores, or reports what one of its threads does.
+/// A client's message to the daemon: it introduces itself, asks for a number of cores, or reports what one of its
+/// threads does.
 #[derive(Clone, Copy, Debug, PartialEq, Eq)]
 pub enum ClientMessage {
-    /// A client's first message: its priority (0 goes first), the number of cores that it reserves, and the most cores
-    /// that it may ask for.
+    /// A client's first message: its priority (0 is the highest), the number of cores that it reserves, and the
+    /// greatest number of cores that it may ask for.
     Hello {
         priority: u8,
         reserved: u16,
         most: u16,
     },
-    /// A kernel thread joins its client, at one of the client's places.
+    /// A kernel thread joins its client. `place` is the thread's number within the client.
     Join {
         client: u32,
         thread: u32,
         place: u8,
         floats: bool,
     },
-    /// The thread gives its core back, if it has one, and waits for another core.
+    /// The thread that sends this gives its core back, if it has one, and waits for another core.
     Wait,
     /// The client asks for this number of cores.
     Ask {
@@ -44,7 +45,7 @@ pub enum ClientMessage {
     },
 }
 
-/// The reason why bytes begin with no message: it names the first of their four numbers that is not valid.
+/// The reason why bytes begin with no message. It concerns the first of the message's four numbers that is not valid.
 #[derive(Clone, Copy, Debug, PartialEq, Eq)]
 pub enum MessageFault {
     /// There are fewer than `MESSAGE_BYTES` bytes.
@@ -55,13 +56,13 @@ pub enum MessageFault {
     Version,
     /// There is no such priority.
     Priority,
-    /// There is no such place.
+    /// There is no such place: a client's threads are numbered from 0 to 63.
     Place,
-    /// A number that the message has no use for isn't 0.
+    /// A number that this kind of message does not use is not 0.
     Unused,
 }
 
-/// The four numbers of a message.
+/// The four numbers of a message, before they are checked.
 #[derive(Clone, Copy)]
 pub(crate) struct Numbers {
     pub kind: u32,
@@ -70,7 +71,7 @@ pub(crate) struct Numbers {
     pub third: u32,
 }
 
-/// Reads the message that bytes begin with.
+/// Reads the message at the beginning of `bytes`.
 pub fn read_message(bytes: &[u8]) -> Result<ClientMessage, MessageFault>
     ensures message { IfOk result (IsMessageOf bytes.now) }
     ensures fault { IfErr result (IsFaultOf bytes.now) }
@@ -86,12 +87,12 @@ pub fn read_message(bytes: &[u8]) -> Result<ClientMessage, MessageFault>
     })
 }
 
-/// Bytes begin with at most one message, and bytes that begin with one have no fault.
+/// Bytes begin with at most one message, and bytes that begin with a message have no fault.
 pub fn messages_are_unambiguous(bytes: &[u8])
     ensures { IsUnambiguous bytes.now }
 {}
 
-/// Returns the number whose bytes begin at `at`.
+/// Returns the number of 32 bits whose four bytes begin at index `at`, the lowest byte first.
 fn number_at(bytes: &[u8], at: usize) -> u32
     requires { at + 4 ≤ length bytes.now }
     ensures { result ≡ number_at bytes.now at }
@@ -99,7 +100,7 @@ fn number_at(bytes: &[u8], at: usize) -> u32
     u32::from_le_bytes([bytes[at], bytes[at + 1], bytes[at + 2], bytes[at + 3]])
 }
 
-/// Returns the message that has these numbers.
+/// Returns the message that consists of these four numbers, or the fault of the first one that is not valid.
 fn message_of(numbers: &Numbers) -> Result<ClientMessage, MessageFault>
     ensures message { IfOk result (AreOf numbers.now) }
     ensures fault { IfErr result (IsFirstWrong numbers.now) }

@@ -5,10 +5,12 @@ ghost use Rattle.arachne_grants.specs.Owners.{is_of, held_by, owned, owner_at, A
 
 use crate::claims::Client;
 
-/// The most clients that a machine may have: an owner is a number from 0 to 255.
+/// The greatest number of clients: a core's owner is stored as a number from 0 to 255.
 pub const MAX_OWNERS: usize = 256;
 
-/// Moves cores so that each client has its target. A client that has no more than its target keeps its cores.
+/// Changes `owners`, the client that has each core, so that each client has as many cores as its target.
+///
+/// A client that has no more cores than its target keeps all of them.
 pub fn moves(owners: &mut [Option<u8>], clients: &[Client], targets: &[u32])
     requires cores { length owners.old < 2 ^ 32 }
     requires clients { length clients.now ≤ 256 }
@@ -22,7 +24,8 @@ pub fn moves(owners: &mut [Option<u8>], clients: &[Client], targets: &[u32])
     give_free(owners, clients, targets);
 }
 
-/// Takes from each client the cores that it has beyond its target, the last cores first.
+/// Takes from each client the cores that it has beyond its target, the last of its cores first. `owners` says which
+/// client has each core.
 pub fn take_back(owners: &mut [Option<u8>], targets: &[u32])
     ensures only { TakesOnly owners.old owners.new }
     ensures keeps { KeepsTargets owners.old owners.new targets.now }
@@ -33,7 +36,7 @@ pub fn take_back(owners: &mut [Option<u8>], targets: &[u32])
     }
 }
 
-/// Gives cores that nobody has to clients that have less than their targets. Clients of higher priority go first.
+/// Gives cores that nobody has to clients that have fewer than their targets. Clients of higher priority go first.
 pub fn give_free(owners: &mut [Option<u8>], clients: &[Client], targets: &[u32])
     requires cores { length owners.old < 2 ^ 32 }
     requires clients { length clients.now ≤ 256 }
@@ -51,7 +54,7 @@ pub fn give_free(owners: &mut [Option<u8>], clients: &[Client], targets: &[u32])
     }
 }
 
-/// Sets each client's `held` to the number of cores that it has.
+/// Sets each client's `held` to the number of cores that it has. `owners` says which client has each core.
 pub fn count_held(clients: &mut [Client], owners: &[Option<u8>])
     requires cores { length owners.now < 2 ^ 32 }
     requires clients { length clients.old ≤ 256 }
@@ -64,14 +67,14 @@ pub fn count_held(clients: &mut [Client], owners: &[Option<u8>])
     }
 }
 
-/// Returns a client's target, or 0 if there is no such client.
+/// Returns the target of a client, or 0 if there is no such client.
 fn target_of(targets: &[u32], client: usize) -> u32
     ensures { result ≡ target_at targets.now client }
 {
     targets.get(client).copied().unwrap_or(0)
 }
 
-/// Adds each core to the count of its owner.
+/// Adds, for each core, one to the count of the client that has it.
 fn count_all(owners: &[Option<u8>], held: &mut [u32])
     requires sized { length held.old ≡ 256 }
     requires cores { length owners.now < 2 ^ 32 }
@@ -84,7 +87,7 @@ fn count_all(owners: &[Option<u8>], held: &mut [u32])
     }
 }
 
-/// Adds a core to the count of its owner.
+/// Adds one to the count of the client that has the core, if any client has it.
 fn count(owner: Option<u8>, held: &mut [u32])
     requires sized { length held.old ≡ 256 }
     requires fits { sum held.old + 1 < 2 ^ 32 }
@@ -97,8 +100,8 @@ fn count(owner: Option<u8>, held: &mut [u32])
     }
 }
 
-/// Returns the owner of a core if it keeps the core: if the cores that were counted for it are fewer than its target.
-/// Then counts the core for it.
+/// Returns the core's owner if it keeps the core, and `None` if not. It keeps the core if `held` counts fewer cores for
+/// it than its target; then this core is added to that count.
 fn keep(owner: Option<u8>, targets: &[u32], held: &mut [u32]) -> Option<u8>
     requires { length held.old ≡ 256 }
     ensures only { (result ≡ owner) ⊎ (result ≡ None) }
@@ -117,8 +120,8 @@ fn keep(owner: Option<u8>, targets: &[u32], held: &mut [u32]) -> Option<u8>
     owner
 }
 
-/// Returns the owner of a core or, if it has none, the client that gets it: one for which fewer cores were counted than
-/// its target. Counts the core for that client.
+/// Returns the core's owner or, if it has none, the client that gets the core: one for which `held` counts fewer cores
+/// than its target. Then this core is added to that count.
 fn give(owner: Option<u8>, clients: &[Client], targets: &[u32], held: &mut [u32]) -> Option<u8>
     requires sized { length held.old ≡ 256 }
     requires targets { length targets.now ≡ length clients.now }
@@ -141,7 +144,7 @@ fn give(owner: Option<u8>, clients: &[Client], targets: &[u32], held: &mut [u32]
     Some(client)
 }
 
-/// Returns the client that gets a free core: of those that have less than their targets by the counts so far, the first
+/// Returns the client that gets a free core: of those for which `held` counts fewer cores than their targets, the first
 /// of the highest priority. Returns `None` if there is no such client.
 pub(crate) fn next_short(clients: &[Client], targets: &[u32], held: &[u32]) -> Option<u8>
     requires sized { length clients.now ≤ length held.now }
@@ -156,8 +159,8 @@ pub(crate) fn next_short(clients: &[Client], targets: &[u32], held: &[u32]) -> O
     next
 }
 
-/// Returns the client that gets a free core: the client at `place` if it goes first, and otherwise `next`, the best
-/// client before `place`.
+/// Returns the client that gets a free core: the client with the index `place` if it goes first, and otherwise `next`,
+/// the best of the clients before `place`.
 fn next_short_of(
     clients: &[Client],
     targets: &[u32],

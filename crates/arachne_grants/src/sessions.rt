@@ -4,47 +4,47 @@ ghost use Rattle.arachne_grants.specs.Sessions.{can_wait, core_of, gives_way, ha
 
 use crate::claims::Client;
 
-/// The most threads that a client may have.
+/// The greatest number of threads of a client.
 pub const MAX_THREADS: usize = 64;
 
-/// The state of the thread at one of a client's places. A thread that *floats* never waits for a core: the daemon moves
-/// it to a core and away from it while it runs.
+/// The state of one of a client's 64 possible threads.
+///
+/// A thread that *floats* never waits for a core: the daemon moves it to a core and away from it while it runs.
 #[derive(Clone, Copy, Debug, PartialEq, Eq)]
 pub enum ClientThread {
-    /// There is no thread at this place.
+    /// There is no thread with this number.
     Absent,
-    /// The thread runs without a core of its own.
+    /// The thread runs, but has no core of its own.
     Runs,
-    /// The thread waits until it is granted a core.
+    /// The thread waits until a core is granted to it.
     Waits,
-    /// The thread runs on this core.
+    /// The thread runs, and has this core for itself.
     On(u16),
-    /// The thread floats, without a core of its own.
+    /// The thread floats, and has no core of its own at present.
     Floats,
-    /// The thread floats, and is on this core now.
+    /// The thread floats, and has this core at present.
     FloatsOn(u16),
 }
 
-/// What the daemon keeps for each client: its priority, the cores that it reserves and asks for, and its threads'
-/// states.
+/// The daemon's record of a client: its priority, the cores that it reserves and asks for, and its threads' states.
 #[derive(Clone, Copy)]
 pub(crate) struct Session {
     /// True if there is a client of this number now.
     pub taken: bool,
-    /// The client's priority; 0 goes first.
+    /// The client's priority. 0 is the highest.
     pub priority: u8,
-    /// The number of cores that the client gets before any client gets more than its reserve.
+    /// The client's reserve: the number of cores that it gets before any client gets more than its reserve.
     pub reserved: u32,
-    /// The most cores that the client may ask for.
+    /// The greatest number of cores that the client may ask for.
     pub most: u32,
     /// The number of cores that the client asks for.
     pub asks: u32,
-    /// The state of the thread at each of the client's places.
+    /// The state of each of the client's threads, by the thread's number.
     pub threads: [ClientThread; MAX_THREADS],
 }
 
 impl ClientThread {
-    /// Returns the core that the thread has.
+    /// Returns the core that the thread has, or `None` if it has none.
     pub fn core(self) -> Option<u16>
         ensures { result ≡ core_of self }
     {
@@ -61,7 +61,7 @@ impl ClientThread {
         self.core().is_some()
     }
 
-    /// Returns true if the thread has no core and can take one.
+    /// Returns true if the thread has no core and can take one: it waits or floats.
     pub(crate) fn is_ready(self) -> bool
         ensures { result ≡ is_ready self }
     {
@@ -75,7 +75,7 @@ impl ClientThread {
         matches!(self, ClientThread::Waits)
     }
 
-    /// Returns true if the thread may wait (it doesn't float), and doesn't wait now.
+    /// Returns true if the thread may begin to wait for a core: it doesn't float, and doesn't wait already.
     pub(crate) fn can_wait(self) -> bool
         ensures { result ≡ can_wait self }
     {
@@ -89,15 +89,15 @@ impl ClientThread {
         self.has_core() || self.is_ready()
     }
 
-    /// Returns true if the thread's core may be taken from it: immediately if the thread floats, and otherwise only if
-    /// the client is late.
+    /// Returns true if the thread's core may be taken from it: at any time if the thread floats, and otherwise only if
+    /// its client hasn't given a core back in time (`late`).
     pub(crate) fn gives_way(self, late: bool) -> bool
         ensures { result ≡ gives_way self late }
     {
         late || matches!(self, ClientThread::FloatsOn(_))
     }
 
-    /// Returns the thread's state once it has this core.
+    /// Returns the thread's state after it has got this core.
     pub(crate) fn placed(self, core: u16) -> ClientThread
         ensures { result ≡ placed self core }
     {
@@ -107,7 +107,7 @@ impl ClientThread {
         }
     }
 
-    /// Returns the thread's state once its core is taken from it.
+    /// Returns the thread's state after its core was taken from it.
     pub(crate) fn unplaced(self) -> ClientThread
         ensures { result ≡ unplaced self }
     {
@@ -120,7 +120,7 @@ impl ClientThread {
 }
 
 impl Session {
-    /// The entry at a place that no client has.
+    /// The record for a number that no client has.
     pub(crate) const NONE: Session = Session {
         taken: false,
         priority: 0,
@@ -150,8 +150,8 @@ impl Session {
             .count() as u32
     }
 
-    /// Returns the client's request, for [`targets`](crate::targets). The client asks for at most the cores that it may
-    /// have, and at most as many as it has threads for.
+    /// Returns the client's request, as an argument for [`targets`](crate::targets). The client asks for at most the
+    /// cores that it may have, and at most as many as it has threads for.
     pub(crate) fn wants(&self) -> Client
         ensures { result ≡ wants_of self.now }
     {
@@ -163,7 +163,7 @@ impl Session {
         }
     }
 
-    /// Returns the place of the client's first thread that can take a core.
+    /// Returns the number of the client's first thread that can take a core, or `None` if it has no such thread.
     pub(crate) fn first_ready(&self) -> Option<usize>
         ensures first { result ≡ position is_ready self.now.threads }
         ensures within { IfSome result (λ place. place < 64) }
@@ -171,7 +171,7 @@ impl Session {
         self.threads.iter().position(|thread| thread.is_ready())
     }
 
-    /// Returns the place of the client's last thread that has a core.
+    /// Returns the number of the client's last thread that has a core, or `None` if it has no such thread.
     pub(crate) fn last_placed(&self) -> Option<usize>
         ensures last { IsLastPlaced self.now.threads 64 result }
         ensures none { result ≡ None → count_by has_core self.now.threads ≡ 0 }
@@ -183,7 +183,8 @@ impl Session {
         last
     }
 
-    /// Returns `place` if its thread has a core, and otherwise `last`, the last place before it whose thread has one.
+    /// Returns `place` if the thread with this number has a core, and otherwise `last`, the last such thread before
+    /// `place`.
     fn last_of(&self, last: Option<usize>, place: usize) -> Option<usize>
         requires within { place < 64 }
         requires last { IsLastPlaced self.now.threads place last }
@@ -196,7 +197,7 @@ impl Session {
         }
     }
 
-    /// Sets `marks` to true at each core that one of the client's threads has.
+    /// Sets `marks` to true at the index of each core that one of the client's threads has.
     pub(crate) fn mark(&self, marks: &mut [bool])
         ensures { AreMarked marks.old marks.new self.now.threads (length self.now.threads) }
     {
@@ -206,7 +207,7 @@ impl Session {
     }
 }
 
-/// Sets `marks` to true at `core`, if there is one.
+/// Sets `marks` to true at the index `core`, if there is a core.
 fn mark_core(core: Option<u16>, marks: &mut [bool])
     ensures { marks.new ≡ with_mark core marks.old }
 {

@@ -1,4 +1,4 @@
-//! The daemon's state: its clients, their threads, and how many cores each client is allowed.
+//! The daemon's state: its clients, their threads, and how many cores each client is allowed to have.
 ghost use Rattle.std.specs.Prelude.{◌≡◌, ◌⊎◌, ℕ, ◌+◌, ◌<◌, ◌≤◌, IsOk, MatchOption, MatchResult, Some, None, length, map, replicate, slice_index, slice_set, true, false, ⊤, if◌then◌else◌};
 ghost use Rattle.arachne_grants.specs.Sessions.{AreBelow, IsSound};
 
@@ -7,34 +7,35 @@ use crate::grants::targets;
 use crate::owners;
 use crate::sessions::{ClientThread, MAX_THREADS, Session};
 
-/// The most clients that a daemon may have.
+/// The greatest number of clients of a daemon.
 pub const MAX_CLIENTS: usize = 64;
 
-/// The most cores that a daemon may grant.
+/// The greatest number of cores that a daemon may grant.
 pub const MAX_CORES: usize = 1024;
 
-/// The error of a call that is not allowed now, and has changed nothing.
+/// The error of a call that is not allowed now. The call has changed nothing.
 #[derive(Clone, Copy, Debug, PartialEq, Eq)]
 pub struct Refused;
 
-/// A core that the arbiter has given to a thread: the core, and the thread's client and place.
+/// A core that the arbiter has given to a thread: the thread's client, the thread's number there (`place`), and the
+/// core.
 #[derive(Clone, Copy, Debug, PartialEq, Eq)]
 pub struct Grant {
     pub client: usize,
     pub place: usize,
     pub core: u16,
-    /// True if the thread waited for the core, and must be notified.
+    /// True if the thread waited for the core, so that the caller must notify it.
     pub waited: bool,
 }
 
-/// A core that the arbiter has taken from a client's thread, and the thread's place.
+/// A core that the arbiter has taken from a client's thread, and the thread's number within the client (`place`).
 #[derive(Clone, Copy, Debug, PartialEq, Eq)]
 pub struct TakenCore {
     pub place: usize,
     pub core: u16,
 }
 
-/// The clients of a daemon that grants whole cores to programs.
+/// The state of a daemon that grants whole cores to programs, its clients.
 #[derive(Drop)]
 pub struct CoreArbiter {
     cores: u16,
@@ -52,7 +53,7 @@ impl CoreArbiter {
     ghost use Rattle.arachne_grants.specs.Steps.{new_session, AllGiven, IsGrant, IsTake, KeepsAllowed, StaysAnswered};
     ghost use Rattle.arachne_grants.specs.declared.sessions.ClientThread.TheVariants.{Absent, Runs, Waits, On, Floats, FloatsOn};
 
-    /// Returns an arbiter of `cores` cores, without clients.
+    /// Returns an arbiter of the cores 0 to `cores` - 1, without clients.
     pub fn new(cores: u16) -> CoreArbiter
         requires { cores ≤ 1024 }
         ensures cores { result.cores ≡ cores }
@@ -66,7 +67,8 @@ impl CoreArbiter {
         }
     }
 
-    /// Registers a client at a place that no other client has.
+    /// Registers a client with the number `client`. Returns `Err` if another client has this number, or if it is
+    /// greater than 63.
     pub fn hello(
         &mut self,
         client: usize,
@@ -101,7 +103,7 @@ impl CoreArbiter {
         Ok(())
     }
 
-    /// Sets the number of cores that a client asks for.
+    /// Sets the number of cores that a client asks for. Returns `Err` if there is no such client.
     pub fn ask(&mut self, client: usize, cores: u32) -> Result<(), Refused>
         ensures sessions { MatchResult result
             (λ _. self.new.sessions ≡ slice_set self.old.sessions client (record (session_at self.old.sessions client) { asks = cores }))
@@ -138,7 +140,10 @@ impl CoreArbiter {
         }
     }
 
-    /// Adds a thread at a place at which its client has no thread.
+    /// Adds a thread with the number `place` to a client.
+    ///
+    /// Returns `Err` if there is no such client, if it already has a thread with this number, or if the number is
+    /// greater than 63.
     pub fn join(&mut self, client: usize, place: usize, floats: bool) -> Result<(), Refused>
         ensures joins { MatchResult result
             (λ _. self.new.sessions ≡ with_thread self.old.sessions client place (if floats then Floats else Runs))
@@ -171,7 +176,9 @@ impl CoreArbiter {
         Ok(())
     }
 
-    /// Takes the core from a thread, if it has one, and lets the thread wait until it is granted a core.
+    /// Takes the core from a thread, if it has one, and makes the thread wait until a core is granted to it.
+    ///
+    /// Returns `Err` if the thread floats, already waits, or does not exist.
     pub fn wait(&mut self, client: usize, place: usize) -> Result<(), Refused>
         ensures waits { MatchResult result
             (λ _. self.new.sessions ≡ with_thread self.old.sessions client place Waits)
@@ -194,7 +201,7 @@ impl CoreArbiter {
         Ok(())
     }
 
-    /// Removes the thread that has ended at this place of the client.
+    /// Removes the thread with the number `place` of the client, which has ended.
     pub fn end(&mut self, client: usize, place: usize)
         ensures ends { client < 64 → place < 64 → self.new.sessions ≡ with_thread self.old.sessions client place Absent }
         ensures kept { KeepsAllowed self.old self.new }
@@ -204,7 +211,7 @@ impl CoreArbiter {
         }
     }
 
-    /// Computes again the number of cores that each client is allowed, from what all clients ask for now.
+    /// Computes anew how many cores each client is allowed to have, from the numbers that all clients ask for now.
     pub fn decide(&mut self)
         ensures promises { AreGrants (map wants_of self.new.sessions) self.new.cores self.new.allowed }
         ensures answer { IsAnswer (map wants_of self.new.sessions) self.new.cores self.new.allowed }
@@ -216,8 +223,8 @@ impl CoreArbiter {
         targets(&clients, u32::from(self.cores), &mut self.allowed);
     }
 
-    /// Gives a free core to a thread that can take one, of a client that has fewer cores than it is allowed. Clients of
-    /// higher priority go first.
+    /// Gives a free core to a thread that can take one, of a client that has fewer cores than it is allowed to have.
+    /// Clients of higher priority go first.
     pub fn give(&mut self) -> Option<Grant>
         ensures gives { MatchOption result (self.new.sessions ≡ self.old.sessions)
             (λ grant. IsGrant self.old.sessions self.new.sessions self.old.allowed self.old.cores grant) }
@@ -240,8 +247,11 @@ impl CoreArbiter {
         })
     }
 
-    /// Takes a core back from a client that has more than it is allowed: from the last of its threads that has a core.
-    /// If that thread floats, the core is taken at once, otherwise only if the client is late.
+    /// Takes a core from a client that has more cores than it is allowed to have, namely from its last thread that has
+    /// a core.
+    ///
+    /// If that thread floats, its core is taken at once; otherwise only if `late` is true, which means that the client
+    /// hasn't given a core back in time.
     pub fn take_back(&mut self, client: usize, late: bool) -> Option<TakenCore>
         ensures takes { MatchOption result (self.new.sessions ≡ self.old.sessions)
             (λ taken. IsTake self.old.sessions self.new.sessions self.old.allowed client late taken) }
@@ -271,14 +281,14 @@ impl CoreArbiter {
         Some(TakenCore { place, core })
     }
 
-    /// Returns the number of cores that a client is allowed.
+    /// Returns the number of cores that a client is allowed to have.
     pub fn allowed_to(&self, client: usize) -> u32
         ensures { result ≡ slice_index self.now.allowed client }
     {
         self.allowed.get(client).copied().unwrap_or(0)
     }
 
-    /// Returns the number of cores that a client has.
+    /// Returns the number of cores that a client has at present.
     pub fn held_by(&self, client: usize) -> u32
         ensures { result ≡ held_in (session_at self.now.sessions client) }
     {
@@ -288,7 +298,7 @@ impl CoreArbiter {
         self.sessions[client].held()
     }
 
-    /// Returns the state of a thread.
+    /// Returns the state of the client's thread with the number `place`.
     pub fn thread(&self, client: usize, place: usize) -> ClientThread
         ensures { result ≡ thread_at self.now.sessions client place }
     {
@@ -302,7 +312,7 @@ impl CoreArbiter {
             .unwrap_or(ClientThread::Absent)
     }
 
-    /// Replaces the state of a client.
+    /// Replaces the record of a client.
     fn set(&mut self, client: usize, session: Session)
         requires within { client < 64 }
         requires sound { (place core : ℕ) → core_of (slice_thread session.threads place) ≡ Some core
@@ -324,7 +334,7 @@ impl CoreArbiter {
         self.sessions[client].threads[place] = thread;
     }
 
-    /// Returns the requests of all clients, for [`targets`](crate::targets).
+    /// Returns the requests of all clients, as an argument for [`targets`](crate::targets).
     fn clients(&self) -> [Client; MAX_CLIENTS]
         ensures { result ≡ map wants_of self.now.sessions }
     {
@@ -346,15 +356,15 @@ impl CoreArbiter {
         held
     }
 
-    /// Returns the client that gets a free core: of the clients that have fewer cores than they are allowed, the first
-    /// of the highest priority.
+    /// Returns the client that gets a free core: of the clients that have fewer cores than they are allowed to have,
+    /// the first of the highest priority.
     fn next_short(&self) -> Option<u8>
         ensures { IsNextShort (map wants_of self.now.sessions) self.now.allowed (map held_in self.now.sessions) 64 result }
     {
         owners::next_short(&self.clients(), &self.allowed, &self.held())
     }
 
-    /// Returns the first core that no thread has.
+    /// Returns the lowest core that no thread has.
     fn first_free(&self) -> Option<u16>
         ensures { MatchOption result ((core : ℕ) → core < self.now.cores → IsTaken self.now.sessions core)
             (λ core. (core < self.now.cores) × IsFree self.now.sessions core) }

@@ -1,4 +1,5 @@
-//! The C functions by which a daemon makes an arbiter, reports what its clients do, and asks what to do next.
+//! The C functions by which a daemon creates an arbiter, reports to it what clients do, and asks which core to move
+//! next.
 ghost use Rattle.std.specs.Prelude.{◌≡◌};
 ghost use Rattle.std.specs.declared.option.Option.TheVariants.{None};
 ghost use Rattle.arachne_grants_c.specs.ArbiterHeld.{held};
@@ -12,7 +13,7 @@ use crate::{events, turns};
 use arachne_grants::{CoreArbiter, MAX_CORES};
 use std::alloc::Global;
 
-/// Makes an arbiter of the cores 0 to `cores` - 1, without clients, in an empty handle.
+/// Creates an arbiter of the cores 0 to `cores` - 1, without clients, in `arbiter`, which must be empty.
 ///
 /// Returns DONE; REFUSED if the handle is in use, or if `cores` is greater than 1,024; NO_MEMORY.
 #[unsafe(no_mangle)]
@@ -33,7 +34,7 @@ pub extern "C" fn arachne_arbiter_new(
     DONE
 }
 
-/// Frees the arbiter of a handle, if it has one.
+/// Frees the arbiter of a handle, if it has one, and leaves the handle empty.
 #[unsafe(no_mangle)]
 pub extern "C" fn arachne_arbiter_close(alloc: Global, arbiter: &mut ArachneArbiter)
     ensures { held arbiter.new ≡ None }
@@ -41,10 +42,11 @@ pub extern "C" fn arachne_arbiter_close(alloc: Global, arbiter: &mut ArachneArbi
     drop(arbiter.take(alloc));
 }
 
-/// Adds a client with its priority (0 goes first), the cores that it reserves, and the most cores that it may ask for.
+/// Adds a client with its priority (0 is the highest), the cores that it reserves, and the most cores that it may ask
+/// for.
 ///
-/// `client`, the client's number, must be from 0 to 63, and no other client's. Returns DONE or REFUSED. The caller must
-/// check that the client is entitled to this priority and these cores.
+/// `client`, the client's number, must be from 0 to 63 and not in use. Returns DONE or REFUSED. The caller must check
+/// that the client is entitled to this priority and these cores.
 #[unsafe(no_mangle)]
 pub extern "C" fn arachne_arbiter_hello(
     alloc: Global,
@@ -99,7 +101,8 @@ pub extern "C" fn arachne_arbiter_leave(
     told
 }
 
-/// Adds a thread to a client, at a free place from 0 to 63. A thread that floats never waits. Returns DONE or REFUSED.
+/// Adds a thread to a client, with a number `place` from 0 to 63 that is free. A thread that floats never waits for a
+/// core. Returns DONE or REFUSED.
 #[unsafe(no_mangle)]
 pub extern "C" fn arachne_arbiter_join(
     alloc: Global,
@@ -118,9 +121,9 @@ pub extern "C" fn arachne_arbiter_join(
     told
 }
 
-/// Takes the core from a thread, if it has one, and lets the thread wait until a core is granted to it.
+/// Takes the core from a thread, if it has one, and makes the thread wait until a core is granted to it.
 ///
-/// Returns DONE, or REFUSED if the thread floats or waits already, or does not exist.
+/// Returns DONE, or REFUSED if the thread floats, already waits, or does not exist.
 #[unsafe(no_mangle)]
 pub extern "C" fn arachne_arbiter_wait(
     alloc: Global,
@@ -138,7 +141,7 @@ pub extern "C" fn arachne_arbiter_wait(
     told
 }
 
-/// Removes a thread. Returns DONE, or REFUSED if the client's number or the thread's place is greater than 63.
+/// Removes a thread. Returns DONE, or REFUSED if the number of the client or of the thread is greater than 63.
 #[unsafe(no_mangle)]
 pub extern "C" fn arachne_arbiter_end(
     alloc: Global,
@@ -156,7 +159,8 @@ pub extern "C" fn arachne_arbiter_end(
     told
 }
 
-/// Computes again how many cores each client may have, from what all clients ask for now. Returns DONE or REFUSED.
+/// Computes anew how many cores each client may have, from the numbers that all clients ask for now. Returns DONE or
+/// REFUSED.
 #[unsafe(no_mangle)]
 pub extern "C" fn arachne_arbiter_decide(alloc: Global, arbiter: &mut ArachneArbiter) -> u32
     ensures { IsTold Decides refused (held arbiter.old) (held arbiter.new) result }
@@ -169,9 +173,10 @@ pub extern "C" fn arachne_arbiter_decide(alloc: Global, arbiter: &mut ArachneArb
     told
 }
 
-/// Takes a core from a client that has more cores than it may have: from its last thread that has a core.
+/// Takes a core from a client that has more cores than it may have, namely from its last thread that has a core.
 ///
-/// If that thread floats, the core is taken at once, otherwise only if `late` is set. Returns TAKEN or NOTHING.
+/// If that thread floats, its core is taken at once; otherwise only if `late` is true, which means that the client
+/// hasn't given a core back in time. Returns TAKEN or NOTHING.
 #[unsafe(no_mangle)]
 pub extern "C" fn arachne_arbiter_take_back(
     alloc: Global,
@@ -204,7 +209,7 @@ pub extern "C" fn arachne_arbiter_give(alloc: Global, arbiter: &mut ArachneArbit
     told
 }
 
-/// Returns the number of cores that a client may have, and the number that it has; 0 and 0 if the handle is empty.
+/// Returns how many cores a client may have, and how many it has. Both are 0 if the handle is empty.
 #[unsafe(no_mangle)]
 pub extern "C" fn arachne_arbiter_share(
     alloc: Global,

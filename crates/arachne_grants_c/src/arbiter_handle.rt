@@ -13,7 +13,7 @@ use std::alloc::Global;
 use std::marker::Model;
 use std::mem;
 
-/// An arbiter in C's layout: one pointer, which is null if there is no arbiter.
+/// C's handle on an arbiter: one pointer, which is null if the handle is empty.
 #[repr(C)]
 pub struct ArachneArbiter {
     at: *mut u8,
@@ -46,7 +46,7 @@ impl ArachneArbiter {
         }
     }
 
-    /// Takes the arbiter out of the handle, if the handle has one.
+    /// Returns the arbiter that the handle holds, if any, and leaves the handle empty.
     pub(crate) fn take(&mut self, alloc: Global) -> Option<Box<CoreArbiter>>
         ensures none { IfNone result (self.old.value ≡ None) }
         ensures some { IfSome result (λ taken. self.old.value ≡ Some taken.value) }
@@ -56,7 +56,7 @@ impl ArachneArbiter {
         mem::replace(self, empty).into_handle().into_box()
     }
 
-    /// Puts an arbiter into the handle. An arbiter that the handle had before is freed.
+    /// Puts `value` into the handle. If the handle held an arbiter, frees that arbiter.
     pub(crate) fn put(&mut self, value: Box<CoreArbiter>)
         ensures { self.new.value ≡ Some value.value }
     {

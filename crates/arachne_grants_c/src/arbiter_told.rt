@@ -1,11 +1,11 @@
-//! Turns an arbiter's decision into a C struct: the action to take on a thread, or a client's number of cores.
+//! Turns an arbiter's decision into a C struct: the action to take on a thread, or the number of a client's cores.
 ghost use Rattle.std.specs.Prelude.{◌≡◌};
 ghost use Rattle.arachne_grants_c.specs.ArbiterTold.{action_alone, told_given, told_taken};
 
 use crate::codes::{GRANTED, PLACED, TAKEN};
 use arachne_grants::{Grant, TakenCore};
 
-/// The action that the caller must take on a thread. Fields that the action does not use are 0.
+/// The action that the caller must take on a thread. Fields that this action does not use are 0.
 #[repr(C)]
 #[derive(Clone, Copy)]
 pub struct ArachneAction {

@@ -1,5 +1,5 @@
-//! Reports to an arbiter what clients do (hello, ask, leave) and what their threads do (join, wait, end). Each function
-//! returns the code that C gets.
+//! Reports to an arbiter the events of clients (hello, ask, leave) and of their threads (join, wait, end). Each
+//! function returns the code for C.
 ghost use Rattle.std.specs.Prelude.{◌≡◌};
 ghost use Rattle.arachne_grants_c.specs.ArbiterTold.{asking, begun, ended, gone, joined, waiting, Changes, HasNumber, HasPlace, IsClient, IsVacant, MayJoin, MayWait};
 

@@ -1,7 +1,7 @@
 //! The state of a daemon that grants cores to programs, and the messages that it reads, as a static library of plain C
 //! functions.
 //!
-//! A *handle* has an arbiter, or is empty. An empty handle is one null pointer, so C starts with that. No call waits,
+//! A *handle* holds an arbiter, or is empty. An empty handle is one null pointer, with which C begins. No call waits,
 //! sleeps or locks, and only `arachne_arbiter_new` allocates memory. `scripts/declarations` generates
 //! `examples/c/arachne_grants.h` and `examples/rust/arachne_grants/declared.rs` from these files.
 #![tactic(auto)]

@@ -5,12 +5,11 @@ ghost use Rattle.arachne_grants_c.specs.MessageTold.{code_of, message_alone, tol
 use crate::codes::{ASK, HELLO, JOIN, KIND, PLACE, PRIORITY, SHORT, UNUSED, VERSION, WAIT};
 use arachne_grants::{ClientMessage, MessageFault, read_message};
 
-/// A message of a client. Fields that the message does not use are 0.
+/// A message from a client. Fields that this kind of message does not use are 0.
 #[repr(C)]
 #[derive(Clone, Copy)]
 pub struct ArachneMessage {
-    /// HELLO, JOIN, WAIT or ASK if the bytes begin with such a message; otherwise the code of the reason why they
-    /// don't.
+    /// HELLO, JOIN, WAIT or ASK if the bytes begin with such a message; otherwise the code that says why they don't.
     pub code: u32,
     pub priority: u32,
     pub reserved: u32,
@@ -22,10 +21,10 @@ pub struct ArachneMessage {
     pub floats: bool,
 }
 
-/// Reads the message at the beginning of the bytes.
+/// Reads the message at the beginning of `bytes`.
 ///
 /// Returns HELLO, JOIN, WAIT or ASK; SHORT if there are fewer than 16 bytes; otherwise KIND, VERSION, PRIORITY, PLACE
-/// or UNUSED, by the first of the message's four numbers that is not valid.
+/// or UNUSED, for the first of the message's four numbers that is not valid.
 #[unsafe(no_mangle)]
 pub extern "C" fn arachne_message_read(bytes: &[u8]) -> ArachneMessage
     ensures { IsRead bytes.now result }

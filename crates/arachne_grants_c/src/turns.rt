@@ -1,4 +1,4 @@
-//! Decides how many cores each client may have, and which core goes to or from which thread next.
+//! Decides how many cores each client may have, and which thread gets or loses a core next.
 ghost use Rattle.std.specs.Prelude.{◌≡◌};
 ghost use Rattle.arachne_grants_c.specs.ArbiterTold.{share_of, Decides, Gives, Takes};
 

@@ -1,4 +1,4 @@
-//! A handle for C: the pointer of a box, or null if the handle holds no box.
+//! A handle for C: a pointer to a box's value, or null if the handle holds no box.
 ghost use Rattle.std.specs.Prelude.{◌≡◌, IfNone, IfSome};
 ghost use Rattle.std.specs.declared.option.Option.{Option};
 ghost use Rattle.std.specs.declared.option.Option.TheVariants.{None, Some};
@@ -10,9 +10,9 @@ use std::alloc::Global;
 use std::marker::Model;
 use std::ptr::null_mut;
 
-/// The pointer of a box, or null, which holds nothing. Contracts see the value in the box as `value`.
+/// A pointer to a box's value, or null if the handle holds no box. Contracts refer to the boxed value `value`.
 ///
-/// A handle can't be dropped: `into_box` ends it.
+/// A handle can't be dropped: `into_box` consumes it.
 pub struct Handle<T> {
     pub at: *mut T,
     pub alloc: Global,
@@ -55,14 +55,14 @@ impl<T> Handle<T> {
 }
 
 impl<T: Drop> Handle<T> {
-    /// Returns a handle that holds the box.
+    /// Returns a handle that holds the box `value`.
     pub fn of(value: Box<T>) -> Handle<T>
         ensures { result.value ≡ Some value.value }
     {
         Handle::of_loose(Loose::of(value))
     }
 
-    /// Returns the box, if the handle holds one.
+    /// Consumes the handle, and returns its box, or `None` if it holds none.
     pub fn into_box(self) -> Option<Box<T>>
         ensures nothing { IfNone result (self.value ≡ None) }
         ensures value { IfSome result (λ value. self.value ≡ Some value.value) }

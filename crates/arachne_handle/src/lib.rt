@@ -1,4 +1,4 @@
-//! A box as the pointer by which C holds it, and back. A null pointer holds nothing.
+//! Turns a box into the pointer by which C holds it, and back. A null pointer holds nothing.
 #![tactic(auto)]
 
 mod handle;

@@ -19,7 +19,7 @@ pub(crate) const CELLS: usize = 64;
 /// A thread's right to use some cells of a block.
 pub(crate) type BlockSeat<T, K> = Seat<Content<T, K>, PartView<K>>;
 
-/// Cells that share one table.
+/// A block of cells, each of which carries one value at a time from a sender to a receiver.
 ///
 /// Each cell has an atomic word, which `leave` flips, and a slot, which is the field for the value.
 #[derive(Drop)]
@@ -38,7 +38,7 @@ impl<T: Fits<K>, K> Model for CellBlock<T, K> {
     ghost invariant = { λ b. b.table.shared.table_id.words ≡ b.table.shared.table_id.slots };
 }
 
-// Returns the slots of a new block.
+// Returns the value slots of a new block, all empty.
 fn empty_slots<T: Drop, K>(alloc: Global) -> Result<Vec<Content<T, K>>, AllocError>
     ensures { IfOk result (λ slots. slots.items ≡ replicate CELLS Empty) }
 {
@@ -64,7 +64,8 @@ impl<T: Fits<K> + Drop, K> CellBlock<T, K> {
 }
 
 impl<T: Fits<K>, K> CellBlock<T, K> {
-    /// Takes the first cell away from the seat `all`. Returns a seat that owns this cell only.
+    /// Moves the first cell that `all` still owns, cell `index`, to a new seat. Returns that seat, which owns only this
+    /// cell.
     pub(crate) fn give_first(&self, all: &mut BlockSeat<T, K>, index: usize) -> BlockSeat<T, K>
         requires own { all.old.table_id ≡ self.now }
         requires inside { index < self.now.slots }
@@ -79,9 +80,9 @@ impl<T: Fits<K>, K> CellBlock<T, K> {
         cell
     }
 
-    /// Opens an unused cell for a key.
+    /// Opens the unused cell `index` for a value that fits `key`.
     ///
-    /// Returns a new seat, which may only receive; `seat` may only send from then on.
+    /// `seat` then may only send the value; the returned seat may only receive it.
     pub(crate) fn open(&self, seat: &mut BlockSeat<T, K>, index: usize, key: &K) -> BlockSeat<T, K>
         requires own { seat.old.table_id ≡ self.now }
         requires inside { index < self.now.slots }
@@ -99,7 +100,7 @@ impl<T: Fits<K>, K> CellBlock<T, K> {
         shared.split_seat::<PartEnds>(seat)
     }
 
-    /// Sends the value: stores it in the cell's slot (the field for the value), and flips the cell's word to `full`.
+    /// Sends `value`: stores it in the slot of cell `index`, and then sets the cell's word to `full`.
     pub(crate) fn leave(&self, seat: BlockSeat<T, K>, index: usize, full: u64, value: T)
         requires own { seat.table_id ≡ self.now }
         requires inside { index < self.now.slots }
@@ -115,9 +116,9 @@ impl<T: Fits<K>, K> CellBlock<T, K> {
         shared.store::<LeaveThere>(&mut seat, index, full);
     }
 
-    /// Returns the value that the sender has left in the cell, if its word is `full` now.
+    /// Returns the value that the sender has left in cell `index`, or `None` if the cell's word is not `full` yet.
     ///
-    /// If there is a value, the cell is unused again, and the seat owns the whole cell.
+    /// After a value was returned, the cell is unused again, and `seat` owns the whole cell.
     pub(crate) fn fetch(&self, seat: &mut BlockSeat<T, K>, index: usize, full: u64) -> Option<T>
         requires own { seat.old.table_id ≡ self.now }
         requires inside { index < self.now.slots }

@@ -14,7 +14,7 @@ impl<T: Fits<K>, K> TableRule<Content<T, K>, PartView<K>, ()> for BlockRule {
     ghost first = { λ _. all_cells };
 }
 
-/// The split by which the seat that owns all cells gives the first of them to a new seat.
+/// The split by which the seat that owns all remaining cells gives the first of them to a new seat.
 pub(crate) struct GiveFirst;
 
 impl<K> Split<PartView<K>> for GiveFirst {
@@ -25,7 +25,7 @@ impl<K> Split<PartView<K>> for GiveFirst {
     ghost right = { the_first };
 }
 
-/// The operation by which a seat takes the empty slot of a cell that was never used.
+/// The operation by which a seat takes the empty slot out of a cell that was never used.
 pub(crate) struct Start;
 
 impl<T, K> Play<Content<T, K>, PartView<K>> for Start {
@@ -42,7 +42,7 @@ impl<T, K> Play<Content<T, K>, PartView<K>> for Open {
     ghost then = { λ _ m n w. Opens m w };
 }
 
-/// The split of a seat that owns an opened cell into the sending end and the receiving end.
+/// The split of the seat of an opened cell into the sending end and the receiving end.
 pub(crate) struct PartEnds;
 
 impl<K> Split<PartView<K>> for PartEnds {

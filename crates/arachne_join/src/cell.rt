@@ -17,10 +17,11 @@ use atomic_table::{Seat, Table};
 use std::alloc::{AllocError, Global};
 use std::marker::Model;
 
-/// A cell for a value that is fetched at most once. Whoever shares the cell, for example by an `Arc`, may fetch the
-/// value.
+/// A cell for one value, which is fetched at most once. Each thread that shares the cell, for example by an `Arc`, may
+/// fetch the value.
 ///
-/// Contracts see the identity of the cell's table, and the key for which the cell was made.
+/// A cell is made for a key, which exists only in proofs and says which values may be left. Contracts refer to the
+/// cell's table and to its key.
 #[derive(Drop)]
 pub struct JoinCell<T: Fits<K>, K> {
     pub(crate) table: Table<Option<T>, View<K>, K, CellRule, Global>,
@@ -37,8 +38,8 @@ impl<T: Fits<K>, K> Model for JoinCell<T, K> {
     ghost invariant = { λ c. (c.table.shared.table_id.words ≡ 1) × (c.table.shared.table_id.slots ≡ 1) };
 }
 
-/// The error of a call that got no value: the state that the call found the cell in, and a receipt that proves it to
-/// contracts.
+/// The error of a call that got no value: the state in which it found the cell, and a receipt, by which contracts know
+/// that state.
 #[derive(Drop)]
 pub struct Missed<K> {
     pub state: CellState,
@@ -58,7 +59,7 @@ impl<K> Missed<K> {
 }
 
 impl<T: Fits<K>, K> JoinCell<T, K> {
-    /// Creates an empty cell for this key, and its sending end.
+    /// Creates an empty cell for `key`, and its sending end.
     pub fn new(alloc: Global, key: &K) -> Result<(JoinCell<T, K>, SendingEnd<T, K>), AllocError>
         ensures { IfOk result (λ made. (made.0.key ≡ key.now) × (made.1 ≡ made.0.table)) }
     {
@@ -67,7 +68,7 @@ impl<T: Fits<K>, K> JoinCell<T, K> {
         Ok((JoinCell { table }, SendingEnd::of(seat)))
     }
 
-    // Returns the word of the cell, and a new seat that has read the word.
+    // Returns the value of the cell's word, and a new seat that has read it.
     fn look(&self) -> (u64, Seat<Option<T>, View<K>>)
         ensures place { result.1.table_id ≡ self.now.table }
         ensures look { Looks (view (Some self.now.key) Maker, []) result.0 result.1.me }
@@ -75,7 +76,7 @@ impl<T: Fits<K>, K> JoinCell<T, K> {
         self.table.shared.load_new_seat::<Look>(0)
     }
 
-    // Puts the value into the slot, which the sending end has.
+    // Puts `value` into the cell's slot. `seat` must be the sending end, which owns the slot.
     pub(crate) fn fill(&self, seat: &mut Seat<Option<T>, View<K>>, value: T)
         requires { (seat.old.table_id ≡ self.now.table) × Sends seat.old.me }
         ensures place { (seat.new.table_id ≡ seat.old.table_id) × (seat.new.id ≡ seat.old.id) }
@@ -87,7 +88,7 @@ impl<T: Fits<K>, K> JoinCell<T, K> {
         }
     }
 
-    // Takes the value out of the slot, which the seat has.
+    // Takes the value out of the cell's slot, which `seat` owns.
     fn take_out(&self, seat: &mut Seat<Option<T>, View<K>>) -> T
         requires { (seat.old.table_id ≡ self.now.table) × HoldsValue seat.old.me }
         ensures place { (seat.new.table_id ≡ seat.old.table_id) × (seat.new.id ≡ seat.old.id) }
@@ -96,8 +97,8 @@ impl<T: Fits<K>, K> JoinCell<T, K> {
         self.table.shared.exchange(seat, 0, None).unwrap()
     }
 
-    /// Returns the state of the cell at one moment of the call, and a receipt that proves it to contracts. A value in
-    /// the cell stays there.
+    /// Returns the state of the cell at one moment of the call, with a receipt, by which contracts know that state. A
+    /// value in the cell stays there.
     pub fn seen(&self) -> (CellState, Receipt<K>)
         ensures { result.1 ≡ shown self.now.table (Saw result.0) }
     {
@@ -105,7 +106,8 @@ impl<T: Fits<K>, K> JoinCell<T, K> {
         (CellState::of(found), Receipt::of(seat))
     }
 
-    /// Takes the value out of the cell, if the child has left it there and nobody has fetched it.
+    /// Takes the value out of the cell. If the child hasn't left it there yet, or another call has fetched it, returns
+    /// the state of the cell as an error.
     pub fn fetch(&self) -> Result<(T, Receipt<K>), Missed<K>>
         ensures value { IfOk result (λ got. T.fits self.now.key got.0) }
         ensures fetched { IfOk result (λ got. got.1 ≡ shown self.now.table Fetched) }
@@ -125,8 +127,9 @@ impl<T: Fits<K>, K> JoinCell<T, K> {
         Ok((value, Receipt::of(seat)))
     }
 
-    /// Takes the value out of the cell that was put back into it, if it is there now. Returns it with the cell's
-    /// sending end.
+    /// Takes back a value that `put_back` has put into the cell, and returns it with the cell's sending end.
+    ///
+    /// If there is no such value now, returns the state of the cell as an error.
     pub fn take_back(&self) -> Result<(T, SendingEnd<T, K>), Missed<K>>
         ensures value { IfOk result (λ got. T.may_wait self.now.key got.0) }
         ensures sending_end { IfOk result (λ got. got.1 ≡ self.now.table) }
@@ -145,7 +148,7 @@ impl<T: Fits<K>, K> JoinCell<T, K> {
         Ok((value, SendingEnd::of(seat)))
     }
 
-    /// Does nothing. The contract is a law: at most one call has fetched from a cell. So of all receipts of a cell at
+    /// Does nothing. Its contract is a law: at most one call has fetched from a cell. So of all receipts of a cell at
     /// most one is that of a fetch.
     pub fn fetched_once(&self, fetched: Receipt<K>, other: Receipt<K>)
         requires fetched { fetched ≡ shown self.now.table Fetched }

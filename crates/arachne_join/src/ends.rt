@@ -1,5 +1,5 @@
-//! Reusable cells: opening one gives a `Sender` and a `Receiver` for one value, and receiving the value gives the cell
-//! back.
+//! Reusable cells. Opening a cell gives a `Sender` and a `Receiver` for one value; receiving the value returns the
+//! cell.
 ghost use Rattle.std.specs.Prelude.{◌≡◌, ◌<◌, IfOk, IfErr};
 ghost use Rattle.std.specs.Arc.{arc_value};
 ghost use Rattle.arachne_join.specs.BlockSteps.{IsUnusedAt};
@@ -11,9 +11,9 @@ use std::marker::Model;
 use std::snapshot::Snapshot;
 use std::sync::Arc;
 
-/// A cell that nobody uses. `open` uses it for one value, and `Receiver::fetch` returns it with that value.
+/// A cell that is not in use. `open` uses it for one value, and `Receiver::fetch` returns the cell with that value.
 ///
-/// Contracts see the identity of the cell, and how many values have passed through it.
+/// Contracts refer to the cell, and to the number of values that have passed through it.
 #[derive(Drop)]
 pub struct UnusedCell<T: Fits<K>, K> {
     block: Arc<CellBlock<T, K>>,
@@ -34,9 +34,9 @@ impl<T: Fits<K>, K> Model for UnusedCell<T, K> {
     ghost invariant = { λ c. IsPlaced (arc_value c.block) c.seat.table_id c.index c.full c.seat.me.0.passed × IsUnusedAt c.index c.seat.me.0.passed c.seat.me };
 }
 
-/// The sending end of an opened cell. If the sender is dropped, the cell stays empty for ever.
+/// The sending end of an opened cell. If it is dropped, no value ever comes, and the cell is not used again.
 ///
-/// Contracts see the opening: the cell, how many values had passed through the cell before, and the key.
+/// Contracts refer to the cell, the number of values that had passed through it before, and the key.
 #[derive(Drop)]
 pub struct Sender<T: Fits<K>, K> {
     block: Arc<CellBlock<T, K>>,
@@ -58,9 +58,10 @@ impl<T: Fits<K>, K> Model for Sender<T, K> {
     ghost invariant = { λ s. IsPlaced (arc_value s.block) s.seat.table_id s.index s.full s.seat.me.0.passed × IsSendingAt s.index s.seat.me.0.passed s.key.value s.seat.me };
 }
 
-/// The receiving end of an opened cell. If the receiver is dropped, the cell is not used again.
+/// The receiving end of an opened cell. If it is dropped, the cell is not used again.
 ///
-/// Contracts see the opening, as for a `Sender`, and how often `fetch` found no value.
+/// Contracts refer to the cell, the number of values that had passed through it before, the key, and the number of
+/// calls of `fetch` that found no value.
 #[derive(Drop)]
 pub struct Receiver<T: Fits<K>, K> {
     block: Arc<CellBlock<T, K>>,
@@ -86,7 +87,7 @@ impl<T: Fits<K>, K> Model for Receiver<T, K> {
 }
 
 impl<T: Fits<K> + Drop, K> UnusedCell<T, K> {
-    /// Creates a cell through which no value has passed yet.
+    /// Returns the cell `index` of `block`, through which no value has passed yet.
     pub(crate) fn new(
         block: Arc<CellBlock<T, K>>,
         seat: BlockSeat<T, K>,
@@ -105,7 +106,7 @@ impl<T: Fits<K> + Drop, K> UnusedCell<T, K> {
         }
     }
 
-    /// Opens the cell for one value that fits the key. Takes no memory.
+    /// Opens the cell for one value that fits `key`, which only proofs use. Does not allocate.
     ///
     /// Returns the cell as an error if the reference count of its block can't grow.
     pub fn open(self, key: &K) -> Result<(Receiver<T, K>, Sender<T, K>), UnusedCell<T, K>>
@@ -142,7 +143,7 @@ impl<T: Fits<K> + Drop, K> UnusedCell<T, K> {
 }
 
 impl<T: Fits<K> + Drop, K> Sender<T, K> {
-    /// Sends the value to the receiver. Takes no memory and waits for nobody.
+    /// Sends `value` to the receiver. Neither allocates nor waits.
     pub fn leave(self, value: T)
         requires { T.fits self.key value }
     {
@@ -158,7 +159,7 @@ impl<T: Fits<K> + Drop, K> Sender<T, K> {
 }
 
 impl<T: Fits<K> + Drop, K> Receiver<T, K> {
-    /// Returns the value, if it was left in the cell, and the cell, which can be opened again.
+    /// Returns the value that the sender has left, together with the cell, which can be opened again.
     ///
     /// Reads the cell's word once. If there is no value yet, returns the receiver as an error.
     pub fn fetch(self) -> Result<(T, UnusedCell<T, K>), Receiver<T, K>>

@@ -1,12 +1,11 @@
 //! The trait that says which values may be left in a cell that was made for a given key.
 
-/// A type of values that a cell can carry, with the relation between a cell's key and the values allowed in it. Both
-/// members are only for proofs.
+/// Values that a cell can carry. The trait says, for proofs only, which of them a cell with a given key accepts.
 pub trait Fits<K> {
-    /// True if the value may be left in a cell with this key. A fetch returns only such values.
+    /// True if `leave` may put the value into a cell with this key. So a fetch from that cell returns only such values.
     ghost fits: { K → Self → Type 0 };
 
-    /// True if the value may be put back into a cell with this key, and stay there until `take_back`. By default no
-    /// value may be put back.
+    /// True if `put_back` may put the value into a cell with this key, from which only `take_back` takes it. By
+    /// default, no value may be put back.
     ghost may_wait: { K → Self → Type 0 } = { λ _ _. ⊥ };
 }

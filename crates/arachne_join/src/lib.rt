@@ -1,13 +1,13 @@
-//! A one-shot cell that a fork's parent and child share: the child leaves one value, and whoever shares the cell
-//! fetches the value once.
+//! A one-shot cell that a fork's parent and child share: the child leaves one value, and each thread that shares the
+//! cell may fetch the value, once in all.
 //!
-//! A cell is made for a key, which only proofs know. Only a value that fits the key can be left in the cell, so each
-//! fetched value fits the key. The cell is one atomic word and one *slot* (a field that one thread at a time may
-//! access) of an `atomic_table`: no call locks, waits, or compares the value with the key.
+//! A cell is made for a key, which exists only in proofs. Only a value that fits the key can be left in the cell, so
+//! each fetched value fits the key; no call compares the two. A cell consists of one atomic word and one *slot*, a
+//! field that one thread at a time may access. No call locks or waits.
 //!
-//! A `JoinCell` has a table of its own. An `UnusedCell` shares a table with the other cells of its block, and is opened
-//! for one value after another. A *seat* is a thread's right to change the table; callers see it only as the ends of a
-//! cell.
+//! A `JoinCell` has a table of its own for its word and its slot. An `UnusedCell` shares a table with the other cells
+//! of its block, and is opened for one value after another. A *seat* is a thread's right to change the table; callers
+//! see it only as the ends of a cell.
 #![tactic(auto)]
 
 mod block;

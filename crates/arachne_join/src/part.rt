@@ -1,13 +1,13 @@
-//! The cells of a block that a seat owns or may use, and the content of a cell's slot.
+//! The cells that a seat owns or may use, and the content of a cell's slot.
 use std::snapshot::Snapshot;
 
-/// The cells of a block that a seat owns or may use. These types are only for proofs: no value of them is made.
+/// The cells of a block that a seat owns or may use. The type exists only for proofs.
 pub enum Part<K> {
-    /// All cells from an index on, which no other seat has had before.
+    /// All cells from an index on. No seat has been given them yet.
     Rest,
-    /// One cell that was never used. Its slot (the field for the value) is in the table.
+    /// One cell that was never used. Its slot (the field for the value) still belongs to the table.
     Fresh,
-    /// One cell, unused since its last value was fetched.
+    /// One cell that is not in use since its last value was fetched.
     Unused,
     /// One cell that was opened for this key, before it is split into a sender and a receiver.
     Opened(K),
@@ -15,7 +15,7 @@ pub enum Part<K> {
     Sending(K),
     /// The receiving end of a cell that was opened for this key, and how often it found no value.
     Receiving(K, u64),
-    /// Nothing: the seat has given its cell to another seat.
+    /// No cell: the seat has given its cell to another seat.
     Spent,
 }
 
@@ -31,7 +31,7 @@ pub struct PartView<K> {
 pub enum Content<T, K> {
     /// No value.
     Empty,
-    /// The key of the next value, only for proofs.
+    /// The key of the next value. It exists only for proofs.
     For(Snapshot<K>),
     /// A value that was left in the cell, to be fetched.
     Value(T),

@@ -1,4 +1,4 @@
-//! Values without bytes that tell contracts what a call on a cell did, or which state it found.
+//! Values without bytes by which contracts know what a call on a cell did, or in which state the call found it.
 ghost use Rattle.std.specs.Prelude.{◌≡◌, []};
 ghost use Rattle.arachne_join.specs.Views.{shown};
 
@@ -6,7 +6,7 @@ use crate::view::View;
 use atomic_table::{Badge, Seat};
 use std::marker::Model;
 
-/// Records for contracts what one call did at a cell, or which state it found the cell in.
+/// The proof of what one call did at a cell, or in which state the call found it. Only contracts use it.
 ///
 /// A receipt has no bytes, and may be dropped.
 #[derive(Drop)]

@@ -1,4 +1,4 @@
-//! The sending end of a cell, which is used up when its owner leaves the value.
+//! The sending end of a cell, which is consumed when its owner leaves the value.
 ghost use Rattle.std.specs.Prelude.{◌≡◌};
 ghost use Rattle.arachne_join.specs.Steps.{Sends};
 ghost use Rattle.arachne_join.specs.Views.{shown};
@@ -13,11 +13,10 @@ use crate::view::View;
 use atomic_table::Seat;
 use std::marker::Model;
 
-/// The only sending end of a cell, with the cell's empty slot (the field for the value). Leaving a value uses up the
-/// sending end.
+/// The only sending end of a cell. It owns the cell's empty slot (the field for the value). Leaving a value consumes
+/// it.
 ///
-/// A sending end has no bytes. If the sending end is dropped, the cell stays empty. Contracts see the identity of its
-/// cell's table.
+/// A sending end has no bytes. If it is dropped, the cell stays empty. Contracts refer to its cell's table.
 #[derive(Drop)]
 pub struct SendingEnd<T, K> {
     seat: Seat<Option<T>, View<K>>,
@@ -44,7 +43,7 @@ impl<T, K> SendingEnd<T, K> {
 }
 
 impl<T: Fits<K>, K> SendingEnd<T, K> {
-    /// Leaves the value in the cell, from which one `fetch` can take it. Takes no memory and waits for nobody.
+    /// Leaves `value` in `cell`, from which one `fetch` can take it. Neither allocates nor waits.
     pub fn leave(self, cell: &JoinCell<T, K>, value: T) -> Receipt<K>
         requires cell { self ≡ cell.now.table }
         requires value { T.fits cell.now.key value }
@@ -56,9 +55,9 @@ impl<T: Fits<K>, K> SendingEnd<T, K> {
         Receipt::of(seat)
     }
 
-    /// Puts a value into the cell that only `take_back` can take, and no `fetch`.
+    /// Puts `waiting` into `cell`, from which only `take_back` can take it, and no `fetch`.
     ///
-    /// Whoever takes the value back gets the sending end with it. Takes no memory and waits for nobody.
+    /// `take_back` returns the sending end together with the value. Neither allocates nor waits.
     pub fn put_back(self, cell: &JoinCell<T, K>, waiting: T) -> Receipt<K>
         requires cell { self ≡ cell.now.table }
         requires value { T.may_wait cell.now.key waiting }

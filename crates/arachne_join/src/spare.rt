@@ -1,4 +1,4 @@
-//! A store of unused cells, so that opening one seldom allocates.
+//! A store of unused cells, so that opening a cell seldom allocates.
 ghost use Rattle.std.specs.Prelude.{◌≡◌, IfOk};
 ghost use Rattle.arachne_join.specs.Openings.{awaited};
 
@@ -8,27 +8,27 @@ use crate::fits::Fits;
 use std::alloc::{AllocError, Global};
 use std::sync::Arc;
 
-/// The most unused cells in a store. `give` drops further ones, so that a thread doesn't collect the cells that other
-/// threads create.
+/// The greatest number of unused cells in a store. `give` drops further ones, so that a thread doesn't collect the
+/// cells that other threads create.
 const MOST: usize = 4 * CELLS;
 
-/// The unused cells of one thread. If there is none, `take` creates a new block of cells.
+/// One thread's store of unused cells. If it is empty, `take` creates a new block of cells.
 ///
-/// A block is freed once none of its cells is in use or in a store.
+/// A block is freed when none of its cells is in use or in a store any more.
 #[derive(Drop)]
 pub struct SpareCells<T: Fits<K>, K> {
     cells: Vec<UnusedCell<T, K>>,
 }
 
 impl<T: Fits<K> + Drop, K> SpareCells<T, K> {
-    /// Creates an empty set of cells. Takes no memory.
+    /// Creates an empty store. Does not allocate.
     pub fn new(alloc: Global) -> SpareCells<T, K> {
         SpareCells {
             cells: Vec::new(alloc),
         }
     }
 
-    /// Returns an unused cell. Allocates, a new block, only if the store is empty.
+    /// Returns an unused cell. If the store is empty, allocates a new block of cells.
     pub fn take(&mut self, alloc: Global) -> Result<UnusedCell<T, K>, AllocError> {
         match self.cells.pop() {
             Some(cell) => Ok(cell),
@@ -36,14 +36,14 @@ impl<T: Fits<K> + Drop, K> SpareCells<T, K> {
         }
     }
 
-    /// Adds a cell to the store, unless it has `MOST` cells or memory is refused.
+    /// Puts `cell` into the store. Drops it if the store already has `MOST` cells or memory is refused.
     pub fn give(&mut self, cell: UnusedCell<T, K>) {
         if self.cells.len() < MOST {
             let _ = self.cells.push(cell);
         }
     }
 
-    /// Opens an unused cell for a value that fits the key. Returns its receiver and its sender.
+    /// Opens an unused cell for a value that fits `key`. Returns the cell's receiver and its sender.
     pub fn open(
         &mut self,
         alloc: Global,
@@ -61,7 +61,7 @@ impl<T: Fits<K> + Drop, K> SpareCells<T, K> {
         }
     }
 
-    // Creates a block, keeps all its cells but the first, and returns the first.
+    // Creates a block, puts all its cells except the first into the store, and returns the first.
     fn add_block(&mut self, alloc: Global) -> Result<UnusedCell<T, K>, AllocError> {
         self.cells.reserve(CELLS - 1)?;
         let (block, mut all) = CellBlock::new(alloc)?;

@@ -1,4 +1,4 @@
-//! The four states of a cell, and the number in the cell's atomic word for each.
+//! The four states of a cell, and the value of the cell's atomic word for each.
 ghost use Rattle.std.specs.Prelude.{◌≡◌};
 ghost use Rattle.arachne_join.specs.States.{state_of};
 
@@ -10,14 +10,14 @@ pub(crate) const TAKEN: u64 = 2;
 
 pub(crate) const WAITING: u64 = 3;
 
-/// The state of a cell.
+/// The state of a cell. The slot is the field for its value.
 ///
 /// | State | The slot | Next state |
 /// |---|---|---|
-/// | `Empty` | with the sending end | `Full` by `leave`, `Waiting` by `put_back` |
-/// | `Full` | in the cell, with a value that fits | `Taken` by `fetch` |
-/// | `Waiting` | in the cell, with a value that may wait | `Empty` by `take_back` |
-/// | `Taken` | no value any more | none |
+/// | `Empty` | belongs to the sending end | `Full` by `leave`, `Waiting` by `put_back` |
+/// | `Full` | has a value that fits the key | `Taken` by `fetch` |
+/// | `Waiting` | has a value that may wait | `Empty` by `take_back` |
+/// | `Taken` | has no value any more | none |
 #[derive(Clone, Copy, Debug, PartialEq, Eq)]
 pub enum CellState {
     Empty,

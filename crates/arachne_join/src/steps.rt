@@ -17,7 +17,8 @@ impl<T: Fits<K>, K> TableRule<Option<T>, View<K>, K> for CellRule {
     ghost first = { λ key. view (Some key) Maker };
 }
 
-/// The operation by which the first seat takes the slot (the field for the value), and becomes the sending end.
+/// The operation by which the first seat takes the slot (the field for the value) out of the table, and so becomes the
+/// sending end.
 pub(crate) struct TakeSlot;
 
 impl<T, K> Play<Option<T>, View<K>> for TakeSlot {
@@ -62,7 +63,7 @@ impl<T, K> Play<Option<T>, View<K>> for ReturnSlot {
     ghost then = { λ _ m n w. Becomes Fetched w };
 }
 
-/// The join of another seat into the seat that fetched the value.
+/// The operation that joins another seat into the seat that fetched the value.
 pub(crate) struct JoinFetched;
 
 impl<K> Join<View<K>> for JoinFetched {
@@ -71,7 +72,7 @@ impl<K> Join<View<K>> for JoinFetched {
     ghost spent = { blank };
 }
 
-/// Of the two seats that were joined, at most one had fetched the value.
+/// The fact that of two seats that are joined, at most one has fetched the value.
 pub(crate) struct FetchedAlone;
 
 impl<T, K> Play<Option<T>, View<K>> for FetchedAlone {

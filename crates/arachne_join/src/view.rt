@@ -1,9 +1,9 @@
-//! The record that proofs keep of each seat of a cell: what it did last, and the cell's key.
+//! The record that proofs keep of each seat of a cell: its last operation, and the cell's key.
 //!
-//! These types are only for proofs: no value of them is made.
+//! These types exist only for proofs.
 use crate::state::CellState;
 
-/// The last operation of a seat at the cell, or the sending end if the seat is that.
+/// The role of a seat: the creator of the cell, the sending end, or a seat with its last operation on the cell.
 pub enum Role {
     /// The seat that creates the cell, before it takes the slot.
     Maker,
@@ -15,13 +15,13 @@ pub enum Role {
     PutBack,
     /// The seat fetched the value.
     Fetched,
-    /// The seat read the word, and found this state of the cell.
+    /// The seat read the cell's word, and found the cell in this state.
     Saw(CellState),
     /// No seat has this role.
     Never,
 }
 
-/// The last operation of a seat, and the key for which the cell was made, if the seat's record has it.
+/// The role of a seat, and the key for which the cell was made, if the seat's record has the key.
 pub struct View<K> {
     pub role: Role,
     pub key: Option<K>,

@@ -10,7 +10,7 @@ ghost use Rattle.arachne_ledger.specs.Balance.{Board, IsBalanced, word_of, openi
 
 /// Each ledger's word is the sum of what all shares have added to it, modulo 2^64.
 ///
-/// The law holds for new ledgers, and after each step that a share makes.
+/// The law holds for new ledgers, and after each atomic operation that a share makes.
 pub fn words_stay_the_sums()
     ensures at_first { (count : ℕ) (words : List ℕ) → length words ≡ word_of count → ((i : ℕ) → slice_index words i ≡ 0)
         → IsBalanced count (opening words [] (opening_share count)) }

@@ -1,4 +1,4 @@
-//! Makes ledgers, adds to a ledger, reads it, and splits and joins the shares by which threads add.
+//! Ledgers, with the calls that create them, add to one, read one, and split and join the shares by which threads add.
 ghost use Rattle.std.specs.Prelude.{◌≡◌, ℕ, ◌+◌, ◌*◌, ◌%◌, ◌^◌, ◌<◌, [], map, length, replicate, vec_len, slice_index, Some, None, IfOk, IfErr};
 ghost use Rattle.arachne_weights.specs.Weight.{whole, first_part, second_part, joined};
 ghost use Rattle.arachne_ledger.specs.Sums.{raised, plus};
@@ -12,10 +12,10 @@ use atomic_table::Table;
 use std::alloc::{AllocError, Global};
 use std::marker::Model;
 
-// The words of two cache lines, since processors fetch lines in pairs.
+// The number of words in two cache lines, which processors fetch together.
 const SPACING: usize = 16;
 
-/// Several ledgers (sums that many threads add to), which begin at 0.
+/// Several ledgers, which begin at 0: counters to which many threads add, each through a share of its own.
 #[derive(Drop)]
 pub struct Ledgers {
     table: Table<(), View, usize, Balanced, Global>,
@@ -33,7 +33,7 @@ impl Model for Ledgers {
     ghost invariant = { λ l. IsLaidOut l.table.shared.table_id l.table.shared.key l.count };
 }
 
-// Returns the index of a ledger's word.
+// Returns the index of the atomic word of `ledger`.
 fn ledger_word(ledger: usize) -> usize
     requires { word_of ledger < 2 ^ 64 }
     ensures { result ≡ word_of ledger }
@@ -41,7 +41,7 @@ fn ledger_word(ledger: usize) -> usize
     SPACING * (ledger + 1)
 }
 
-// Returns the words of `count` ledgers, each 0.
+// Returns the initial words of `count` ledgers, which are all 0.
 fn zeros(alloc: Global, count: usize) -> Result<Vec<u64>, AllocError>
     ensures { IfOk result (λ v. (vec_len v ≡ word_of count) × ((i : ℕ) → slice_index v.items i ≡ 0)) }
 {
@@ -55,8 +55,9 @@ fn zeros(alloc: Global, count: usize) -> Result<Vec<u64>, AllocError>
 }
 
 impl Ledgers {
-    /// Creates `count` ledgers (`count` may be 0). Returns the ledgers, and their first share, which has the whole
-    /// weight.
+    /// Creates `count` ledgers (`count` may be 0), and their first share, which has the whole weight.
+    ///
+    /// A split halves a share's weight and a join adds two, so a share with the whole weight is the only one.
     pub fn new(alloc: Global, count: usize) -> Result<(Ledgers, Share), AllocError>
         ensures ledgers { IfOk result (λ r. r.0.count ≡ count) }
         ensures share { IfOk result (λ r. r.1 ≡ record { table = r.0.table; weight = whole; sums = replicate count 0; last_read = None }) }
@@ -77,8 +78,8 @@ impl Ledgers {
         self.count
     }
 
-    /// Adds `amount` to a ledger's word by one atomic operation. Contracts see it in the share's sum for that ledger
-    /// too.
+    /// Adds `amount` to a ledger's word by one atomic operation, modulo 2^64. For contracts, adds it to the share's sum
+    /// for that ledger too.
     pub fn add(&self, share: &mut Share, ledger: usize, amount: u64)
         requires own { IsShareOf self.now share.old }
         requires ledger { ledger < self.now.count }
@@ -89,7 +90,7 @@ impl Ledgers {
         shared.fetch_add::<Add>(&mut share.seat, ledger_word(ledger), amount);
     }
 
-    /// Reads the ledger's word, which is the sum of all shares at the moment of the load, modulo 2^64.
+    /// Reads a ledger's word: the sum of all that was added up to the moment of the load, modulo 2^64.
     ///
     /// If the share has the whole weight (no other share is in use), the result is this share's own sum, modulo 2^64.
     pub fn read(&self, share: &mut Share, ledger: usize) -> u64
@@ -102,9 +103,9 @@ impl Ledgers {
         shared.load::<Read>(&mut share.seat, ledger_word(ledger))
     }
 
-    /// Splits a share in two. The first part gets half of the weight of `share`, rounded up, and its sums.
+    /// Splits a share into two. The first gets half of the weight of `share`, rounded up, and all of its sums.
     ///
-    /// If the weight is 1 or 0, neither share gets any weight.
+    /// If the weight is 1 or 0, both shares get weight 0.
     pub fn split(&self, share: Share) -> (Share, Share)
         requires { IsShareOf self.now share }
         ensures first { result.0 ≡ record share { weight = first_part share.weight } }
@@ -130,7 +131,7 @@ impl Ledgers {
         )
     }
 
-    /// Joins two shares: adds their weights, up to the whole, and their sums for each ledger.
+    /// Joins two shares into one: adds their weights, up to the whole, and their sums for each ledger.
     pub fn join_shares(&self, share: Share, other: Share) -> Share
         requires share { IsShareOf self.now share }
         requires other { IsShareOf self.now other }
@@ -154,7 +155,7 @@ impl Ledgers {
     /// Closes the ledgers, and returns the sum of each, modulo 2^64. The share must have the whole weight: no other
     /// share is in use.
     ///
-    /// If memory is refused, the ledgers and the share are returned.
+    /// If memory is refused, returns the ledgers and the share as an error.
     pub fn close(self, alloc: Global, share: Share) -> Result<Vec<u64>, (Ledgers, Share)>
         requires own { IsShareOf self share }
         requires whole { IsWhole share }

@@ -1,9 +1,9 @@
-//! Ledgers: numbers that many threads add to at once, without a lock.
+//! Ledgers: counters to which many threads add at the same time, without a lock.
 //!
-//! Each ledger is one word of a table. A thread adds to a ledger through a *share*. In a share contracts see the sum of
-//! all that was added through it. So the word is the sum of all shares, modulo 2^64. Shares are split for other threads
-//! and joined again. Each share has a part of one *weight*; whoever has the whole weight has the only share, closes the
-//! ledgers and gets their sums.
+//! Each ledger is one atomic word of a table. A thread adds to a ledger through a *share*, for which contracts keep the
+//! sum of all that was added through it. The word is the sum of these sums, modulo 2^64. Shares are split for other
+//! threads and joined again. Each share has a part of one *weight*. A share that has the whole weight is the only one;
+//! with it, a thread closes the ledgers and gets their sums.
 #![tactic(auto)]
 
 mod laws;

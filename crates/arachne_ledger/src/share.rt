@@ -7,7 +7,7 @@ use atomic_table::Seat;
 use std::collections::LinkedList;
 use std::marker::Model;
 
-/// The number that a read has found in a ledger's word.
+/// The value that a read found in a ledger's word.
 pub struct Reading {
     pub ledger: usize,
     pub number: u64,
@@ -19,12 +19,12 @@ pub struct Known {
     pub last_read: Option<Reading>,
 }
 
-/// A share as the invariant of the ledgers' table sees it. Only contracts use this type: no value of it is made.
+/// A share as the invariant of the ledgers' table knows it. The type exists only for contracts.
 pub type View = Token<Known>;
 
-/// A part of the right to all ledgers of one table. Contracts see in it the sums of what was added through it.
+/// One thread's right to add to all ledgers of one table. Contracts keep with it the sums of what was added through it.
 ///
-/// A share must be used and joined with the ledgers that it came from. If a share is dropped, its weight is lost, and
+/// A share must be used and joined with the ledgers that it came from. If a share is dropped, its weight is lost: then
 /// no share can have the whole weight any more.
 #[derive(Drop)]
 pub struct Share {
@@ -44,7 +44,7 @@ impl Model for Share {
 }
 
 impl Share {
-    /// Returns whether all other shares were joined into this one.
+    /// Returns whether this share has the whole weight: all other shares were joined into it.
     pub fn is_whole(&self) -> bool
         ensures { IsTrue result ↔ IsWhole self.now }
     {

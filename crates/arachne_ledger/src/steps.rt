@@ -2,8 +2,8 @@
 use crate::share::View;
 use atomic_table::{Join, Play, Split, TableRule};
 
-/// The invariant: each ledger's word is the sum of what all shares have added to it. The table's key, which never
-/// changes, is the number of ledgers.
+/// The invariant: each ledger's word is the sum of what all shares have added to it. The table's constant key is the
+/// number of ledgers.
 pub struct Balanced;
 
 impl TableRule<(), View, usize> for Balanced {

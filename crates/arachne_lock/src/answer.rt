@@ -2,27 +2,27 @@
 use std::alloc::AllocError;
 use thiserror::Error;
 
-/// The result of asking for a lock, if the call succeeds.
+/// The result of asking for a lock: it was granted, or the task waits.
 ///
-/// The events of each lock are numbered from 0, modulo 2^64.
+/// The events of each lock (asks, grants, frees and leaves) are numbered from 0, modulo 2^64.
 #[derive(Clone, Copy, Debug, PartialEq, Eq)]
 pub enum Admitted {
-    /// Nobody owned the lock. The task holds the lock now.
+    /// Nobody held the lock, so the task holds it now.
     Granted {
-        /// The number of the grant. Later grants of the same lock have greater numbers.
+        /// The event number of the grant. Later grants of the same lock have greater numbers.
         at: u64,
     },
-    /// The task waits at the end of the queue.
+    /// Another task holds the lock, so the task waits at the end of the queue.
     Queued {
-        /// The number of the event by which the task asked for the lock.
+        /// The event number of the task's ask.
         at: u64,
     },
 }
 
-/// The result of a call on a lock that tries once: its answer, or that another kernel thread was in a call on the lock.
+/// The result of a call that tries once: the call was made, or another kernel thread was in a call on the same lock.
 #[derive(Clone, Copy, Debug, PartialEq, Eq)]
 pub enum Attempt<A> {
-    /// The call has run. This is its result.
+    /// The call was made on the lock's state, with this result.
     Answered(A),
     /// Another kernel thread was in a call on the lock. Nothing has changed, and the call may be repeated.
     Contended,
@@ -48,31 +48,32 @@ impl From<AllocError> for AskRefusal {
     }
 }
 
-/// The result of freeing a lock: the task that owns it next, if one waited.
+/// The result of freeing a lock: the task that holds the lock now, if one waited.
 #[derive(Clone, Copy, Debug, PartialEq, Eq)]
 pub struct Released {
-    /// The number of the task that holds the lock now and must be woken, if any task waited. It had waited longest.
+    /// The number of the task that holds the lock now and must be woken: of the waiting tasks, the one that had waited
+    /// longest. `None` if none waited.
     pub next: Option<u64>,
-    /// The number of this free. The grant to `next` has the next number.
+    /// The event number of this free. The grant to `next` has the number after it.
     pub at: u64,
 }
 
-/// The error of a free by a task that doesn't own the lock.
+/// The error of a free by a task that doesn't hold the lock.
 #[derive(Clone, Copy, Debug, PartialEq, Eq, Error)]
 #[error("it does not hold the lock")]
 pub struct NotOwner;
 
-/// The result of `withdraw`: a task leaves the queue of a lock.
+/// The result of `withdraw`, by which a task leaves the queue of a lock.
 #[derive(Clone, Copy, Debug, PartialEq, Eq)]
 pub enum Withdrawn {
-    /// The task waited, and waits no longer. The lock is never granted to the task by that ask.
+    /// The task waited, and waits no longer. The lock will not be granted to the task unless it asks again.
     Left {
-        /// The number of the event by which the task leaves the queue.
+        /// The event number of the task's leave.
         at: u64,
     },
-    /// The task holds the lock, and must still free it.
+    /// The task was granted the lock, and must still free it.
     Holds {
-        /// The number of the grant.
+        /// The event number of the grant.
         at: u64,
     },
     /// The task neither holds the lock nor waits for it.

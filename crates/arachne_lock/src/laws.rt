@@ -6,22 +6,23 @@ ghost use Rattle.arachne_lock.specs.History.{IsLawful};
 ghost use Rattle.arachne_lock.specs.Promises.{HasOneHolderAtATime, GrantsNoneThatLeft, IsHeldWell};
 ghost use Rattle.arachne_lock.specs.Rule.{Board, IsKept};
 
-/// In each lawful history of a lock, one task at a time holds the lock.
+/// In each history that the rules of a lock allow, one task at a time holds the lock.
 ///
-/// Between any two grants the task of the first grant frees the lock. Each free follows a grant to the same task, with
+/// Between any two grants, the task of the first grant frees the lock. Each free follows a grant to the same task, with
 /// neither a grant nor a free between them.
 pub fn one_holder_at_a_time()
     ensures { (events : List QueueEvent) → IsLawful events → HasOneHolderAtATime events }
 {}
 
-/// In each lawful history, a task that has left the queue is granted the lock only after it has asked again.
+/// In each history that the rules of a lock allow, a task that has left the queue is granted the lock only if it has
+/// asked again since.
 pub fn one_that_left_is_not_granted()
     ensures { (events : List QueueEvent) → IsLawful events → GrantsNoneThatLeft events }
 {}
 
-/// The law that, between any two steps, each lock has had one holder at a time.
+/// Between any two atomic operations, each lock has had one holder at a time so far.
 ///
-/// The lock was also granted to no task that had left the queue. Both statements are about the lock's one history, to
+/// Nor was the lock granted to a task that had left the queue. Both statements are about the lock's one history, to
 /// which the calls of all seats add.
 pub fn locks_have_one_holder()
     ensures { (locks : ℕ) (board : Board) → (rule : IsKept locks board) → (lock : ℕ) → IsHeldWell (rule.histories lock) }
@@ -29,7 +30,7 @@ pub fn locks_have_one_holder()
 
 /// No atomic operation on a lock's words creates a seat.
 ///
-/// Each seat but the first was split off another, whose log counts its splits.
+/// Each seat except the first was split off another, whose log counts its splits.
 pub fn seats_are_split_off()
     ensures enters { (locks word : ℕ) → ¬ Enters (IsKept locks) locks word (λ n view. Unit {0}) }
     ensures arrives { (locks word : ℕ) (f : ℕ → ℕ) → ¬ Arrives (IsKept locks) locks word f (λ n seat. Unit {0}) }

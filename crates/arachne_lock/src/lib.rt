@@ -1,10 +1,10 @@
-//! Locks for hosts: a set of locks, with the owner and the queue of each.
+//! Locks for hosts: a set of locks, with the holder and the queue of each.
 //!
-//! A host runs tasks of its own, such as the futures of a server. A task that must wait for a lock is put to rest by
-//! the host. [`Locks`] are a set of such locks that kernel threads share, each kernel thread through one
-//! [`LockSetSeat`]. An atomic word of each lock, the *guard*, says if a seat has the lock's state; a call that finds it
-//! taken returns at once, and the caller may try again. These locks store no history: to hold a free lock takes no
-//! memory, and leaves none behind. No call waits, and a task that waits for a lock may leave.
+//! A host is a program that runs tasks of its own, such as the futures of a server; if a task must wait for a lock, the
+//! host blocks the task. [`Locks`] are a set of such locks that kernel threads share, each kernel thread through one
+//! [`LockSetSeat`]. An atomic word of each lock, the *guard*, says if a seat has the lock's state at present; a call
+//! that finds the guard set returns at once, and the caller may try again. These locks store no history: holding a free
+//! lock takes no memory, and leaves none behind. No call waits, and a task that waits for a lock may leave its queue.
 #![tactic(auto)]
 
 mod answer;

@@ -1,4 +1,4 @@
-//! A lock's owner, the tasks that wait for it, and its number of events.
+//! The state of a lock: the task that holds it, the tasks that wait for it, and its number of events.
 ghost use Rattle.std.specs.Prelude.{◌≡◌, ◌↔◌, ◌+◌, ◌%◌, ◌^◌, IsTrue};
 
 use crate::answer::{Admitted, AskRefusal, NotOwner, Released, Withdrawn};
@@ -6,7 +6,7 @@ use crate::waiter_queue::WaiterQueue;
 use std::alloc::Global;
 use std::marker::Model;
 
-/// The owner of a lock, and the number of its grant.
+/// The task that holds a lock (`who`), and the event number of its grant (`at`).
 #[derive(Clone, Copy, Debug, PartialEq, Eq)]
 pub struct Holder {
     pub who: u64,
@@ -15,7 +15,7 @@ pub struct Holder {
 
 /// The state of one lock.
 ///
-/// Each call takes constant time, except that memory may grow, and that `withdraw` walks the queue.
+/// Each call takes constant time, except that `ask` may allocate, and that `withdraw` searches the queue.
 #[derive(Debug, Drop)]
 pub(crate) struct LockEntry {
     owner: Option<Holder>,
@@ -34,7 +34,7 @@ impl Model for LockEntry {
 impl LockEntry {
     ghost use Rattle.arachne_lock.specs.State.{unused, holder_of, later, IsAsked, IsFreed, IsWithdrawn, IsChecked};
 
-    /// Creates a lock that nobody has asked for yet. Takes no memory.
+    /// Creates a lock for which nobody has asked yet. Does not allocate.
     pub(crate) fn new(alloc: Global) -> Self
         ensures { result ≡ unused }
     {
@@ -45,7 +45,7 @@ impl LockEntry {
         }
     }
 
-    /// Asks for the lock. Takes memory only if the task must wait.
+    /// Asks for the lock. Allocates only if `who` must wait.
     pub(crate) fn ask(&mut self, who: u64) -> Result<Admitted, AskRefusal>
         ensures { IsAsked self.old self.new who result }
     {
@@ -89,7 +89,7 @@ impl LockEntry {
         Ok(Released { next, at })
     }
 
-    /// Removes a waiting task from the queue.
+    /// Removes `who` from the queue, if it waits.
     pub(crate) fn withdraw(&mut self, who: u64) -> Withdrawn
         ensures { IsWithdrawn self.old self.new who result }
     {
@@ -105,7 +105,7 @@ impl LockEntry {
         Withdrawn::Left { at }
     }
 
-    /// Returns the number of the grant by which the task holds the lock, or `None` if the task doesn't hold the lock.
+    /// Returns the event number of the grant by which `who` holds the lock, or `None` if it doesn't hold the lock.
     pub(crate) fn check(&self, who: u64) -> Option<u64>
         ensures { IsChecked self.now self.now who result }
     {
@@ -121,7 +121,7 @@ impl LockEntry {
         self.owner.is_some_and(|holder| holder.who == who)
     }
 
-    /// Returns the number of the event that comes `more` events after the next one.
+    /// Returns the number that the lock's next event will have, plus `more`, modulo 2^64.
     fn later(&self, more: u64) -> u64
         ensures { result ≡ later self.now.count more }
     {

@@ -4,8 +4,8 @@ use crate::view::KnownLocks;
 use atomic_table::Seat;
 use std::marker::Model;
 
-/// One kernel thread's right to use a set of locks. Contracts see in it a log of the calls that were made through it. A
-/// seat has no bytes.
+/// One kernel thread's right to call a set of locks. Contracts keep with it a log of the calls that were made through
+/// it. A seat has no bytes.
 ///
 /// A seat must be used, split and joined with the locks that it came from.
 #[derive(Drop)]
@@ -13,7 +13,7 @@ pub struct LockSetSeat {
     pub(crate) seat: Seat<GuardedLock, KnownLocks>,
 }
 
-// Contracts see the table that the seat came from, and the seat's log.
+// Contracts describe a seat by its table and its log.
 impl Model for LockSetSeat {
     ghost use Rattle.std.specs.Prelude.{◌≡◌};
     ghost use Rattle.arachne_lock.specs.Views.{SeatView};

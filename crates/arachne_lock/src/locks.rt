@@ -1,5 +1,5 @@
-//! A set of locks that kernel threads share. A call that finds another kernel thread in a call on the same lock returns
-//! at once.
+//! A set of locks that kernel threads share. If another kernel thread is in a call on the same lock, a call returns at
+//! once.
 ghost use Rattle.std.specs.Prelude.{◌≡◌, ◌<◌, ℕ, List, MatchBool, IsFalse, IfOk, Option, [], ◌∷◌, ◌^◌, vec_len, slice_index};
 ghost use Rattle.arachne_lock.specs.declared.event.QueueEvent.{QueueEvent};
 ghost use Rattle.arachne_lock.specs.State.{IsAsked, IsFreed, IsWithdrawn, IsChecked};
@@ -19,29 +19,29 @@ use atomic_table::{Seat, Table};
 use std::alloc::{AllocError, Global};
 use std::marker::Model;
 
-/// The number of words of two cache lines, which processors fetch together.
+/// The number of words in two cache lines, which processors fetch together.
 const SPACING: usize = 16;
 
-/// The value of a lock's guard word (its atomic word) while no seat holds the lock's state.
+/// The value of a lock's guard word (its atomic word) while no seat has the lock's state.
 const HOME: u64 = 0;
 
 /// The value of a lock's guard word while a seat has the lock's state.
 const TAKEN: u64 = 1;
 
-/// A set of locks. Each lock has a guard word: an atomic word that is 1 while a seat holds the lock's state, and
+/// A set of locks. Each lock has a guard word: an atomic word that is 1 while a seat has the lock's state, and
 /// otherwise 0.
 ///
-/// Each kernel thread uses all of the locks through one seat of its own. A task is identified by a number that the host
-/// chooses, such as its name or a number for each future. `ask`, `free`, `withdraw` and `check` try once to set the
-/// lock's guard word. If the guard word is set already, a call returns `Contended`, and nothing has changed. If not,
-/// the call does its work on the lock's state, and returns the result.
+/// Each kernel thread calls all of the locks through one seat of its own. A task is identified by a number that the
+/// host chooses, such as its name or a number for each future. `ask`, `free`, `withdraw` and `check` try once to set
+/// the lock's guard word. If it is already set, a call returns `Contended`, and changes nothing. If not, the call does
+/// its work on the lock's state, clears the guard word, and returns the result.
 #[derive(Drop)]
 pub struct Locks {
     table: Table<GuardedLock, KnownLocks, usize, LockRule, Global>,
     count: usize,
 }
 
-// Contracts see the table, and the number of locks.
+// Contracts describe a set of locks by its table, and the number of locks.
 impl Model for Locks {
     ghost use Rattle.arachne_lock.specs.Views.{LocksView, IsLaidOut};
 
@@ -52,7 +52,7 @@ impl Model for Locks {
     ghost invariant = { λ l. IsLaidOut l.table.shared.table_id l.table.shared.key l.count };
 }
 
-/// Returns the index of a lock's guard word.
+/// Returns the index of the guard word of `lock`.
 fn guard_word(lock: usize) -> usize
     requires { word_of lock < 2 ^ 64 }
     ensures { result ≡ word_of lock }
@@ -60,7 +60,7 @@ fn guard_word(lock: usize) -> usize
     SPACING * (lock + 1)
 }
 
-/// Returns the words of `count` locks, each 0.
+/// Returns the initial words of `count` locks, which are all 0.
 fn first_words(alloc: Global, count: usize) -> Result<Vec<u64>, AllocError>
     ensures { IfOk result (λ v. (vec_len v ≡ word_of count) × ((i : ℕ) → slice_index v.items i ≡ 0)) }
 {
@@ -73,7 +73,7 @@ fn first_words(alloc: Global, count: usize) -> Result<Vec<u64>, AllocError>
     Ok(words)
 }
 
-/// Returns the states of `count` locks that nobody has asked for yet.
+/// Returns the initial states of `count` locks, for which nobody has asked yet.
 fn first_slots(alloc: Global, count: usize) -> Result<Vec<GuardedLock>, AllocError>
     ensures { IfOk result (λ slots. AreFirstSlots count slots.items) }
 {
@@ -85,7 +85,7 @@ fn first_slots(alloc: Global, count: usize) -> Result<Vec<GuardedLock>, AllocErr
 }
 
 impl Locks {
-    /// Creates `count` locks, which may be 0, and the first seat. No task has asked for any of the locks yet.
+    /// Creates `count` locks (`count` may be 0), for which nobody has asked yet, and their first seat.
     pub fn new(alloc: Global, count: usize) -> Result<(Locks, LockSetSeat), AllocError>
         ensures count { IfOk result (λ made. made.0.count ≡ count) }
         ensures seat { IfOk result (λ made. made.1 ≡ first_seat made.0) }
@@ -105,9 +105,9 @@ impl Locks {
         self.count
     }
 
-    /// Asks for a lock. The task holds the lock at once if nobody owns it, and waits otherwise.
+    /// Asks for a lock for the task `who`. If nobody holds the lock, the task gets it at once, and otherwise waits.
     ///
-    /// Returns `AlreadyIn` if the task owns the lock or waits for it. Memory is taken only if the task must wait; if
+    /// Returns `AlreadyIn` if the task already holds the lock or waits for it. Allocates only if the task must wait; if
     /// memory is refused, nothing changes.
     pub fn ask(
         &self,
@@ -128,9 +128,9 @@ impl Locks {
         Attempt::Answered(answer)
     }
 
-    /// Frees a lock, and grants it to the task that has waited longest, if any waits.
+    /// Frees a lock that the task `who` holds, and grants it to the task that has waited longest, if any waits.
     ///
-    /// Returns `NotOwner` if the task doesn't own the lock.
+    /// Returns `NotOwner` if `who` doesn't hold the lock.
     pub fn free(
         &self,
         seat: &mut LockSetSeat,
@@ -150,9 +150,9 @@ impl Locks {
         Attempt::Answered(answer)
     }
 
-    /// Leaves the queue of a lock, for example if a future that waits is dropped.
+    /// Removes the task `who` from the queue of a lock, for example because its future is dropped.
     ///
-    /// Returns `Holds` if the task was granted the lock meanwhile: the task must then free the lock.
+    /// Returns `Holds` if the task was granted the lock meanwhile. Then the caller must free the lock.
     pub fn withdraw(&self, seat: &mut LockSetSeat, lock: usize, who: u64) -> Attempt<Withdrawn>
         requires { IsLockAt self.now seat.old.table lock }
         ensures own { IsSeatOf self.now seat.new }
@@ -167,7 +167,8 @@ impl Locks {
         Attempt::Answered(answer)
     }
 
-    /// Returns the number of the grant by which the task holds a lock, or `None` if the task doesn't hold the lock.
+    /// Returns the event number of the grant by which the task `who` holds a lock, or `None` if it doesn't hold the
+    /// lock.
     pub fn check(&self, seat: &mut LockSetSeat, lock: usize, who: u64) -> Attempt<Option<u64>>
         requires { IsLockAt self.now seat.old.table lock }
         ensures own { IsSeatOf self.now seat.new }
@@ -184,7 +185,7 @@ impl Locks {
 
     /// Splits off a seat for another kernel thread.
     ///
-    /// The new seat's log begins with the histories that this seat has read, and with no tries or events.
+    /// The new seat's log begins with the histories that `seat` has read, and without tries or events.
     pub fn split(&self, seat: &mut LockSetSeat) -> LockSetSeat
         requires { IsSeatOf self.now seat.old }
         ensures first { seat.new ≡ first_half seat.old }
@@ -204,7 +205,8 @@ impl Locks {
         self.table.shared.join_seat::<Divide>(&mut seat.seat, spent);
     }
 
-    /// Tries once to set a lock's guard word, and with it to get the lock's state. Returns whether it has.
+    /// Tries once to set a lock's guard word, and with it to take the lock's state out of the table. Returns whether it
+    /// did.
     fn take(&self, seat: &mut Seat<GuardedLock, KnownLocks>, lock: usize) -> bool
         requires at { IsLockAt self.now seat.old.table_id lock }
         requires idle { seat.old.me ≡ idle seat.old.me.0.log }
@@ -218,7 +220,7 @@ impl Locks {
         shared.compare_exchange::<TakeGuard>(seat, guard_word(lock), HOME, TAKEN) == HOME
     }
 
-    /// Gives a lock's state back, and clears the lock's guard word.
+    /// Puts a lock's state back into the table, and clears the lock's guard word.
     fn give_back(&self, seat: &mut Seat<GuardedLock, KnownLocks>, lock: usize)
         requires at { IsLockAt self.now seat.old.table_id lock }
         requires guarded { (history : List QueueEvent) × (guarded : Guarded) × IsReturnable lock history seat.old.me guarded }

@@ -1,10 +1,9 @@
-//! The invariant of the locks' table, and the kinds of atomic operation on it. These types are only for proofs.
+//! The invariant of the locks' table, and the kinds of atomic operation on it. These types exist only for proofs.
 use crate::guarded_lock::GuardedLock;
 use crate::view::KnownLocks;
 use atomic_table::{Join, Play, Split, TableRule};
 
-/// The invariant of the locks' table: each lock has one history. The table's key, which never changes, is the number of
-/// locks.
+/// The invariant of the locks' table: each lock has one history. The table's constant key is the number of locks.
 pub struct LockRule;
 
 impl TableRule<GuardedLock, KnownLocks, usize> for LockRule {
@@ -15,7 +14,7 @@ impl TableRule<GuardedLock, KnownLocks, usize> for LockRule {
     ghost first = { first_view };
 }
 
-/// The compare-exchange that tries once to take a lock's guard.
+/// The compare-exchange that tries once to set a lock's guard word.
 pub(crate) struct TakeGuard;
 
 impl Play<GuardedLock, KnownLocks> for TakeGuard {
@@ -24,7 +23,7 @@ impl Play<GuardedLock, KnownLocks> for TakeGuard {
     ghost then = { Takes };
 }
 
-/// The store that gives a lock's guard back.
+/// The store that clears a lock's guard word.
 pub(crate) struct ReturnGuard;
 
 impl Play<GuardedLock, KnownLocks> for ReturnGuard {

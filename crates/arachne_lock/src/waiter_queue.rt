@@ -6,16 +6,16 @@ use std::alloc::{AllocError, Global};
 use std::collections::{HashSet, VecDeque};
 use std::marker::Model;
 
-/// A queue that has no task twice.
+/// A queue of tasks in which no task is twice.
 ///
-/// A set of the queue's tasks is kept beside the queue, so the cost of `contains` doesn't grow with the queue.
+/// A set of the queue's tasks is kept beside the queue, so the cost of `contains` doesn't grow with the queue's length.
 #[derive(Debug, Drop)]
 pub(crate) struct WaiterQueue {
     order: VecDeque<u64>,
     members: HashSet<u64>,
 }
 
-// Contracts see the tasks that wait, the first one to have asked first.
+// Contracts describe a queue by its tasks, the longest waiting first.
 impl Model for WaiterQueue {
     ghost use Rattle.std.specs.Prelude.{List, ℕ};
     ghost use Rattle.arachne_lock.specs.WaiterQueue.{IsIndexed};
@@ -28,7 +28,7 @@ impl Model for WaiterQueue {
 }
 
 impl WaiterQueue {
-    /// Creates an empty queue. Takes no memory.
+    /// Creates an empty queue. Does not allocate.
     pub(crate) fn new(alloc: Global) -> Self
         ensures { result ≡ [] }
     {
@@ -44,7 +44,7 @@ impl WaiterQueue {
         self.members.contains(&who)
     }
 
-    /// Adds a task at the end.
+    /// Adds a task at the end of the queue.
     pub(crate) fn push(&mut self, who: u64) -> Result<(), AllocError>
         requires { ¬ Contains self.old who }
         ensures ok { OnOk result (self.new ≡ self.old ++ who ∷ []) }
@@ -56,7 +56,7 @@ impl WaiterQueue {
         Ok(())
     }
 
-    /// Removes the task at the front, and returns it.
+    /// Removes the task at the front of the queue, and returns it, or `None` if the queue is empty.
     pub(crate) fn pop(&mut self) -> Option<u64>
         ensures front { result ≡ slice_get self.old 0 }
         ensures rest { self.new ≡ drop 1 self.old }
@@ -66,7 +66,7 @@ impl WaiterQueue {
         Some(front)
     }
 
-    /// Removes a task, wherever it is in the queue.
+    /// Removes a task from the queue, at whatever position it is.
     pub(crate) fn remove(&mut self, who: u64)
         ensures { self.new ≡ without who self.old }
     {

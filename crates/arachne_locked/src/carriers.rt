@@ -3,7 +3,7 @@ ghost use Rattle.std.specs.Prelude.{◌≡◌, ◌≢◌, ◌+◌, ◌<◌};
 
 use std::marker::Model;
 
-/// The counter that gives each seat its number. Contracts see the last number that was given.
+/// The counter from which each seat gets its number. Contracts refer to the last number that was given.
 #[derive(Debug, Drop)]
 pub struct Carriers {
     last: u32,
@@ -18,17 +18,17 @@ impl Model for Carriers {
 }
 
 impl Carriers {
-    /// Creates the counter, at 0: the number of the first seat.
+    /// Creates the counter, which starts at 0, the number of the first seat.
     pub fn new() -> Self
         ensures { result ≡ 0 }
     {
         Carriers { last: 0 }
     }
 
-    /// Returns a number for a seat that is split off the seat with the number `other`.
+    /// Returns a number for a new seat, which is split off the seat with the number `other`.
     ///
-    /// The result is greater than all numbers before, until the numbers of 32 bits are used up. After that the numbers
-    /// begin at 0 again, and still two seats that are split from each other have different numbers.
+    /// The result is greater than all numbers before, until all numbers of 32 bits have been used. After that, the
+    /// numbers begin at 0 again; even then, two seats that are split from each other have different numbers.
     pub fn next(&mut self, other: u32) -> u32
         ensures last { self.new ≡ result }
         ensures apart { result ≢ other }

@@ -18,7 +18,8 @@ use std::marker::Model;
 
 /// The state of a table (a `World`), and for each context the value of its thread, if no seat holds that thread.
 ///
-/// The value of a thread is *at home* while it is stored here. Whoever takes the thread gets the value with it.
+/// A seat is one kernel thread's right to call the table, and `carrier` the number of a seat. The value of a thread is
+/// *at home* while it is stored here. A take of the thread removes the value.
 #[derive(Drop)]
 pub struct Homes<T: Tagged> {
     world: World,
@@ -37,7 +38,7 @@ impl<T: Tagged> Model for Homes<T> {
 }
 
 impl<T: Tagged + Drop> Homes<T> {
-    /// Creates a table of `cores` cores with `slots` places each, and no thread.
+    /// Creates a table of `cores` cores with `slots` thread slots each, and no thread.
     pub fn new(
         alloc: Global,
         cores: u8,
@@ -75,14 +76,14 @@ impl<T: Tagged + Drop> Homes<T> {
         self.values.len()
     }
 
-    /// Returns whether the table has the context.
+    /// Returns whether the table has a context of this number.
     pub fn has(&self, context: u32) -> bool
         ensures { IsTrue result ↔ IsContext (world_of self.now.table) context }
     {
         (context as usize) < self.values.len()
     }
 
-    /// Returns the generation of a context.
+    /// Returns the generation of a context, which rises with each thread.
     pub fn generation(&self, context: u32) -> u64
         requires { IsContext (world_of self.now.table) context }
         ensures { result ≡ (world_of self.now.table).generation context }
@@ -90,8 +91,7 @@ impl<T: Tagged + Drop> Homes<T> {
         self.world.mark(context).generation()
     }
 
-    /// Reserves memory for `posts` more posts (threads put into the table) and `retires` more retires (ends of
-    /// threads).
+    /// Reserves memory to record `posts` more threads that come into the table, and `retires` more ends of threads.
     pub fn reserve(&mut self, posts: usize, retires: usize) -> Result<(), AllocError>
         ensures values { self.new.values ≡ self.old.values }
         ensures kept { self.new.table ≡ record self.old.table { posts = self.new.table.posts; retires = self.new.table.retires } }
@@ -111,7 +111,7 @@ impl<T: Tagged + Drop> Homes<T> {
         self.world.apply(event)
     }
 
-    /// Applies an event that is allowed and needs no memory.
+    /// Applies an event that moves no thread's value, is allowed, and needs no memory.
     pub fn make(&mut self, event: Event)
         requires values { LeavesValues event }
         requires memory { WantsNoRoom event }
@@ -125,9 +125,9 @@ impl<T: Tagged + Drop> Homes<T> {
         }
     }
 
-    /// Posts a thread: puts it, ready to run, into a context that the seat `carrier` has claimed.
+    /// Puts a thread with this value, ready to run, into a context that the seat `carrier` has claimed.
     ///
-    /// Returns the value with the error if the thread is not posted.
+    /// If the event is not allowed or memory is refused, returns the value with the error.
     pub fn post(&mut self, carrier: u32, context: u32, value: T) -> Result<(), (NotApplied, T)>
         ensures made { OnOk result (Answers (event.Post carrier context (T.tag_of value)) self.old.table self.new.table (Ok tt)) }
         ensures home { OnOk result (self.new.values ≡ slice_set self.old.values context (Some value)) }
@@ -150,7 +150,7 @@ impl<T: Tagged + Drop> Homes<T> {
         }
     }
 
-    /// Takes the thread in a context, if it is ready.
+    /// Takes the thread in a context, if it is ready, and returns its value. The seat `carrier` then holds the thread.
     pub fn take(&mut self, carrier: u32, context: u32) -> Option<T>
         ensures made { IfSome result (λ value. Answers (event.Take carrier context) self.old.table self.new.table (Ok tt)) }
         ensures value { IfSome result (λ value. value_at self.old.values context ≡ Some value) }
@@ -167,7 +167,7 @@ impl<T: Tagged + Drop> Homes<T> {
         }
     }
 
-    /// Returns whether the seat `carrier` holds the thread of this id and tag.
+    /// Returns whether the seat `carrier` holds the thread with this id and tag.
     pub fn holds(&self, carrier: u32, id: ThreadId, tag: u64) -> bool
         ensures { IsTrue result ↔ HoldsThread (world_of self.now.table) carrier id tag }
     {
@@ -184,7 +184,7 @@ impl<T: Tagged + Drop> Homes<T> {
         }
     }
 
-    /// Puts back a thread that the seat `carrier` holds.
+    /// Puts back a thread that the seat `carrier` holds, as ready or as blocked, with its value.
     pub fn put_back(&mut self, carrier: u32, id: ThreadId, value: T, rest: Rest)
         requires { HoldsThread (world_of self.old.table) carrier id (T.tag_of value) }
         ensures made { Answers (event.Rest carrier id.context rest) self.old.table self.new.table (Ok tt) }
@@ -204,9 +204,9 @@ impl<T: Tagged + Drop> Homes<T> {
 }
 
 impl<T: Tagged + Drop> Homes<T> {
-    /// Returns the threads that no seat holds, in the order of the contexts.
+    /// Returns the threads that no seat holds, in the order of their contexts.
     ///
-    /// If memory is refused, the table is returned unchanged.
+    /// If memory is refused, returns the unchanged table as an error.
     pub fn close(self, alloc: Global) -> Result<Vec<(ThreadId, T)>, Self>
         ensures rest { IfOk result (λ rest. rest.items ≡ at_rest_below (world_of self.table) self.values ((world_of self.table).cores * (world_of self.table).slots)) }
         ensures handed_back { IfErr result (λ back. back ≡ self) }
@@ -234,7 +234,7 @@ impl<T: Tagged + Drop> Homes<T> {
     }
 }
 
-/// Returns `count` entries with no value.
+/// Returns a list of `count` entries that are all `None`.
 fn no_values<T: Drop>(alloc: Global, count: usize) -> Result<Vec<Option<T>>, AllocError>
     ensures { IfOk result (λ values. values.items ≡ replicate count None) }
 {

@@ -27,7 +27,7 @@ pub struct LockedContexts<T: Tagged> {
     slots: Slots,
 }
 
-/// Returns the occupancy word of a core, or the word of a full core if the table has no such core.
+/// Returns the core's occupancy word, or the word of a full core if `occ` is `None` because the table has no such core.
 fn word_of(occ: Option<OccWord>) -> u64
     ensures { IsOccupancyWord result }
 {
@@ -38,7 +38,7 @@ fn word_of(occ: Option<OccWord>) -> u64
 }
 
 impl<T: Tagged + Drop> LockedContexts<T> {
-    /// Returns the number of places of each core.
+    /// Returns the number of thread slots of each core.
     pub fn slots(&self) -> u8
         ensures value { result ≡ self.now.slots }
         ensures few { result ≤ SLOTS }
@@ -47,10 +47,11 @@ impl<T: Tagged + Drop> LockedContexts<T> {
     }
 }
 
-/// Returns the occupancy word if it shows a full core of `slots` places, and otherwise the word of a full core.
+/// Returns `word` if it is the occupancy word of a full core of `slots` thread slots, and otherwise the word of a full
+/// core.
 ///
-/// The function must test the word, since proofs outside the lock don't know how many places the state behind the lock
-/// has.
+/// The function must check this at run time, since proofs outside the lock don't know how many slots the cores behind
+/// the lock have.
 fn full_word(word: u64, slots: Slots) -> u64
     ensures { ShowsFull slots result }
 {
@@ -62,8 +63,8 @@ fn full_word(word: u64, slots: Slots) -> u64
     full_core(slots)
 }
 
-/// Returns the occupancy word if it shows a core to which no thread may be moved, and otherwise the word of a full
-/// core.
+/// Returns `word` if it is the occupancy word of a core to which no thread may be moved, and otherwise the word of a
+/// full core.
 fn no_room_word(word: u64, slots: Slots) -> u64
     ensures { ShowsNoRoom slots result }
 {
@@ -75,14 +76,14 @@ fn no_room_word(word: u64, slots: Slots) -> u64
     full_core(slots)
 }
 
-/// Returns whether the core is exclusive, or none of its places is free.
+/// Returns whether the core belongs to one thread only, or none of its thread slots is free.
 fn has_no_place(occ: OccWord, slots: Slots) -> bool
     ensures { IsTrue result → HasNoPlace slots occ }
 {
     occ.is_exclusive() || occ.lowest_free_below(slots.count()).is_none()
 }
 
-/// Returns the occupancy word of a core whose places are all occupied.
+/// Returns the occupancy word of a core whose thread slots are all occupied.
 fn full_core(slots: Slots) -> u64
     ensures { ShowsFull slots result }
 {
@@ -168,7 +169,7 @@ impl<T: Tagged + Drop> Contexts<T> for LockedContexts<T> {
 
     ghost has = { λ table seat outs. CountsOut seat outs };
 
-    // A seat of this form doesn't know which threads were posted.
+    // The seats of this table keep no record of which threads came into the table.
     ghost settles = { λ table seat left. Unit {0} };
 
     fn glance<R: Wait>(&self, rt: &R, core: u8) -> u64 {

@@ -7,8 +7,8 @@ use std::marker::Model;
 
 /// One thread's right to call a table whose state is behind a lock. The state knows the seat by a number, its carrier.
 ///
-/// Contracts see the seat's carrier (its number), its weight, and the number of its unused claims and held threads. A
-/// count that has reached 2^32 - 1 no longer changes.
+/// Contracts refer to the seat's carrier, its weight, and how many unused claims and held threads it has together. If
+/// that count has reached 2^32 - 1, it no longer changes.
 #[derive(Debug, Drop)]
 pub struct LockedSeat {
     pub(crate) carrier: u32,
@@ -25,7 +25,7 @@ impl Model for LockedSeat {
 }
 
 impl LockedSeat {
-    /// Counts one more claim or held thread.
+    /// Counts one more claim or held thread of this seat.
     pub(crate) fn gain(&mut self)
         ensures { self.new ≡ record self.old { out = one_more self.old.out } }
     {
@@ -34,7 +34,7 @@ impl LockedSeat {
         }
     }
 
-    /// Counts one claim or held thread less, since the seat has used the claim, or put back or ended the thread.
+    /// Counts one claim or held thread less: the seat has used the claim, or has put back or ended the thread.
     pub(crate) fn spend(&mut self)
         ensures { self.new ≡ record self.old { out = one_fewer self.old.out } }
     {

@@ -1,12 +1,12 @@
-//! The number of places of each core, outside the lock.
+//! The number of thread slots of each core, outside the lock.
 ghost use Rattle.std.specs.Prelude.{◌≡◌, ◌≤◌};
 
 use arachne_core::SLOTS;
 use std::marker::Model;
 
-/// The number of places of each core, which calls can read without the lock.
+/// The number of thread slots of each core, which calls can read without taking the lock.
 ///
-/// Contracts see a `Slots` as a number.
+/// Contracts treat a `Slots` as a number.
 #[derive(Clone, Copy, Debug)]
 pub struct Slots {
     count: u8,

@@ -22,8 +22,10 @@ use arachne_core::{
 use std::alloc::{AllocError, Global};
 use std::marker::Model;
 
-/// The state of a table (a `World`) and the values of the threads that no seat holds. Memory is reserved for each post
-/// that may follow, and for the end of each thread.
+/// The state of a table (a `World`) and the values of the threads that no seat holds. It always has memory reserved to
+/// put a thread into each claimed context, and to end each thread.
+///
+/// A seat is one kernel thread's right to call the table, and `carrier` the number of a seat.
 #[derive(Drop)]
 pub struct TableState<T: Tagged> {
     homes: Homes<T>,
@@ -40,7 +42,8 @@ impl<T: Tagged> Model for TableState<T> {
     ghost invariant = { λ s. HasRoom s.homes.table };
 }
 
-/// Returns the word of a full core of `slots` places, for a core that the table doesn't have.
+/// Returns the occupancy word of a full core of `slots` thread slots, which stands for a core that the table doesn't
+/// have.
 pub fn no_core(slots: u8) -> OccWord
     requires { slots ≤ SLOTS }
     ensures open { result.closed ≡ false }
@@ -51,7 +54,7 @@ pub fn no_core(slots: u8) -> OccWord
 }
 
 impl<T: Tagged + Drop> TableState<T> {
-    /// Creates a table of `cores` cores with `slots` places each, and no thread.
+    /// Creates a table of `cores` cores with `slots` thread slots each, and no thread.
     pub fn new(
         alloc: Global,
         cores: u8,
@@ -73,7 +76,7 @@ impl<T: Tagged + Drop> TableState<T> {
         Ok(TableState { homes })
     }
 
-    /// Does nothing. The contract is a law: no two threads share a context or a place, and the table has a thread's
+    /// Does nothing. Its contract is a law: no two threads share a context or a place, and the table has a thread's
     /// value exactly if no seat holds the thread.
     pub fn is_owned_once(&self)
         ensures owned_once { OwnedOnce (world_of self.now.table) }
@@ -90,7 +93,7 @@ impl<T: Tagged + Drop> TableState<T> {
         core < self.homes.world().cores()
     }
 
-    /// Returns the number of places of each core.
+    /// Returns the number of thread slots of each core.
     fn slots(&self) -> u8
         ensures value { result ≡ (world_of self.now.table).slots }
         ensures some { 1 ≤ result }
@@ -99,7 +102,7 @@ impl<T: Tagged + Drop> TableState<T> {
         self.homes.world().slots()
     }
 
-    /// Returns the occupancy of a core, if the table has such a core.
+    /// Returns the occupancy word of a core, or `None` if the table has no such core.
     pub fn look(&self, core: u8) -> Option<OccWord>
         ensures some { IfSome result (λ occ. (core < (world_of self.now.table).cores) × ShowsCore (world_of self.now.table) core occ) }
         ensures beyond { IfSome result (λ occ. IsVacantFrom (world_of self.now.table).slots occ) }
@@ -111,7 +114,7 @@ impl<T: Tagged + Drop> TableState<T> {
         Some(self.homes.world().occ(core))
     }
 
-    /// Returns the mark word (the packed state) of a context, if the table has such a context.
+    /// Returns the mark word (the packed state) of a context, or `None` if the table has no such context.
     pub fn look_mark(&self, context: u32) -> Option<MarkWord>
         ensures some { IfSome result (λ mark. IsContext (world_of self.now.table) context × (mark ≡ marked (world_of self.now.table) context)) }
         ensures none { IfNone result (IsContext (world_of self.now.table) context → ⊥) }
@@ -122,7 +125,7 @@ impl<T: Tagged + Drop> TableState<T> {
         Some(self.homes.world().mark(context))
     }
 
-    /// Returns whether a core is closed and has no occupied place.
+    /// Returns whether a core is closed and none of its thread slots is occupied.
     pub fn is_drained(&self, core: u8) -> bool
         ensures { IsTrue result ↔ IsDrained (world_of self.now.table) core }
     {
@@ -134,7 +137,7 @@ impl<T: Tagged + Drop> TableState<T> {
 
     // ---- claims
 
-    /// Applies `claim`, after it has reserved memory for the thread that may be put into the context.
+    /// Reserves memory for the thread that may be put into the context, and then applies `claim`.
     fn claim_context(&mut self, claim: Event) -> Result<(), AllocError>
         requires claim { IsClaim claim }
         requires allowed { Allowed (world_of self.old.table) claim }
@@ -150,7 +153,7 @@ impl<T: Tagged + Drop> TableState<T> {
         }
     }
 
-    /// Claims the lowest free place of a core.
+    /// Claims the lowest free thread slot of a core for the seat `carrier`.
     pub fn claim(&mut self, carrier: u32, core: u8) -> Result<Claimed<LockedClaim>, AllocError>
         ensures answer { IfOk result (Claims (world_of self.old.table) (world_of self.new.table) carrier core) }
         ensures err { OnErr result (world_of self.new.table ≡ world_of self.old.table) }
@@ -174,7 +177,7 @@ impl<T: Tagged + Drop> TableState<T> {
         Ok(Claimed::Place(LockedClaim { context, place }))
     }
 
-    /// Claims an empty core for one thread.
+    /// Claims a whole empty core for one thread of the seat `carrier`.
     pub fn claim_alone(
         &mut self,
         carrier: u32,
@@ -200,7 +203,7 @@ impl<T: Tagged + Drop> TableState<T> {
         Ok(Claimed::Place(LockedClaim { context, place }))
     }
 
-    /// Frees a claimed place.
+    /// Frees a place that the seat `carrier` has claimed.
     ///
     /// Returns the claim as an error if the table doesn't know it.
     pub fn give_back(&mut self, carrier: u32, claim: LockedClaim) -> Result<(), LockedClaim>
@@ -218,7 +221,7 @@ impl<T: Tagged + Drop> TableState<T> {
 
     // ---- threads
 
-    /// Posts a thread: puts it at a claimed place, ready to run. Needs no memory.
+    /// Puts a thread with this value, ready to run, into a claimed place. Takes no memory.
     ///
     /// Returns the claim and the value as an error if the table doesn't know the claim.
     pub fn post(
@@ -245,7 +248,7 @@ impl<T: Tagged + Drop> TableState<T> {
         })
     }
 
-    /// Takes the thread at a place, if it is ready.
+    /// Takes the thread at `place`, if it is ready. The seat `carrier` then holds the thread.
     pub fn take(&mut self, carrier: u32, place: Place) -> Taken<T, LockedHold>
         ensures { TakesFrom (world_of self.old.table) (world_of self.new.table) self.old.values self.new.values carrier place result }
     {
@@ -269,7 +272,7 @@ impl<T: Tagged + Drop> TableState<T> {
         }
     }
 
-    /// Puts a thread back.
+    /// Puts a thread that the seat `carrier` holds back, as ready or as blocked.
     ///
     /// Returns the thread as an error if the table doesn't know it by its id and tag.
     pub fn put_back(
@@ -293,7 +296,7 @@ impl<T: Tagged + Drop> TableState<T> {
         Ok(rested)
     }
 
-    /// Ends a thread. Needs no memory.
+    /// Ends a thread that the seat `carrier` holds, and returns its value. Takes no memory.
     ///
     /// Returns the thread as an error if the table doesn't know it by its id and tag.
     pub fn finish(
@@ -335,7 +338,7 @@ impl<T: Tagged + Drop> TableState<T> {
         }
     }
 
-    /// Wakes the thread of this id.
+    /// Wakes the thread with this id. Any id may be passed.
     pub fn wake(&mut self, id: ThreadId) -> Woken
         ensures answer { Wakes (world_of self.old.table) (world_of self.new.table) id result }
         ensures values { self.new.values ≡ self.old.values }
@@ -357,7 +360,7 @@ impl<T: Tagged + Drop> TableState<T> {
 
     // ---- cores
 
-    /// Closes a core, if the table has such a core. Returns the core's occupancy from before the call.
+    /// Closes a core. Returns its occupancy word as it was before the call, or `None` if the table has no such core.
     pub fn close_core(&mut self, core: u8) -> Option<OccWord>
         ensures some { IfSome result (λ occ. ShowsCore (world_of self.old.table) core occ × Takes (world_of self.old.table) (event.CloseCore core ∷ []) (world_of self.new.table)) }
         ensures none { IfNone result ((core < (world_of self.old.table).cores → ⊥) × (self.new ≡ self.old)) }
@@ -370,7 +373,7 @@ impl<T: Tagged + Drop> TableState<T> {
         }
     }
 
-    /// Opens a core, if the table has such a core. Returns the core's occupancy from before the call.
+    /// Opens a core. Returns its occupancy word as it was before the call, or `None` if the table has no such core.
     pub fn open_core(&mut self, core: u8) -> Option<OccWord>
         ensures some { IfSome result (λ occ. ShowsCore (world_of self.old.table) core occ × Takes (world_of self.old.table) (event.OpenCore core ∷ []) (world_of self.new.table)) }
         ensures none { IfNone result ((core < (world_of self.old.table).cores → ⊥) × (self.new ≡ self.old)) }
@@ -385,7 +388,7 @@ impl<T: Tagged + Drop> TableState<T> {
 
     // ---- moves
 
-    /// Moves the thread at a place to the lowest free place of another core.
+    /// Moves the thread at `place` to the lowest free slot of the core `to`, if no seat holds the thread.
     pub fn move_one(&mut self, carrier: u32, place: Place, to: u8) -> Moved
         requires { to ≢ place.core }
         ensures answer { Moves (world_of self.old.table) (world_of self.new.table) carrier place to result }
@@ -407,7 +410,7 @@ impl<T: Tagged + Drop> TableState<T> {
         self.move_to(carrier, from, place, to)
     }
 
-    /// Moves a thread that no seat holds, and whose core is not exclusive.
+    /// Moves the thread of context `from`, which no seat holds and which shares its core, to the core `to`.
     fn move_to(&mut self, carrier: u32, from: u32, place: Place, to: u8) -> Moved
         requires within { IsContext (world_of self.old.table) from }
         requires at { (world_of self.old.table).at from ≡ place }
@@ -434,8 +437,8 @@ impl<T: Tagged + Drop> TableState<T> {
         Moved::Moved
     }
 
-    /// Claims context `target`, moves the thread of context `from` to its place, and frees the place that the thread
-    /// left.
+    /// Claims context `target`, moves the thread of context `from` to the target's place, and frees the place that the
+    /// thread left.
     fn swap(&mut self, carrier: u32, from: u32, target: u32)
         requires { CanMove (world_of self.old.table) from target }
         ensures events { Takes (world_of self.old.table) (event.Claim carrier target ∷ event.Move carrier from target ∷ event.Release carrier target ∷ []) (world_of self.new.table) }
@@ -458,9 +461,9 @@ impl<T: Tagged + Drop> TableState<T> {
 
     // ---- the end
 
-    /// Returns the threads that no seat holds, in the order of the contexts.
+    /// Returns the threads that no seat holds, in the order of their contexts.
     ///
-    /// If memory is refused, the table is returned unchanged.
+    /// If memory is refused, returns the unchanged table as an error.
     pub fn close(self, alloc: Global) -> Result<Vec<(ThreadId, T)>, Self>
         ensures rest { IfOk result (λ rest. rest.items ≡ at_rest_below (world_of self.table) self.values ((world_of self.table).cores * (world_of self.table).slots)) }
         ensures accounted { IfOk result (λ rest. IsAccounted T.tag_of (world_of self.table) rest.items) }
@@ -476,7 +479,7 @@ impl<T: Tagged + Drop> TableState<T> {
     }
 }
 
-/// Returns the result of putting back a thread, if `state` was its context's state before.
+/// Returns the result of putting back a thread as `rest` says, if `state` was its context's state before.
 fn rested(rest: Rest, state: State) -> Rested
     ensures { result ≡ rests_as rest state }
 {
@@ -486,7 +489,7 @@ fn rested(rest: Rest, state: State) -> Rested
     }
 }
 
-/// Returns whether the context has had its last thread.
+/// Returns whether the thread of the context's last generation has ended.
 fn is_spent(state: State) -> bool
     ensures { IsTrue result ↔ (state ≡ State.Spent) }
 {

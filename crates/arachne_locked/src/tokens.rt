@@ -1,17 +1,16 @@
-//! The places that a seat has claimed and not used yet, and the handles of the threads that it has taken and not put
-//! back.
+//! The claims of places by a seat, and the handles of the threads that a seat has taken and not put back.
 
 use arachne_contexts::{Identified, Placed};
 use arachne_core::{Place, ThreadId};
 
-/// A place that a seat has claimed.
+/// A place that a seat has claimed: one of a core's thread slots, reserved for a thread.
 #[derive(Debug, Drop)]
 pub struct LockedClaim {
     pub(crate) context: u32,
     pub(crate) place: Place,
 }
 
-/// The handle of a thread that a seat has taken and not put back.
+/// The handle of a thread that a seat has taken and not yet put back.
 #[derive(Debug, Drop)]
 pub struct LockedHold {
     pub(crate) id: ThreadId,

@@ -9,12 +9,12 @@ use crate::limits::MAX_CORES;
 use crate::samples::{Advice, BadSample, Sample};
 use std::marker::Model;
 
-/// Judges samples (measurements of a period) one after another. It advises one core more by load, and one fewer by
-/// utilisation with hysteresis.
+/// Judges samples (measurements of one period) one after another: advises to add a core if the load is high, and to
+/// remove one if the utilisation has fallen.
 ///
-/// This is the form of Arachne's load estimator (Qin and others, OSDI 2018). A core is added if scans see too many
-/// runnable threads; the utilisation at which that happened becomes the threshold for the new number of cores. A core
-/// is removed if the utilisation is below that threshold by more than the hysteresis.
+/// A core is added if a scan of a core sees too many runnable threads on average. The utilisation at that time becomes
+/// the threshold for the new number of cores. A core is removed if the utilisation is below that threshold by more than
+/// the hysteresis. The load estimator of the original Arachne has this form.
 #[derive(Clone, Debug, Drop)]
 pub struct Estimator {
     up: u64,
@@ -23,7 +23,7 @@ pub struct Estimator {
     thresholds: [u64; MAX_CORES],
 }
 
-// Contracts see the settings and the thresholds. The threshold of n cores is at index n - 1.
+// Contracts describe an estimator by its settings and thresholds. The threshold of n cores is at index n - 1.
 impl Model for Estimator {
     ghost use Rattle.std.specs.Prelude.{◌≤◌};
     ghost use Rattle.arachne_policy.specs.State.{State, most_cores};
@@ -38,8 +38,9 @@ impl Model for Estimator {
 impl Estimator {
     /// Creates an estimator that has judged no sample yet.
     ///
-    /// A load over `up` thousandths of a runnable thread per scan (of one core) asks for a core, up to `max` cores. A
-    /// utilisation below the threshold by more than `hysteresis` thousandths of a core gives a core back.
+    /// It advises to add a core, up to `max` cores, if a scan of a core sees more than `up` thousandths of a runnable
+    /// thread on average. It advises to remove one if the utilisation is below the threshold by more than `hysteresis`
+    /// thousandths of a core.
     pub fn new(up: u64, hysteresis: u64, max: u8) -> Self
         requires { max ≤ most_cores }
         ensures settings { result.settings ≡ record { up = up; hysteresis = hysteresis; max = max } }
@@ -74,30 +75,31 @@ impl Estimator {
         }
     }
 
-    /// Returns the thresholds, which are all that an estimator has learnt from its samples. The threshold of n cores is
-    /// at index n - 1.
+    /// Returns all that the estimator has learnt from its samples: the thresholds. The threshold of n cores is at index
+    /// n - 1.
     pub fn thresholds(&self) -> &[u64; MAX_CORES]
         ensures { result.now ≡ self.now.thresholds }
     {
         &self.thresholds
     }
 
-    /// Returns the advice on a sample. If the advice is `Add`, the estimator keeps the sample's utilisation, as the
-    /// threshold by which it later advises to give the core back.
+    /// Returns the advice on a sample. If the advice is `Add`, the sample's utilisation becomes the threshold by which
+    /// the estimator later advises to give that core back.
     ///
-    /// A sample that cannot have been measured changes nothing.
+    /// Returns `Err`, and changes nothing, if the sample cannot have been measured.
     pub fn estimate(&mut self, sample: Sample) -> Result<Advice, BadSample>
         ensures good { is_ok result ≡ is_good self.old.settings.max sample }
         ensures advice { IfOk result (λ a. a ≡ advice_by self.old.settings (threshold_at self.old) sample) }
         ensures after { IfOk result (λ a. self.new ≡ after self.old sample a) }
         ensures bad { OnErr result (self.new ≡ self.old) }
 
-        // If the thresholds were those of some past samples, they are now the thresholds of these samples with `sample`
-        // added.
+        // If the thresholds were the result of some past samples, they are now the result of these samples and
+        // `sample`.
         ensures history { (past : List Sample) → StandsFor self.old past
             → IfOk result (λ a. (a ≡ advice self.old.settings past sample) × StandsFor self.new (sample ∷ past)) }
 
-        // A core that was added is not given back while the utilisation has fallen by no more than the hysteresis.
+        // The advice is not to give back a core that was added, if the utilisation has since fallen by no more than the
+        // hysteresis.
         ensures hysteresis { (past : List Sample) (added : Sample) → StandsFor self.old past
             → RecordStands self.old.settings past added
             → sample.cores ≡ added.cores + 1
@@ -114,7 +116,7 @@ impl Estimator {
         Ok(advice)
     }
 
-    /// Returns the advice on a good sample by the present thresholds.
+    /// Returns the advice on a good sample, by the present thresholds.
     fn advise(&self, sample: &Sample) -> Advice
         requires { is_good self.now.settings.max sample.now ≡ true }
         ensures { result ≡ advice_by self.now.settings (threshold_at self.now) sample.now }

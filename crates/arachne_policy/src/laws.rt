@@ -1,4 +1,4 @@
-//! Laws of the definitions that the contracts cite. Each law is the contract of a function with an empty body.
+//! Laws of the definitions in the contracts. Each law is the contract of a function with an empty body.
 
 ghost use Rattle.std.specs.Prelude.{◌≡◌, ℕ, ◌+◌, ◌*◌, ◌<◌, List, [], ◌∷◌, ◌++◌, length, reverse, take, slice_index_or};
 ghost use Rattle.arachne_policy.specs.declared.samples.Sample.{Sample};
@@ -9,7 +9,7 @@ ghost use Rattle.arachne_policy.specs.Sample.{most_counted};
 ghost use Rattle.arachne_policy.specs.State.{most_cores, State, after, StandsFor, HasJudged};
 ghost use Rattle.arachne_policy.specs.Advice.{Settings, threshold, advice, advices, NoneAdded, RecordStands};
 
-/// The law that a threshold is recorded by the last `Add`.
+/// A threshold is set by the last sample whose advice was `Add`.
 ///
 /// The threshold of `cores + 1` cores is the utilisation of the last sample of `cores` cores whose advice was `Add`. If
 /// there was no such sample, the threshold is the utilisation of `cores` busy cores.
@@ -22,10 +22,11 @@ pub fn threshold_is_of_last_add()
         → threshold settings past (cores + 1) ≡ 1000 * cores }
 {}
 
-/// The law that samples are judged one after another.
+/// Samples are judged one after another.
 ///
 /// A list of samples gets one advice for each: the advice on that sample, after all samples before it. The advices on a
-/// list, followed by the advice on one more sample by the state after that list, are the advices on the longer list.
+/// list, followed by the advice on one more sample by the thresholds after that list, are the advices on the longer
+/// list.
 pub fn advices_are_in_turn()
     ensures each_once { (settings : Settings) (samples : List Sample)
         → length (advices settings samples) ≡ length samples }
@@ -41,7 +42,7 @@ pub fn advices_are_in_turn()
         → HasJudged settings (samples ++ s ∷ []) (answers ++ a ∷ []) new }
 {}
 
-/// The limits in the code are those of the definitions.
+/// The limits in the code equal those in the definitions.
 pub fn limits_are_the_definitions()
     ensures cores { MAX_CORES ≡ most_cores }
     ensures counts { MAX_COUNT ≡ most_counted }

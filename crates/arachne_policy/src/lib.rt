@@ -1,7 +1,7 @@
-//! Decisions about cores: the core for a new thread, when to ask for a core and when to give one back, and whether a
+//! Decisions about cores: which core gets a new thread, when to ask for a core and when to give one back, and whether a
 //! list of orders to grant or release cores is valid.
 //!
-//! Every call is a pure function over numbers: none takes memory, none waits, and none knows the table of contexts.
+//! Every call is a pure function of numbers: none takes memory, none waits, and none knows the table of threads.
 #![tactic(auto)]
 
 mod choices;

@@ -1,7 +1,7 @@
 //! The greatest number of cores, and the greatest counts in a sample, for which the estimator advises.
 
-/// The maximum number of cores that an estimator may advise.
+/// The greatest number of cores for which an estimator advises.
 pub const MAX_CORES: usize = 64;
 
-/// The maximum of a count of a sample, in threads, scans or units of time.
+/// The greatest value of a count in a sample, in threads, scans or units of time.
 pub const MAX_COUNT: u64 = 1 << 48;

@@ -1,4 +1,4 @@
-//! Orders that grant cores and take them back, and the check that a list of them is valid.
+//! Orders that grant cores to the runtime and take them back, and the check that a list of orders is valid.
 ghost use Rattle.std.specs.Prelude.{◌≡◌, ◌↔◌, IsOk, IfErr};
 ghost use Rattle.arachne_policy.specs.Orders.{order_fault, IsFirstFault, AreInOrder};
 
@@ -13,7 +13,9 @@ pub enum OrderKind {
     Release,
 }
 
-/// An arbiter's order about one core. The order is due once `after` slices have ended on all cores together.
+/// An order to grant one core to the runtime or to take it back.
+///
+/// The order is due when `after` slices (a thread's steps at a time) have ended on all cores together.
 #[derive(Clone, Copy, Debug, PartialEq, Eq)]
 pub struct CoreOrder {
     pub after: u64,
@@ -21,7 +23,7 @@ pub struct CoreOrder {
     pub core: u64,
 }
 
-/// The reason why an order may not be in its list.
+/// The reason why a list may not contain an order.
 #[derive(Clone, Copy, Debug, PartialEq, Eq, Error)]
 pub enum OrderFaultKind {
     #[error("no such core")]
@@ -32,7 +34,7 @@ pub enum OrderFaultKind {
     AfterFalls,
 }
 
-/// The first order of a list that has a fault, by its index from 0.
+/// The first faulty order of a list: its index from 0, and its fault.
 #[derive(Clone, Copy, Debug, PartialEq, Eq, Error)]
 #[error("order {index}: {kind}")]
 pub struct OrderFault {
@@ -41,8 +43,8 @@ pub struct OrderFault {
 }
 
 impl CoreOrder {
-    /// Returns the fault of the order, if it has one, on a machine of `cores` cores, after an order that is due after
-    /// `previous` slices.
+    /// Returns the fault of this order, or `None` if it has none, on a machine of `cores` cores. The order before it is
+    /// due after `previous` slices.
     fn fault(&self, cores: u64, previous: u64) -> Option<OrderFaultKind>
         ensures { result ≡ order_fault cores previous self.now }
     {
@@ -60,9 +62,9 @@ impl CoreOrder {
 
 /// Checks that a list of orders is valid on a machine of `cores` cores.
 ///
-/// Each order must name one of the machine's cores, none may release core 0, and none may be due before the order that
-/// precedes it. Returns the first order with a fault. If that order has several faults, returns the one that
-/// `OrderFaultKind` lists first.
+/// Each order must name one of the machine's cores, must not release core 0, and must not be due before the order that
+/// precedes it. Returns the first faulty order as an error. If that order has several faults, returns the one that
+/// comes first in `OrderFaultKind`.
 pub fn check_orders(orders: &[CoreOrder], cores: u64) -> Result<(), OrderFault>
     ensures accepts { IsOk result ↔ AreInOrder cores orders.now }
     ensures first { IfErr result (IsFirstFault cores orders.now) }

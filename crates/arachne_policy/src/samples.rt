@@ -1,4 +1,4 @@
-//! A sample (what was measured in one period on all cores), and the advice that the estimator gives on it.
+//! A sample (the measurements of one period on all cores), and the advice that the estimator gives on it.
 ghost use Rattle.std.specs.Prelude.{◌≡◌, ◌<◌, ◌≤◌, Some};
 ghost use Rattle.arachne_policy.specs.Advice.{advice_text};
 ghost use Rattle.arachne_policy.specs.Sample.{most_counted, load_of, utilisation_of, is_good};
@@ -10,15 +10,15 @@ use thiserror::Error;
 /// A sample: the measurements of one period on all cores together.
 #[derive(Clone, Copy, Debug, PartialEq, Eq)]
 pub struct Sample {
-    /// The number of cores that the runtime had.
+    /// The number of cores that the runtime had in the period.
     pub cores: u64,
-    /// The number of runnable threads that each scan (of one core) saw, summed over the scans.
+    /// The number of runnable threads that each scan of a core saw, summed over all scans.
     pub runnable: u64,
     /// The number of times that a core was scanned for runnable threads.
     pub scans: u64,
-    /// The time in which cores ran threads, summed over the cores, in the unit of `elapsed`.
+    /// The time for which cores ran threads, summed over the cores, in the unit of `elapsed`.
     pub busy: u64,
-    /// The length of the period, in any unit.
+    /// The length of the period, in any unit of time.
     pub elapsed: u64,
 }
 
@@ -42,7 +42,7 @@ impl fmt::Display for Advice {
 }
 
 impl Advice {
-    /// Returns the word for the advice.
+    /// Returns the word that is printed for this advice.
     fn word(&self) -> &'static str
         ensures { result.now ≡ advice_text self.now }
     {
@@ -56,8 +56,8 @@ impl Advice {
 
 /// The error of a sample that cannot have been measured.
 ///
-/// Such a sample has no core or too many cores, an empty period, more busy time than its cores could have, or a count
-/// over `MAX_COUNT`.
+/// Such a sample has no core or too many cores, a period of length 0, more busy time than its cores could have, or a
+/// count greater than `MAX_COUNT`.
 #[derive(Clone, Copy, Debug, PartialEq, Eq, Error)]
 #[error("the sample cannot have been measured")]
 pub struct BadSample;
@@ -77,7 +77,7 @@ impl Sample {
             && self.busy <= self.cores * self.elapsed
     }
 
-    /// Returns the average number of runnable threads that a scan (of one core) saw, in thousandths of a thread.
+    /// Returns the average number of runnable threads that a scan of a core saw, in thousandths of a thread.
     pub(crate) fn load(&self) -> u64
         requires { self.now.runnable ≤ most_counted }
         ensures { result ≡ load_of self.now }

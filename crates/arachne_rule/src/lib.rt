@@ -1,10 +1,11 @@
 //! The rule of the context table on atomic words: the invariant that holds between any two atomic operations.
 //!
-//! The table has an *occupancy word* for each core (which of its places are taken), a *mark word* for each context (the
-//! state, place and generation of its thread) and a *place word* for each place (the context there). These atomic
-//! words, the slots (the fields with threads' values) and the records of the seats (the rights to call the table) stand
-//! for one abstract state, a *World* of `arachne_core`, in which no two threads share a context or a place. Each atomic
-//! operation (*step*) on a word is one event of that abstract state. The operations themselves are in `arachne_words`.
+//! The table has an *occupancy word* for each core (which of its places, its thread slots, are occupied), a *mark word*
+//! for each context (the state, place and generation of its thread) and a *place word* for each place (the number of
+//! the context there). These atomic words, the *value fields* of the contexts (the slots of an `atomic_table`, with the
+//! threads' values) and the records of the seats (the rights to call the table) stand for one abstract state, a *World*
+//! of `arachne_core`, in which no two threads share a context or a place. Each atomic operation (*step*) on a word is
+//! one event of that abstract state. The operations themselves are in `arachne_words`.
 #![tactic(auto)]
 
 pub mod laws;

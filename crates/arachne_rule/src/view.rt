@@ -1,79 +1,78 @@
-//! The parts of a seat and of a table that the invariant speaks of. These types are only for proofs: no value of them
-//! is made.
+//! The parts of a seat and of a table about which the invariant speaks. These types exist only for proofs.
 
 use arachne_core::{Place, ThreadId};
 use arachne_weights::Token;
 use std::collections::LinkedList;
 
-/// A context that a seat has claimed, or whose thread it holds.
+/// A context that a seat has claimed (reserved for a thread), or whose thread the seat holds.
 pub struct Carried {
     pub context: u32,
-    /// The place at which the context is.
+    /// The context's place, which is one of a core's thread slots.
     pub place: Place,
-    /// The place that the context's mark word shows.
+    /// The place that the context's mark word shows. During a move, it differs from `place`.
     pub shown: Place,
     pub generation: u64,
     /// True if the seat holds the context's thread, false if it has claimed the context.
     pub held: bool,
-    /// The tag of the thread, if the seat holds one.
+    /// The tag of the thread (a number that came with it), if the seat holds one.
     pub tag: u64,
-    /// True if the context's core is exclusive to its thread.
+    /// True if the context's thread has its core for itself.
     pub alone: bool,
-    /// True if the word of the context's place names the context.
+    /// True if the word of the context's place has the context's number.
     pub named: bool,
-    /// True if the seat has taken the context's slot (the field for a thread's value) out of the table.
+    /// True if the seat has taken the context's value field out of the table.
     pub away: bool,
 }
 
 /// The kinds of atomic operation on a word of the table.
 ///
-/// Each context has a slot, which is the field for a thread's value. A slot is in the table, or a seat has taken it
-/// out.
+/// Each context has a field for its thread's value. This value field is in the table, unless a seat has taken it out.
 pub enum Kind {
     /// A load of an occupancy word or of a mark word.
     Look,
-    /// A load of a place word. The empty slot of the context that the word names may then go to the seat.
+    /// A load of a place word. With it, the seat may take out the empty value field of the context whose number is
+    /// there.
     Learn,
-    /// An exchange of an occupancy word that claims an index.
+    /// A compare-exchange of an occupancy word, which claims an index.
     Claim,
-    /// An exchange of an occupancy word from 0 that claims a whole core.
+    /// A compare-exchange of an occupancy word from 0, which claims a whole core.
     Alone,
-    /// A store of a mark word: a thread is posted, and its value goes to the table.
+    /// A store of a mark word, which makes a new thread ready and puts its value into the table.
     Post,
-    /// An exchange of a mark word: a ready thread is taken, and its value goes to the seat.
+    /// A compare-exchange of a mark word, which takes a ready thread, and its value out of the table.
     Take,
-    /// A store of a place word: the place of a taken context names that context, and the context's empty slot goes to
+    /// A store of a place word: it gets the number of a taken context at that place, whose empty value field goes into
     /// the table.
     KeepName,
-    /// A swap of a mark word: a thread that the seat holds has ended.
+    /// A swap of a mark word, which ends a thread that the seat holds.
     Retire,
-    /// A subtraction from an occupancy word: an index is free again.
+    /// A subtraction from an occupancy word, which frees an index.
     Release,
-    /// A store of a mark word: a thread that the seat holds is put back as ready, and its value goes to the table.
+    /// A store of a mark word, which makes a held thread ready and puts its value into the table.
     RestReady,
-    /// An exchange of a mark word: a thread that the seat holds is put back as blocked, and its value goes to the
-    /// table.
+    /// A compare-exchange of a mark word, which makes a held thread blocked and puts its value into the table.
     RestBlocked,
-    /// An exchange of a mark word: a blocked thread becomes ready.
+    /// A compare-exchange of a mark word, which makes a blocked thread ready.
     Wake,
-    /// An exchange of a mark word: a thread that a seat holds is marked as woken.
+    /// A compare-exchange of a mark word, which marks a held thread as woken.
     MarkWoken,
-    /// The closed bit of an occupancy word is set.
+    /// An `or` on an occupancy word, which sets its closed bit.
     Close,
-    /// The closed bit of an occupancy word is cleared.
+    /// An `and` on an occupancy word, which clears its closed bit.
     Open,
-    /// A thread that no worker holds gets another place, by an exchange of its context's mark word (the atomic with its
-    /// state and place).
+    /// A compare-exchange of a mark word (the atomic with a thread's state and place), which gives another place to a
+    /// thread that no worker holds.
     Move,
-    /// An exchange of a place word: the new place of a moved thread names that thread's context.
+    /// A compare-exchange of a place word: the new place of a moved thread gets the number of that thread's context.
     NameTarget,
-    /// A store of a mark word: the free context with which a moved thread's context changed places shows its new place.
+    /// A store of a mark word: it gets the new place of the free context that changed places with a moved thread's
+    /// context.
     Replace,
-    /// A store of a place word: the old place of a moved thread names the context that is there now.
+    /// A store of a place word: the old place of a moved thread gets the number of the context that is there now.
     NameSource,
 }
 
-/// One atomic operation on a word: its kind, the word's index, and the numbers in the word before and after it.
+/// One atomic operation on a word: its kind, the word's index, and the word's values before and after it.
 pub struct Record {
     pub kind: Kind,
     pub word: usize,
@@ -81,7 +80,7 @@ pub struct Record {
     pub after: u64,
 }
 
-/// The record of a seat: the contexts that it has claimed, the threads that it holds, and what it has done.
+/// The record of a seat: the contexts that it has claimed, the threads that it holds, and its past operations.
 pub struct Known {
     /// The contexts that the seat has claimed, and those whose threads it holds.
     pub carried: LinkedList<Carried>,
@@ -95,7 +94,8 @@ pub struct Known {
 
 pub type View = Token<Known>;
 
-/// The shape of a table: its number of cores, the number of places of each, and the first and the last generation.
+/// The constant sizes of a table: its number of cores, the number of places of each, and the first and the last
+/// generation.
 pub struct Shape {
     pub cores: u8,
     pub places_per_core: u8,

@@ -1,4 +1,4 @@
-//! The state of a sleep lock, as it is stored while no seat holds it.
+//! The state of a sleep lock, as the lock's table stores it while no seat has it.
 ghost use Rattle.std.specs.Prelude.{◌≡◌, [], None};
 ghost use Rattle.arachne_sleep.specs.History.{IsSound};
 ghost use Rattle.arachne_sleep.specs.Calls.{IsAsked, IsFreed, IsChecked, pass_asked};
@@ -13,9 +13,9 @@ use std::alloc::Global;
 use std::marker::Model;
 
 /// A lock's state, on cache lines of its own, and the index (in the lock's history) of the grant that the last call
-/// reported.
+/// returned.
 ///
-/// The index is only for proofs: it names the grant in the log of the seat that gives the guard back.
+/// The index exists only for proofs: it says which grant is logged for the seat that puts the state back.
 #[derive(Drop)]
 pub struct GuardedState {
     state: CachePadded<LockState>,

@@ -1,10 +1,10 @@
-//! Sleep locks, which block a user thread and leave its core to others.
+//! Sleep locks: a user thread that waits for such a lock is blocked, and leaves its core to others.
 //!
-//! [`LockState`] is the state of a sleep lock: its owner, the threads that wait for it, in order, and the history of
-//! all asks, grants and frees. [`SleepLock`] is a sleep lock that kernel threads share. Each kernel thread calls the
-//! lock through a [`LockSeat`], in which contracts see a log of the calls. An atomic word, the *guard*, says if a seat
-//! has the lock's state; a call that finds it taken returns at once, and the caller may try again. [`SleepLocks`] are
-//! several such locks, used through [`LockSeats`]. No call waits.
+//! [`LockState`] is the state of a sleep lock: the thread that holds it, the threads that wait for it, in order, and
+//! the history of all asks, grants and frees. [`SleepLock`] is a sleep lock that kernel threads share. Each kernel
+//! thread calls the lock through a [`LockSeat`], for which contracts keep a log of the calls. An atomic word, the
+//! *guard*, says if a seat has the lock's state at present; a call that finds the guard set returns at once, and the
+//! caller may try again. [`SleepLocks`] are several such locks, used through [`LockSeats`]. No call waits.
 #![tactic(auto)]
 
 mod answer;

@@ -8,17 +8,18 @@ use arachne_weights::Weight;
 use atomic_table::Seat;
 use std::marker::Model;
 
-/// A part of the right to use one sleep lock. Contracts see in it a log of the calls that were made through it.
+/// One kernel thread's right to call one sleep lock. Contracts keep with it a log of the calls that were made through
+/// it.
 ///
-/// A seat must be used, split and joined with the lock that it came from. If a seat is dropped, its weight is lost, and
-/// no seat can have the whole weight any more.
+/// A seat must be used, split and joined with the lock that it came from. If a seat is dropped, its weight (its part of
+/// one whole) is lost, and no seat can have the whole weight any more.
 #[derive(Drop)]
 pub struct LockSeat {
     pub(crate) seat: Seat<GuardedState, View>,
     pub(crate) weight: Weight,
 }
 
-// Contracts see the table that the seat came from, the seat's weight and its log.
+// Contracts describe a seat by its table, its weight and its log.
 impl Model for LockSeat {
     ghost use Rattle.std.specs.Prelude.{◌≡◌};
     ghost use Rattle.arachne_sleep.specs.Views.{SeatView};
@@ -32,7 +33,7 @@ impl Model for LockSeat {
 }
 
 impl LockSeat {
-    /// Returns whether all other seats of the lock were joined into this one.
+    /// Returns whether this seat has the whole weight: all other seats of the lock were joined into it.
     pub fn is_whole(&self) -> bool
         ensures { IsTrue result ↔ IsWhole self.now }
     {

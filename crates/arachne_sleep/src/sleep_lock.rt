@@ -1,4 +1,4 @@
-//! A sleep lock that kernel threads share. A call that finds another kernel thread in a call returns at once.
+//! A sleep lock that kernel threads share. If another kernel thread is in a call on the lock, a call returns at once.
 ghost use Rattle.std.specs.Prelude.{◌≡◌, ◌↔◌, List, MatchBool, IsTrue, IsOk, IfOk, None, [], ◌∷◌};
 ghost use Rattle.arachne_sleep.specs.declared.event.LockEvent.{LockEvent};
 ghost use Rattle.arachne_sleep.specs.History.{IsSound};
@@ -21,31 +21,31 @@ use atomic_table::{Seat, Table};
 use std::alloc::{AllocError, Global};
 use std::marker::Model;
 
-/// The number of words of the table. Processors fetch cache lines in pairs, so two lines of unused words are on each
-/// side of the guard word.
+/// The number of words of the table. Processors fetch cache lines in pairs, so there are two lines of unused words on
+/// each side of the guard word.
 const WORDS: usize = 32;
 
 /// The index of the guard word.
 const GUARD: usize = 16;
 
-/// The value of the guard word (the lock's atomic word) while no seat holds the lock's state.
+/// The value of the guard word (the lock's atomic word) while no seat has the lock's state.
 const HOME: u64 = 0;
 
 /// The value of the guard word while a seat has the lock's state.
 const TAKEN: u64 = 1;
 
-/// A sleep lock with a guard word: an atomic word that is 1 while a seat holds the lock's state, and otherwise 0.
+/// A sleep lock with a guard word: an atomic word that is 1 while a seat has the lock's state, and otherwise 0.
 ///
-/// Each kernel thread uses the lock through a seat of its own. `ask`, `free` and `check` try once to set the guard
-/// word. If the guard word is set already, a call returns `Contended`, and nothing has changed. If not, the call does
-/// its work on the lock's state, and gives the guard back, whatever the result is.
+/// Each kernel thread calls the lock through a seat of its own. `ask`, `free` and `check` try once to set the guard
+/// word. If it is already set, a call returns `Contended`, and changes nothing. If not, the call does its work on the
+/// lock's state, and then clears the guard word, whatever its result is.
 #[derive(Drop)]
 pub struct SleepLock {
     number: u8,
     table: Table<GuardedState, View, u8, GuardRule, Global>,
 }
 
-// Contracts see the lock's number and its table.
+// Contracts describe a lock by its number and its table.
 impl Model for SleepLock {
     ghost use Rattle.arachne_sleep.specs.Views.{SleepLockView, IsLaidOut};
 
@@ -56,7 +56,7 @@ impl Model for SleepLock {
     ghost invariant = { λ l. IsLaidOut l.table.shared.table_id l.table.shared.key l.number };
 }
 
-/// Returns a list with one item, the state of a new lock.
+/// Returns a list with one entry, the state of a new lock with this number.
 fn first_slots(alloc: Global, number: u8) -> Result<Vec<GuardedState>, AllocError>
     ensures { IfOk result (λ slots. IsFirstSlot number slots.items) }
 {
@@ -66,7 +66,10 @@ fn first_slots(alloc: Global, number: u8) -> Result<Vec<GuardedState>, AllocErro
 }
 
 impl SleepLock {
-    /// Creates a lock that nobody has asked for yet, and its first seat, which has the whole weight.
+    /// Creates a lock with the number `lock`, for which nobody has asked yet, and its first seat, which has the whole
+    /// weight.
+    ///
+    /// A split halves a seat's weight and a join adds two, so a seat with the whole weight is the only one.
     pub fn new(alloc: Global, lock: u8) -> Result<(SleepLock, LockSeat), AllocError>
         ensures number { IfOk result (λ made. made.0.number ≡ lock) }
         ensures seat { IfOk result (λ made. made.1 ≡ whole_seat made.0) }
@@ -92,9 +95,9 @@ impl SleepLock {
         self.number
     }
 
-    /// Asks for the lock. The thread holds the lock at once if nobody owns it, and waits otherwise.
+    /// Asks for the lock. If nobody holds it, `who` gets it at once, and otherwise waits.
     ///
-    /// Returns `AlreadyIn` if the thread owns the lock or waits for it. If memory is refused, nothing changes.
+    /// Returns `AlreadyIn` if `who` already holds the lock or waits for it. If memory is refused, nothing changes.
     pub fn ask(&self, seat: &mut LockSeat, who: Who) -> Tried<Result<Asked, AskFault>>
         requires { IsSeatOf self.now seat.old }
         ensures seat { IsSeatOf self.now seat.new × (seat.new.weight ≡ seat.old.weight) }
@@ -110,7 +113,7 @@ impl SleepLock {
 
     /// Frees the lock, and grants it to the thread that has waited longest, if any waits.
     ///
-    /// Returns `NotHolder` if the thread doesn't own the lock.
+    /// Returns `NotHolder` if `who` doesn't hold the lock.
     pub fn free(&self, seat: &mut LockSeat, who: Who) -> Tried<Result<Freed, NotHolder>>
         requires { IsSeatOf self.now seat.old }
         ensures seat { IsSeatOf self.now seat.new × (seat.new.weight ≡ seat.old.weight) }
@@ -124,7 +127,7 @@ impl SleepLock {
         Tried::Answered(answer)
     }
 
-    /// Returns evidence that the thread owns the lock, or `None` if it doesn't.
+    /// Returns evidence that `who` holds the lock, or `None` if it doesn't.
     pub fn check(&self, seat: &mut LockSeat, who: Who) -> Tried<Option<Pass>>
         requires { IsSeatOf self.now seat.old }
         ensures seat { IsSeatOf self.now seat.new × (seat.new.weight ≡ seat.old.weight) }
@@ -138,10 +141,10 @@ impl SleepLock {
         Tried::Answered(answer)
     }
 
-    /// Splits a seat in two, each with half of its weight, rounded up for the first.
+    /// Splits a seat into two, each with half of its weight, rounded up for the first.
     ///
-    /// The first seat keeps the log of `seat`, the second only the histories that it has seen. If the weight is 1 or 0,
-    /// both seats get weight 0.
+    /// The first seat keeps the log of `seat`; the second keeps only the histories that `seat` has read. If the weight
+    /// is 1 or 0, both seats get weight 0.
     pub fn split(&self, seat: LockSeat) -> (LockSeat, LockSeat)
         requires { IsSeatOf self.now seat }
         ensures first { result.0 ≡ first_half seat }
@@ -166,7 +169,7 @@ impl SleepLock {
         }
     }
 
-    /// Joins two seats into one, which has the logs of both.
+    /// Joins two seats into one, which keeps the logs of both.
     ///
     /// The weight of the result is the sum of both weights, but at most the whole.
     pub fn join_seats(&self, seat: LockSeat, other: LockSeat) -> LockSeat
@@ -192,14 +195,16 @@ impl SleepLock {
         seat.weight = seat.weight.join(added);
     }
 
-    /// Returns whether all other seats of the lock were joined into `seat`.
+    /// Returns whether `seat` has the whole weight: all other seats of the lock were joined into it.
     pub fn is_whole(&self, seat: &LockSeat) -> bool
         ensures { IsTrue result ↔ IsWhole seat.now }
     {
         seat.is_whole()
     }
 
-    /// Closes the lock. Returns all asks, grants and frees of the lock, oldest first. Takes no memory.
+    /// Closes the lock. Returns all of its asks, grants and frees, oldest first. Does not allocate.
+    ///
+    /// `seat` must have the whole weight: no other seat is in use.
     pub fn close(self, seat: LockSeat) -> Result<History, (SleepLock, LockSeat)>
         requires own { IsSeatOf self seat }
         requires whole { IsWhole seat }
@@ -227,7 +232,7 @@ impl SleepLock {
         guarded.into_history()
     }
 
-    /// Tries once to set the guard word, and with it to get the lock's state. Returns whether it has.
+    /// Tries once to set the guard word, and with it to take the lock's state out of the table. Returns whether it did.
     fn take(&self, seat: &mut Seat<GuardedState, View>) -> bool
         requires own { seat.old.table_id ≡ self.now.table }
         requires idle { seat.old.me ≡ idle seat.old.me.0.weight seat.old.me.0.known.log }
@@ -240,7 +245,7 @@ impl SleepLock {
         shared.compare_exchange::<Take>(seat, GUARD, HOME, TAKEN) == HOME
     }
 
-    /// Gives the lock's state back, and clears the guard word.
+    /// Puts the lock's state back into the table, and clears the guard word.
     fn give_back(&self, seat: &mut Seat<GuardedState, View>)
         requires own { seat.old.table_id ≡ self.now.table }
         requires guarded { (guarded : Guarded) × (before : List LockEvent) × IsReturnable seat.old.me guarded before }

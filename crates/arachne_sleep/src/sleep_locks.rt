@@ -1,4 +1,4 @@
-//! Several sleep locks, numbered from 0, with calls that name the lock by its number.
+//! Several sleep locks, numbered from 0. Each call names the lock by its number.
 ghost use Rattle.std.specs.Prelude.{◌≡◌, ◌<◌, ◌↔◌, All, IsTrue, IsOk, IfOk, IfErr, IfSome, length, map};
 ghost use Rattle.std.specs.List.{AllZip};
 ghost use Rattle.arachne_sleep.specs.History.{IsSound};
@@ -15,7 +15,7 @@ use crate::who::Who;
 use std::alloc::{AllocError, Global};
 use std::marker::Model;
 
-/// The locks of a run, numbered from 0, which kernel threads share.
+/// Several locks, numbered from 0, which kernel threads share.
 #[derive(Drop)]
 pub struct SleepLocks {
     locks: Vec<SleepLock>,
@@ -33,7 +33,7 @@ impl Model for SleepLocks {
     ghost invariant = { λ l. AreNumbered l.locks.items };
 }
 
-/// A kernel thread's seats at several locks, one for each, in the order of the locks.
+/// A kernel thread's seats (rights to call), one for each of several locks, in the order of the locks.
 #[derive(Drop)]
 pub struct LockSeats {
     seats: Vec<LockSeat>,
@@ -49,7 +49,7 @@ impl Model for LockSeats {
 }
 
 impl SleepLocks {
-    /// Creates `count` locks, which may be 0, and for each lock its first seat, which has the whole weight.
+    /// Creates `count` locks (`count` may be 0), and for each its first seat, which has the whole weight.
     pub fn new(alloc: Global, count: u8) -> Result<(SleepLocks, LockSeats), AllocError>
         ensures count { IfOk result (λ made. length made.0 ≡ count) }
         ensures own { IfOk result (λ made. AreSeatsOf made.0 made.1) }
@@ -73,7 +73,7 @@ impl SleepLocks {
         self.locks.len()
     }
 
-    /// Asks for a lock, as [`SleepLock::ask`] does.
+    /// Asks for the lock with the number `lock`, as [`SleepLock::ask`] does.
     pub fn ask(&self, seats: &mut LockSeats, lock: u8, who: Who) -> Tried<Result<Asked, AskFault>>
         requires own { AreSeatsOf self.now seats.old }
         requires lock { lock < length self.now }
@@ -84,7 +84,7 @@ impl SleepLocks {
         self.locks[k].ask(&mut seats.seats[k], who)
     }
 
-    /// Frees a lock, as [`SleepLock::free`] does.
+    /// Frees the lock with the number `lock`, as [`SleepLock::free`] does.
     pub fn free(&self, seats: &mut LockSeats, lock: u8, who: Who) -> Tried<Result<Freed, NotHolder>>
         requires own { AreSeatsOf self.now seats.old }
         requires lock { lock < length self.now }
@@ -95,7 +95,7 @@ impl SleepLocks {
         self.locks[k].free(&mut seats.seats[k], who)
     }
 
-    /// Returns evidence that a thread owns a lock, as [`SleepLock::check`] does.
+    /// Returns evidence that `who` holds the lock with the number `lock`, as [`SleepLock::check`] does.
     pub fn check(&self, seats: &mut LockSeats, lock: u8, who: Who) -> Tried<Option<Pass>>
         requires own { AreSeatsOf self.now seats.old }
         requires lock { lock < length self.now }
@@ -106,9 +106,9 @@ impl SleepLocks {
         self.locks[k].check(&mut seats.seats[k], who)
     }
 
-    /// Splits each seat.
+    /// Splits each of the seats into two.
     ///
-    /// If memory for the list of the second parts is refused, returns the seats as an error.
+    /// If memory for the list of the second seats is refused, returns the unchanged seats as an error.
     pub fn split(
         &self,
         alloc: Global,
@@ -130,7 +130,7 @@ impl SleepLocks {
         Ok((LockSeats { seats: own }, LockSeats { seats: others }))
     }
 
-    /// Joins each seat with the seat of `others` that belongs to the same lock.
+    /// Joins each of `seats` with the seat of `others` that belongs to the same lock.
     pub fn join_seats(&self, seats: LockSeats, others: LockSeats) -> LockSeats
         requires seats { AreSeatsOf self.now seats }
         requires others { AreSeatsOf self.now others }
@@ -146,7 +146,7 @@ impl SleepLocks {
         LockSeats { seats: own }
     }
 
-    /// Returns whether each seat has the whole weight, so that no other seat of its lock is in use.
+    /// Returns whether each of the seats has the whole weight, so that no other seat of its lock is in use.
     pub fn are_whole(&self, seats: &LockSeats) -> bool
         ensures { IsTrue result ↔ All IsWhole seats.now }
     {
@@ -155,7 +155,8 @@ impl SleepLocks {
 
     /// Closes all locks. Returns the history of each lock, in the order of the locks.
     ///
-    /// If memory for the list is refused, returns the locks and the seats as an error.
+    /// Each of the seats must have the whole weight. If memory for the list is refused, returns the locks and the seats
+    /// as an error.
     pub fn close(
         self,
         alloc: Global,

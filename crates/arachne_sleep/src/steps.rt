@@ -1,4 +1,4 @@
-//! The invariant of a lock's table, and the kinds of atomic operation on it. These types are only for proofs.
+//! The invariant of a lock's table, and the kinds of atomic operation on it. These types exist only for proofs.
 use crate::guarded_state::GuardedState;
 use crate::view::View;
 use atomic_table::{Join, Play, Split, TableRule};
@@ -6,7 +6,7 @@ use atomic_table::{Join, Play, Split, TableRule};
 /// The invariant of a lock's table: there is one history, which is part of the lock's state, and one trace of all
 /// operations on the guard word.
 ///
-/// The table's key, which never changes, is the lock's number.
+/// The table's constant key is the lock's number.
 pub struct GuardRule;
 
 impl TableRule<GuardedState, View, u8> for GuardRule {
@@ -17,7 +17,7 @@ impl TableRule<GuardedState, View, u8> for GuardRule {
     ghost first = { first_view };
 }
 
-/// The compare-exchange that tries once to take the guard.
+/// The compare-exchange that tries once to set the guard word.
 pub(crate) struct Take;
 
 impl Play<GuardedState, View> for Take {
@@ -26,7 +26,7 @@ impl Play<GuardedState, View> for Take {
     ghost then = { λ step before found after. Takes before found after };
 }
 
-/// The store that gives the guard back.
+/// The store that clears the guard word.
 pub(crate) struct GiveBack;
 
 impl Play<GuardedState, View> for GiveBack {

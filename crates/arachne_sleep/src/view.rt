@@ -1,4 +1,4 @@
-//! The log that proofs keep for each seat of a lock. These types are only for proofs: no value of them is made.
+//! The log that proofs keep for each seat of a lock. These types exist only for proofs.
 use crate::{LockEvent, Pass};
 use arachne_weights::Token;
 use std::collections::LinkedList;
@@ -11,13 +11,13 @@ pub struct PlacedEvent {
 
 /// The kinds of atomic operation on the guard word.
 pub enum Kind {
-    /// A compare-exchange from 0 to 1. If the exchange succeeds, the seat has the lock's state.
+    /// A compare-exchange from 0 to 1. If it succeeds, the seat has the lock's state.
     Take,
-    /// A store of 0. The seat has given the lock's state back.
+    /// A store of 0, with which the seat puts the lock's state back.
     GiveBack,
 }
 
-/// One atomic operation on a word: its kind, the word's index, and the numbers in the word before and after it.
+/// One atomic operation on a word: its kind, the word's index, and the word's values before and after it.
 pub struct Record {
     pub kind: Kind,
     pub word: usize,
@@ -25,7 +25,7 @@ pub struct Record {
     pub after: u64,
 }
 
-/// The log of a seat: the events that its calls caused, and the histories that they read.
+/// The log of a seat: the events that its calls caused, and the histories that its calls read.
 pub struct SeatLog {
     /// The lock's number.
     pub number: u8,
@@ -33,13 +33,13 @@ pub struct SeatLog {
     pub made: LinkedList<PlacedEvent>,
     /// The evidence of grants that the seat's calls have returned.
     pub passes: LinkedList<Pass>,
-    /// The history that the seat's last call read, and those of the seats that were joined into it since then.
+    /// The history that the seat's last call read, and those of the seats that were joined into it since that call.
     pub seen: LinkedList<LinkedList<LockEvent>>,
     /// The seat's atomic operations, the newest first.
     pub records: LinkedList<Record>,
 }
 
-/// A seat's log, and whether the seat has the lock's state.
+/// A seat's log, and whether the seat has the lock's state at present.
 pub struct Known {
     pub taken: bool,
     pub log: SeatLog,

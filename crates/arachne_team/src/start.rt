@@ -9,7 +9,7 @@ use std::sync::Wait;
 use std::thread::{self, Promise, PromisedHandle, Threads};
 use std::time::Clock;
 
-/// What contracts know of each kernel thread's result: the share that it returns belongs to this team.
+/// The promise for each kernel thread's result: the share that it returns belongs to this team. Only contracts use it.
 #[derive(Drop)]
 struct Returns<W> {
     team: Snapshot<W>,
@@ -32,10 +32,10 @@ impl<S, W: Team<S>> Promise<Option<S>> for Returns<W> {
 /// Runs all kernel threads of a team, each with a part of `share`, and returns all parts joined.
 ///
 /// The calling kernel thread has number 0, and new kernel threads have the other numbers. The call returns after all
-/// have ended, and returns `None` if a part of the share is lost.
+/// have ended. Returns `None` if a part of the share is lost.
 ///
-/// If memory or a kernel thread is refused, `Team::fail` is called, and the kernel threads that have begun work without
-/// the others. The idea is that of a team of threads in OpenMP.
+/// If memory or a kernel thread is refused, `Team::fail` is called, and the kernel threads that have already begun go
+/// on without the others. The idea is that of a team of threads in OpenMP.
 pub fn work_together<H: Threads + Wait + Clock + Sync, S: Drop + Send, W: Team<S> + Sync>(
     rt: &H,
     alloc: Global,
@@ -83,7 +83,7 @@ pub fn work_together<H: Threads + Wait + Clock + Sync, S: Drop + Send, W: Team<S
 
 /// Splits off a share for one more kernel thread, and reserves room for that thread in `others`.
 ///
-/// Returns the remaining share, and the new share unless memory is refused.
+/// Returns what is left of `share`, and the new share, or `None` in place of the new share if memory is refused.
 fn part_off<H: Wait, S, W: Team<S>, O>(
     rt: &H,
     team: &W,
@@ -102,8 +102,8 @@ fn part_off<H: Wait, S, W: Team<S>, O>(
     team.part_off(rt, share)
 }
 
-/// Joins the other kernel threads, and returns all parts of the share joined, or `None` if one of the kernel threads
-/// has lost its part.
+/// Joins the other kernel threads. Returns all parts of the share joined, or `None` if one of the kernel threads has
+/// lost its part.
 fn join_all<H: Threads + Wait, S: Drop, W: Team<S>>(
     rt: &H,
     team: &W,

@@ -1,8 +1,7 @@
-//! Weights, by which a user of a shared object knows that nobody else uses it any more.
+//! Weights, by which the last user of a shared object knows that nobody else uses it any more.
 //!
-//! An object that threads share gives each thread a token. The first token has the whole weight, a split divides a
-//! token's weight, and a join adds up the weights of two. So whoever has the whole weight is the only user of the
-//! object.
+//! Each thread that uses a shared object has a token. The first token has the whole weight, a split divides a token's
+//! weight, and a join adds the weights of two. So whoever has the whole weight is the only user of the object.
 #![tactic(auto)]
 
 mod laws;

@@ -1,4 +1,4 @@
-//! A part of the whole weight 2^127, which is halved at a split and added up at a join.
+//! A part of the whole weight 2^127, which a split halves and a join adds up.
 ghost use Rattle.std.specs.Prelude.{◌≡◌, ◌↔◌, IsTrue};
 ghost use Rattle.arachne_weights.specs.Weight.{whole, first_part, second_part, joined};
 
@@ -6,7 +6,7 @@ use std::marker::Model;
 
 const WHOLE: u128 = 1 << 127;
 
-/// A part of the whole weight, 2^127. Contracts see a weight as a number.
+/// A part of the whole weight, 2^127. Contracts treat a weight as a number.
 #[derive(Clone, Copy, Debug, PartialEq, Eq)]
 pub struct Weight {
     amount: u128,
@@ -34,7 +34,7 @@ impl Weight {
     }
 
     /// Returns half of the weight, rounded up, and the other half. A weight of 1 or 0 can't be halved: both results are
-    /// 0.
+    /// then 0.
     pub fn split(self) -> (Weight, Weight)
         ensures first { result.0 ≡ first_part self }
         ensures second { result.1 ≡ second_part self }
@@ -47,7 +47,7 @@ impl Weight {
         (Weight { amount: first }, Weight { amount: second })
     }
 
-    /// Returns the sum of both weights, which is at most the whole.
+    /// Returns the sum of both weights, but at most the whole.
     pub fn join(self, other: Weight) -> Weight
         ensures { result ≡ joined self other }
     {

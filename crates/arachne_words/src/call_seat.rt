@@ -1,11 +1,11 @@
-//! A seat (the right of one kernel thread to use the table) while a call runs.
+//! A seat (the right of one kernel thread to use the table) during a call.
 use arachne_rule::View;
 use atomic_table::Seat;
 use std::marker::Model;
 
-/// A seat while a call runs. It may have taken slots (the fields with threads' values) out of the table.
+/// A seat during a call, in which it may have taken the value fields of threads out of the table.
 ///
-/// Contracts see the seat's table, its weight, its record, and those slots.
+/// Contracts refer to the seat's table, its weight, its record, and those fields (`slots`).
 #[derive(Drop)]
 pub(crate) struct CallSeat<T> {
     pub(crate) seat: Seat<Option<T>, View>,

@@ -1,4 +1,5 @@
-//! Reserves a free place of a core, or a whole empty core, for a new thread, and gives a reserved place back.
+//! Claims (reserves) a free place of a core, or a whole empty core, for a new thread, and frees a claim again. A place
+//! is one of a core's (at most 56) thread slots.
 ghost use Rattle.std.specs.Prelude.{◌≡◌, ◌<◌, true, false, slice_index_or, IfSome, IfNone, IfOk, IfErr};
 ghost use Rattle.arachne_core.specs.Occupancy.{occupancy_word};
 ghost use Rattle.arachne_rule.specs.Layout.{occ_index};
@@ -14,13 +15,12 @@ use crate::table::WordContexts;
 use arachne_contexts::{Claimed, Tagged};
 use arachne_core::{COUNT_ONE, EXCLUSIVE, OccWord, Place, SLOTS};
 
-/// The occupancy word of a core that one thread has for itself: exclusive, and only index 0 is taken.
+/// The occupancy word of a core that one thread has for itself: it is exclusive, and only index 0 is occupied.
 const WHOLE_CORE: u64 = EXCLUSIVE + COUNT_ONE + 1;
 
-/// Returns the number that a claim adds to its core's occupancy word, and that the release of the claim subtracts
-/// again.
+/// Returns the number that a claim adds to its core's occupancy word, and that freeing the claim subtracts again.
 ///
-/// The number has the index's bit, a one in the field of the count, and the exclusive bit if `alone` is true.
+/// It consists of the index's bit, 1 in the field of the count, and the exclusive bit if `alone` is true.
 fn claim_sum(index: u8, alone: bool) -> u64
     requires { index < SLOTS }
     ensures { result ≡ sum_of alone index }
@@ -30,7 +30,8 @@ fn claim_sum(index: u8, alone: bool) -> u64
 }
 
 impl<T: Tagged + Drop> WordContexts<T> {
-    /// Returns the lowest free index of a core, unless the core is exclusive.
+    /// Returns the lowest free index of the core whose occupancy word is `seen`, or `None` if the core is full or
+    /// exclusive.
     pub(crate) fn free_index(&self, seen: OccWord) -> Option<u8>
         ensures some { IfSome result (IsLowestFree self.now.shape.places_per_core seen) }
         ensures none { IfNone result (HasNoPlace self.now.shape.places_per_core seen) }
@@ -66,7 +67,7 @@ impl<T: Tagged + Drop> WordContexts<T> {
         Ok(())
     }
 
-    /// Claims the lowest free index of a core: reads the core's occupancy word once, and tries once.
+    /// Claims the lowest free index of a core for the caller. Reads the core's occupancy word once, and tries once.
     pub fn claim(&self, seat: &mut WordSeat<T>, core: u8) -> Claimed<WordClaim>
         requires own { seat.old.table ≡ self.now.table }
         requires core { core < self.now.shape.cores }
@@ -94,7 +95,8 @@ impl<T: Tagged + Drop> WordContexts<T> {
         }
     }
 
-    /// Tries once to claim a whole empty core, by an exchange of its occupancy word from 0.
+    /// Tries once to claim a whole empty core, by a compare-exchange of its occupancy word from 0. If the word isn't 0,
+    /// returns it as an error.
     fn try_claim_alone(&self, seat: &mut CallSeat<T>, core: u8) -> Result<(), u64>
         requires own { seat.old.table ≡ self.now.table }
         requires core { core < self.now.shape.cores }
@@ -110,7 +112,7 @@ impl<T: Tagged + Drop> WordContexts<T> {
         Ok(())
     }
 
-    /// Claims an empty core for one thread, at index 0: reads the core's occupancy word once, and tries once.
+    /// Claims a whole empty core for one thread, at index 0. Reads the core's occupancy word once, and tries once.
     pub fn claim_alone(&self, seat: &mut WordSeat<T>, core: u8) -> Claimed<WordClaim>
         requires own { seat.old.table ≡ self.now.table }
         requires core { core < self.now.shape.cores }
@@ -137,8 +139,8 @@ impl<T: Tagged + Drop> WordContexts<T> {
         }
     }
 
-    /// Frees a place, by one atomic subtraction from the core's occupancy word: of the place's bit, of 1 in the field
-    /// of the count, and of the exclusive bit if `alone` is true.
+    /// Frees a claimed place, by one atomic subtraction from the core's occupancy word: of the place's bit, of 1 in the
+    /// field of the count, and of the exclusive bit if `alone` is true.
     pub(crate) fn release(&self, seat: &mut CallSeat<T>, place: Place, alone: bool)
         requires own { seat.old.table ≡ self.now.table }
         requires claim { HasClaim self.now seat.old.known (record { place = place; alone = alone }) }
@@ -151,7 +153,7 @@ impl<T: Tagged + Drop> WordContexts<T> {
         shared.fetch_sub::<Release>(&mut seat.seat, word, less);
     }
 
-    /// Frees a claimed place at which no thread was put.
+    /// Frees a claimed place into which no thread was put.
     pub fn give_back(&self, seat: &mut WordSeat<T>, claim: WordClaim)
         requires own { seat.old.table ≡ self.now.table }
         requires claim { HasClaim self.now seat.old.known claim }

@@ -1,4 +1,4 @@
-//! Closes a core, which then takes no more threads, and opens it again.
+//! Closes a core, so that no place can be claimed on it, and opens it again.
 ghost use Rattle.std.specs.Prelude.{◌≡◌, ◌-◌, ◌^◌, ◌<◌, bit_and, bit_or};
 ghost use Rattle.arachne_core.specs.Occupancy.{IsOccupancyWord};
 ghost use Rattle.arachne_rule.specs.declared.view.Kind.TheVariants as kind;
@@ -35,8 +35,8 @@ impl<T: Tagged + Drop> WordContexts<T> {
         shared.fetch_and::<Open>(&mut seat.seat, self.core_word(core), !CLOSED)
     }
 
-    /// Closes a core, which then takes no more threads. Returns the core's occupancy word (which places are occupied,
-    /// as bits) from before the call.
+    /// Closes a core, so that no place can be claimed on it. Returns the core's occupancy word (a bit for each occupied
+    /// place) as it was before the call.
     pub fn close_core(&self, seat: &mut WordSeat<T>, core: u8) -> u64
         requires own { seat.old.table ≡ self.now.table }
         requires core { core < self.now.shape.cores }
@@ -46,7 +46,7 @@ impl<T: Tagged + Drop> WordContexts<T> {
         self.set_closed(&mut seat.at, core)
     }
 
-    /// Opens a core. Returns the core's occupancy word (which places are occupied, as bits) from before the call.
+    /// Opens a core. Returns the core's occupancy word (a bit for each occupied place) as it was before the call.
     pub fn open_core(&self, seat: &mut WordSeat<T>, core: u8) -> u64
         requires own { seat.old.table ≡ self.now.table }
         requires core { core < self.now.shape.cores }

@@ -1,4 +1,4 @@
-//! Ends a thread that a seat holds, and frees its place for another.
+//! Ends a thread that a seat holds, and frees its place (a core's thread slot) for another.
 ghost use Rattle.std.specs.Prelude.{◌≡◌, ℕ, ◌<◌};
 ghost use Rattle.arachne_rule.specs.Views.{without};
 ghost use Rattle.arachne_words.specs.Seats.{HasThread};
@@ -26,7 +26,7 @@ impl<T: Tagged + Drop> WordContexts<T> {
         shared.swap::<Retire>(&mut seat.seat, hold.id.context as usize, free.word());
     }
 
-    /// Ends the last thread of a context: the context is never used again.
+    /// Ends the thread of a context's last generation: the context is never used again.
     fn spend(&self, seat: &mut CallSeat<T>, hold: &WordHold)
         requires own { seat.old.table ≡ self.now.table }
         requires thread { (tag : ℕ) × HasThread self.now seat.old.known hold.now tag }
@@ -39,7 +39,7 @@ impl<T: Tagged + Drop> WordContexts<T> {
         shared.swap::<Spend>(&mut seat.seat, hold.id.context as usize, spent.word());
     }
 
-    /// Ends a thread, and frees its place, unless the thread was the last that its context may have.
+    /// Ends a thread, and frees its place, unless the context has reached its last generation.
     fn end_thread(&self, seat: &mut CallSeat<T>, hold: &WordHold)
         requires own { seat.old.table ≡ self.now.table }
         requires thread { (tag : ℕ) × HasThread self.now seat.old.known hold.now tag }
@@ -55,7 +55,9 @@ impl<T: Tagged + Drop> WordContexts<T> {
         self.release(seat, hold.place, hold.alone);
     }
 
-    /// Ends a thread. The thread's place is then free, unless the thread was the last that its context may have.
+    /// Ends a thread that the seat holds, and returns its value.
+    ///
+    /// The thread's place on its core is then free, unless the thread's context has reached its last generation.
     pub fn finish(&self, seat: &mut WordSeat<T>, thread: Held<T, WordHold>) -> T
         requires own { seat.old.table ≡ self.now.table }
         requires thread { HasThread self.now seat.old.known thread.hold (T.tag_of thread.value) }

@@ -1,4 +1,4 @@
-//! The value of each atomic word of a new table, in which all places are free.
+//! The initial value of each atomic word of a table, with no thread in it.
 ghost use Rattle.std.specs.Prelude.{◌≡◌, ◌+◌, ◌*◌, ◌<◌, ◌≤◌, ℕ, IfOk, vec_len, slice_index};
 ghost use Rattle.arachne_core.specs.declared.layout.TheConstants.{CORES, LAST_GENERATION, SLOTS};
 ghost use Rattle.arachne_words.specs.FirstWords.{first_word};
@@ -7,7 +7,7 @@ use arachne_core::{Mark, MarkWord, Place};
 use arachne_rule::{BLOCK, NAMES};
 use std::alloc::{AllocError, Global};
 
-/// Returns the word at this index of a new table with `contexts` contexts and cores of `slots` places.
+/// Returns the initial value of the word `index` in a table of `contexts` contexts and of cores with `slots` places.
 fn word_at(contexts: usize, slots: u8, generation: u64, index: usize) -> u64
     requires slots { slots ≤ SLOTS }
     requires contexts { contexts ≤ CORES * slots }
@@ -27,7 +27,7 @@ fn word_at(contexts: usize, slots: u8, generation: u64, index: usize) -> u64
     (core * usize::from(slots) + (offset - NAMES)) as u64
 }
 
-/// Returns the words of a table whose contexts are free and have this generation.
+/// Returns the initial words of a table whose contexts are free and have this generation.
 pub(crate) fn first_words(
     alloc: Global,
     cores: u8,

@@ -1,4 +1,4 @@
-//! Moves a thread that no seat holds to a claimed place on another core.
+//! Moves a thread that no seat holds to another core, into a place that the seat has claimed there.
 ghost use Rattle.std.specs.Prelude.{◌≡◌, ◌≢◌, ℕ, ◌<◌, ◌==◌, if◌then◌else◌, true, false, ◌↔◌, IsTrue, IfSome, IfNone, IfOk, IfErr};
 ghost use Rattle.arachne_core.specs.declared.layout.TheConstants.{CORE_BITS};
 ghost use Rattle.arachne_core.specs.Marked.{mark_word};
@@ -21,7 +21,7 @@ use crate::table::WordContexts;
 use arachne_contexts::{Moved, Tagged};
 use arachne_core::{Mark, MarkWord, Place};
 
-/// Returns whether a mark word (a context's packed state) says that the context is at the place.
+/// Returns whether the mark word `seen` (a context's packed state) says that the context is at `place`.
 fn stands_at(seen: MarkWord, place: Place) -> bool
     ensures { IsTrue result ↔ (seen.place ≡ place) }
 {
@@ -29,9 +29,9 @@ fn stands_at(seen: MarkWord, place: Place) -> bool
     at.core == place.core && at.index == place.index
 }
 
-/// Returns the reason why the thread that a mark word shows can't be moved, or `None` if it can.
+/// Returns the reason why the thread whose mark word is `seen` can't be moved, or `None` if it can be.
 ///
-/// The reasons are: there is no thread, its core is exclusive, or a seat holds the thread.
+/// The reasons are that there is no thread, that it has its core for itself, or that a seat holds it.
 fn obstacle(seen: MarkWord) -> Option<Moved>
     ensures some { IfSome result (IsObstacle seen) }
     ensures none { IfNone result (IsRestMark seen.mark × (seen.alone ≡ false)) }
@@ -45,8 +45,7 @@ fn obstacle(seen: MarkWord) -> Option<Moved>
 }
 
 impl<T: Tagged + Drop> WordContexts<T> {
-    /// Tries once to move a thread that no seat holds to a place on another core, at which the seat has claimed a
-    /// context.
+    /// Tries once to move a thread that no seat holds to a place on another core that the seat has claimed.
     fn try_move(
         &self,
         seat: &mut CallSeat<T>,
@@ -92,8 +91,8 @@ impl<T: Tagged + Drop> WordContexts<T> {
         shared.compare_exchange::<NameTarget>(&mut seat.seat, word, replaced as u64, context as u64)
     }
 
-    /// Writes its new place into the mark word of the free context with which the moved thread's context changes
-    /// places.
+    /// Writes the new place of a free context into that context's mark word: the place from which the moved thread
+    /// came.
     fn replace(&self, seat: &mut CallSeat<T>, context: usize, free: MarkWord)
         requires own { seat.old.table ≡ self.now.table }
         requires claimed { (c : Carried) × IsClaimed self.now seat.old.known c × (context ≡ c.context) × (free ≡ marked_free c) }
@@ -103,7 +102,8 @@ impl<T: Tagged + Drop> WordContexts<T> {
         shared.store::<Replace>(&mut seat.seat, context, free.word());
     }
 
-    /// Writes into the word of the place `source`, which a move has left, the number of the context that is there now.
+    /// Writes the number of the context that is now at `source`, the place from which a thread was moved, into that
+    /// place's word.
     fn name_source(&self, seat: &mut CallSeat<T>, source: Place, context: usize)
         requires own { seat.old.table ≡ self.now.table }
         requires place { IsPlaceIn self.now.shape source }
@@ -115,8 +115,8 @@ impl<T: Tagged + Drop> WordContexts<T> {
         shared.store::<NameSource>(&mut seat.seat, word, context as u64);
     }
 
-    /// Completes a move after the exchange of the thread's mark word (the atomic with its state and place): context
-    /// `replaced`, which was at the target, is at the source now.
+    /// Completes a move after the thread's mark word (the atomic with its state and place) was changed: the context
+    /// `replaced`, which was at the target place, is at the source now.
     fn move_off(
         &self,
         seat: &mut CallSeat<T>,
@@ -141,7 +141,7 @@ impl<T: Tagged + Drop> WordContexts<T> {
 
     /// Moves a thread that no seat holds to a place that the seat has claimed on another core.
     ///
-    /// If the thread's mark word has changed, the place is freed again.
+    /// If the thread's mark word has changed meanwhile, does not move the thread, and frees the place again.
     fn move_to(
         &self,
         seat: &mut CallSeat<T>,
@@ -177,8 +177,8 @@ impl<T: Tagged + Drop> WordContexts<T> {
         Moved::Moved
     }
 
-    /// Claims a place on the target core for a thread that no seat held when its mark word was read, and moves the
-    /// thread there.
+    /// Claims a place on the target core, and moves a thread there. `seen` is the thread's mark word, by which no seat
+    /// holds it.
     fn move_seen(
         &self,
         seat: &mut CallSeat<T>,
@@ -210,9 +210,9 @@ impl<T: Tagged + Drop> WordContexts<T> {
         self.move_to(seat, moving, seen, source, target)
     }
 
-    /// Moves the thread at a place to the lowest free index of another core, if no seat holds the thread. Tries once.
+    /// Moves the thread at `place` to the lowest free index of the core `to`, if no seat holds the thread. Tries once.
     ///
-    /// The thread's value stays in its slot, and only the place in its mark word changes.
+    /// The thread's value stays in its value field: only the place in its mark word changes.
     pub fn move_one(&self, seat: &mut WordSeat<T>, place: Place, to: u8) -> Moved
         requires own { seat.old.table ≡ self.now.table }
         requires place { IsPlaceIn self.now.shape place }

@@ -1,4 +1,4 @@
-//! Posts a thread: puts it at a place that the seat has claimed, ready to run.
+//! Posts a thread: puts it, ready to run, into a place that the seat has claimed.
 ghost use Rattle.std.specs.Prelude.{◌≡◌, ◌<◌, ◌∷◌, Some, None};
 ghost use Rattle.atomic_table.specs.Table.{rest};
 ghost use Rattle.arachne_rule.specs.declared.view.Carried.{Carried};
@@ -17,8 +17,8 @@ use arachne_contexts::Tagged;
 use arachne_core::{Mark, MarkWord, Place, ThreadId};
 
 impl<T: Tagged + Drop> WordContexts<T> {
-    /// Reads which context is at a place that the seat has claimed, and takes the context's empty slot (the field for a
-    /// thread's value) out of the table.
+    /// Reads which context is at a place that the seat has claimed, and takes that context's empty value field out of
+    /// the table.
     pub(crate) fn take_slot(&self, seat: &mut CallSeat<T>, place: Place) -> usize
         requires own { seat.old.table ≡ self.now.table }
         requires place { IsPlaceIn self.now.shape place }
@@ -29,7 +29,7 @@ impl<T: Tagged + Drop> WordContexts<T> {
         shared.load::<TakeSlot>(&mut seat.seat, self.name_word(place)) as usize
     }
 
-    /// Stores a thread's value in the slot (the field for it) that the seat has taken out of the table last.
+    /// Stores `value` in the value field that the seat took out of the table last.
     pub(crate) fn lay_in(&self, seat: &mut CallSeat<T>, context: usize, value: T)
         requires own { seat.old.table ≡ self.now.table }
         requires slot { seat.old.slots ≡ (context, None) ∷ rest seat.old.slots }
@@ -54,8 +54,9 @@ impl<T: Tagged + Drop> WordContexts<T> {
         shared.store::<Post>(&mut seat.seat, context, ready.word());
     }
 
-    /// Posts a thread: puts it at a claimed place, ready to run. The thread is ready, even if its core was closed after
-    /// the claim.
+    /// Puts a thread with this value, ready to run, into a claimed place. Returns the thread's id.
+    ///
+    /// The thread is ready even if its core was closed after the claim.
     pub fn post(&self, seat: &mut WordSeat<T>, claim: WordClaim, value: T) -> ThreadId
         requires own { seat.old.table ≡ self.now.table }
         requires claim { HasClaim self.now seat.old.known claim }

@@ -1,4 +1,4 @@
-//! Puts a thread that a seat holds back at its place, ready to run or blocked.
+//! Puts a thread that a seat holds back into the table, ready to run or blocked.
 ghost use Rattle.std.specs.Prelude.{◌≡◌, ◌<◌, IfOk, IfErr};
 ghost use Rattle.atomic_table.specs.Table.{rest};
 ghost use Rattle.arachne_core.specs.declared.mark.Mark.TheVariants as Mark;
@@ -27,7 +27,7 @@ impl<T: Tagged + Drop> WordContexts<T> {
         shared.store::<RestReady>(&mut seat.seat, context, ready.word());
     }
 
-    /// Tries once to put a thread that the seat holds back as blocked. Fails if the thread was woken.
+    /// Tries once to put a thread that the seat holds back as blocked. Fails if the thread was woken meanwhile.
     fn try_rest_blocked(
         &self,
         seat: &mut CallSeat<T>,
@@ -49,7 +49,7 @@ impl<T: Tagged + Drop> WordContexts<T> {
         Ok(())
     }
 
-    /// Stores the value of a thread that the seat holds in its context's slot, and puts the thread back.
+    /// Stores the value of a thread that the seat holds in the thread's value field, and puts the thread back.
     fn rest_thread(
         &self,
         seat: &mut CallSeat<T>,
@@ -81,7 +81,7 @@ impl<T: Tagged + Drop> WordContexts<T> {
 
     /// Puts back a thread that the seat holds, as ready or as blocked.
     ///
-    /// If `rest` asks for a blocked thread, but the thread was woken since it was taken, it is ready.
+    /// If `rest` is `Blocked`, but the thread was woken since the seat took it, the thread is ready instead.
     pub fn put_back(&self, seat: &mut WordSeat<T>, thread: Held<T, WordHold>, rest: Rest) -> Rested
         requires own { seat.old.table ≡ self.now.table }
         requires thread { HasThread self.now seat.old.known thread.hold (T.tag_of thread.value) }

@@ -1,4 +1,4 @@
-//! Makes a table with its first seat, splits a seat in two, and joins two seats into one.
+//! Creates a table with its first seat, splits a seat into two, and joins two seats into one.
 ghost use Rattle.std.specs.Prelude.{◌≡◌, ◌↔◌, ◌≤◌, [], IsTrue, IfOk, length};
 ghost use Rattle.arachne_core.specs.declared.layout.TheConstants.{CORES, LAST_GENERATION, SLOTS};
 ghost use Rattle.arachne_weights.specs.Weight.{whole, first_part, second_part, joined};
@@ -20,7 +20,9 @@ use std::alloc::{AllocError, Global};
 impl<T: Tagged + Drop> WordContexts<T> {
     /// Creates a table, and its first seat, which has the whole weight.
     ///
-    /// The table has `cores` cores of `slots` places, and its contexts are free and have this generation.
+    /// The table has `cores` cores of `slots` thread slots each. All its contexts are free, in generation
+    /// `first_generation`. A split halves a seat's weight and a join adds two, so a seat with the whole weight is the
+    /// only one.
     pub fn new(
         alloc: Global,
         cores: u8,
@@ -84,7 +86,7 @@ impl<T: Tagged + Drop> WordContexts<T> {
         self.table.shared.join_seat::<Deal>(&mut seat.seat, spent);
     }
 
-    /// Splits a seat in two, each with half of its weight, rounded up for the first. The first keeps the record of
+    /// Splits a seat into two, each with half of its weight, rounded up for the first. The first keeps the record of
     /// `seat`.
     ///
     /// If the weight is 1 or 0, both seats get weight 0.
@@ -115,7 +117,7 @@ impl<T: Tagged + Drop> WordContexts<T> {
         )
     }
 
-    /// Joins two seats into one, whose record has all threads that either has put into the table or ended.
+    /// Joins two seats into one, whose record has all threads that either seat has put into the table or ended.
     ///
     /// The weight of the result is the sum of both weights, but at most the whole.
     pub fn join_seats(&self, seat: WordSeat<T>, other: WordSeat<T>) -> WordSeat<T>
@@ -141,14 +143,14 @@ impl<T: Tagged + Drop> WordContexts<T> {
         }
     }
 
-    /// Returns whether all other seats were joined into this one.
+    /// Returns whether `seat` has the whole weight: all other seats were joined into it.
     pub fn is_whole(&self, seat: &WordSeat<T>) -> bool
         ensures { IsTrue result ↔ (seat.now.weight ≡ whole) }
     {
         seat.weight.is_whole()
     }
 
-    /// Returns the number of the seat's unused claims and held threads.
+    /// Returns how many unused claims and held threads the seat has together.
     pub fn out(&self, seat: &WordSeat<T>) -> u32
         ensures { result ≡ length seat.now.known.carried }
     {

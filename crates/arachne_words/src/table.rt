@@ -20,11 +20,12 @@ use atomic_table::Table;
 use std::alloc::Global;
 use std::marker::Model;
 
-/// A context table on atomic words. A kernel thread that has a seat may call the table, and no call waits.
+/// A context table on atomic words. Any kernel thread that has a seat may call the table, and no call waits.
 ///
-/// Contracts see the identity of the table, and its shape.
-// In the methods of this type a line `let _ = &self.places_per_core;` opens the table for the prover, which learns its
-// sizes there (`IsSized`).
+/// A *context* is the record of one user thread, and a *place* one of a core's thread slots. Contracts refer to the
+/// table, and its shape: the numbers of cores and of places, and the first and last generation.
+// In methods of this type, the line `let _ = &self.places_per_core;` gives the prover the invariant of this type
+// (`IsSized`), with the table's sizes.
 #[derive(Drop)]
 pub struct WordContexts<T: Tagged + Drop> {
     pub(crate) table: Table<Option<T>, View, Shape, ContextRule, Global>,
@@ -101,15 +102,15 @@ impl<T: Tagged + Drop> WordContexts<T> {
         shared.load::<LearnName>(&mut seat.seat, self.name_word(place)) as usize
     }
 
-    /// Returns the occupancy word of a core (which places are occupied, as bits), read without a seat. The contract
-    /// promises nothing of the word.
+    /// Returns the occupancy word of a core (a bit for each occupied place), read without a seat. The contract promises
+    /// nothing about its value.
     pub fn glance(&self, core: u8) -> u64
         requires core { core < self.now.shape.cores }
     {
         self.table.shared.peek(self.core_word(core))
     }
 
-    /// Returns the occupancy word of a core: which places are occupied, as bits.
+    /// Returns the occupancy word of a core: a bit for each occupied place.
     pub fn look(&self, seat: &mut WordSeat<T>, core: u8) -> u64
         requires own { seat.old.table ≡ self.now.table }
         requires core { core < self.now.shape.cores }

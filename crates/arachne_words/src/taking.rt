@@ -1,4 +1,4 @@
-//! Takes the ready thread at a place, with its value, so that the seat holds it.
+//! Takes the ready thread at a place, with its value. The seat then holds the thread.
 ghost use Rattle.std.specs.Prelude.{◌≡◌, ◌↔◌, IsTrue, ◌<◌, ◌∷◌, Some, None, IfOk, IfErr};
 ghost use Rattle.atomic_table.specs.Table.{rest};
 ghost use Rattle.arachne_core.specs.declared.mark.Mark.TheVariants as Mark;
@@ -18,7 +18,7 @@ use crate::table::WordContexts;
 use arachne_contexts::{Held, Tagged, Taken};
 use arachne_core::{Mark, MarkWord, Place, ThreadId};
 
-/// Returns whether a mark word (a context's packed state) shows a thread that is ready at the place.
+/// Returns whether the mark word `seen` (a context's packed state) shows a ready thread at `place`.
 fn is_ready_at(seen: MarkWord, place: Place) -> bool
     ensures { IsTrue result ↔ ((seen.mark ≡ Mark.Ready) × (seen.place ≡ place)) }
 {
@@ -44,7 +44,7 @@ impl<T: Tagged + Drop> WordContexts<T> {
         Ok(())
     }
 
-    /// Takes the thread's value out of the slot (the field for it) that the seat has taken out of the table last.
+    /// Takes the thread's value out of the value field that the seat took out of the table last.
     fn take_out(&self, seat: &mut CallSeat<T>, context: usize) -> T
         requires own { seat.old.table ≡ self.now.table }
         requires value { (value : T) × HasLast seat.old.slots context (Some value) }
@@ -57,8 +57,8 @@ impl<T: Tagged + Drop> WordContexts<T> {
             .unwrap()
     }
 
-    /// Writes the number of a taken thread's context into the word of its place, and puts the context's empty slot back
-    /// into the table.
+    /// Writes the number of a taken thread's context into the word of its place, and puts the context's empty value
+    /// field back into the table.
     fn keep_name(&self, seat: &mut CallSeat<T>, context: usize, place: Place)
         requires own { seat.old.table ≡ self.now.table }
         requires place { IsPlaceIn self.now.shape place }
@@ -70,7 +70,7 @@ impl<T: Tagged + Drop> WordContexts<T> {
         shared.store::<KeepName>(&mut seat.seat, word, context as u64);
     }
 
-    /// Takes the thread at a place, if it is ready. Tries once.
+    /// Takes the thread in slot `index` of `core`, if it is ready. The seat then holds the thread. Tries once.
     pub fn take(&self, seat: &mut WordSeat<T>, core: u8, index: u8) -> Taken<T, WordHold>
         requires own { seat.old.table ≡ self.now.table }
         requires place { IsPlaceIn self.now.shape (record { core = core; index = index }) }

@@ -1,4 +1,4 @@
-//! Wakes a thread by its id: a blocked thread becomes ready, and one held by a worker is marked as woken.
+//! Wakes a thread by its id. A blocked thread becomes ready; one that a worker holds is marked as woken.
 ghost use Rattle.std.specs.Prelude.{◌≡◌, ◌<◌, IfOk, IfErr};
 ghost use Rattle.arachne_core.specs.declared.mark.Mark.TheVariants as Mark;
 ghost use Rattle.arachne_core.specs.declared.layout.TheConstants.{CORE_BITS};
@@ -36,7 +36,7 @@ impl<T: Tagged + Drop> WordContexts<T> {
         Ok(())
     }
 
-    /// Tries once to mark as woken a thread that a worker holds.
+    /// Tries once to mark a thread that a worker holds as woken.
     fn try_mark_woken(
         &self,
         seat: &mut CallSeat<T>,
@@ -59,10 +59,10 @@ impl<T: Tagged + Drop> WordContexts<T> {
         Ok(())
     }
 
-    /// Wakes the thread of this id. Any id may be passed. Tries once.
+    /// Tries once to wake the thread with this id. Any id may be passed.
     ///
-    /// A blocked thread is then ready. If a worker holds the thread, the thread is marked, so that it is ready when it
-    /// is put back.
+    /// A blocked thread becomes ready. A thread that a worker holds is marked, so that it is ready when the worker puts
+    /// it back.
     pub fn wake(&self, seat: &mut WordSeat<T>, id: ThreadId) -> Woken
         requires own { seat.old.table ≡ self.now.table }
         ensures seat { (seat.new.table ≡ seat.old.table) × (seat.new.weight ≡ seat.old.weight) }

@@ -17,71 +17,72 @@ pub const API_VERSION: u32 = 1;
 /// The call succeeded.
 pub const DONE: u32 = 0;
 
-/// The handle is empty, or it is in use although it must be empty; or the handle's seat may not make this call now;
-/// or there is no such block, lock or ledger. Nothing has changed.
+/// The call was refused, and has changed nothing: the handle is empty, or is in use although it must be empty; or
+/// its seat may not make this call now; or there is no such block, lock or ledger.
 pub const REFUSED: u32 = 1;
 
-/// Memory was refused. Nothing has changed.
+/// The allocator refused memory. Nothing has changed.
 pub const NO_MEMORY: u32 = 2;
 
-/// Another thread was in a call on the lock. Nothing has changed: try again.
+/// Another thread was in a call on the same lock. Nothing has changed: try again.
 pub const CONTENDED: u32 = 3;
 
-/// Another thread was first. Nothing has changed: try again, with another number if the call registers a worker.
+/// Another thread was faster. Nothing has changed: try again; to register a worker, use another number.
 pub const LOST: u32 = 4;
 
-/// `who` holds the lock.
+/// `who` holds the lock now.
 pub const GRANTED: u32 = 5;
 
-/// `who` waits for the lock, and will own it once all tasks before it in the queue have freed it.
+/// `who` waits for the lock, and will hold it after all tasks before it in the queue have freed it or left the
+/// queue.
 pub const QUEUED: u32 = 6;
 
-/// `who` holds the lock or waits for it already.
+/// `who` already holds the lock or waits for it.
 pub const ALREADY_IN: u32 = 7;
 
 /// `who` has freed the lock, and nobody waited for it.
 pub const FREED: u32 = 8;
 
-/// `who` has freed the lock, and the task that had waited longest owns it now: wake that task.
+/// `who` has freed the lock, and the task that had waited longest holds it now: wake that task.
 pub const HANDED_ON: u32 = 9;
 
-/// `who` doesn't hold the lock. As the answer to a withdrawal: `who` neither holds the lock nor waits for it.
+/// `who` doesn't hold the lock. As the result of a withdrawal: `who` neither holds the lock nor waits for it.
 pub const NOT_HOLDER: u32 = 10;
 
-/// `who` waited for the lock, and waits no longer: `who` will not get the lock unless it asks again.
+/// `who` has left the queue of the lock, and will not get the lock unless it asks again.
 pub const LEFT: u32 = 11;
 
-/// No place of the block is free.
+/// No slot of the block is free.
 pub const FULL: u32 = 12;
 
-/// The handle holds the job: run it.
+/// The handle holds a job now: run it.
 pub const RUN: u32 = 13;
 
-/// The worker has set its idle bit, and then found no block of its shards that may have a ready job: sleep until
-/// you are unparked.
+/// The worker's idle bit is set, and after that no block of its shards was found that may have a ready job: sleep
+/// until you are unparked.
 pub const PARK: u32 = 14;
 
-/// The call took no job, or found that a block may have one: try again.
+/// The call took no job, or found a block that may have a ready one: try again.
 pub const AGAIN: u32 = 15;
 
-/// The job is ready.
+/// The job is ready to be run.
 pub const READY: u32 = 16;
 
-/// The job waits for a wake.
+/// The job is blocked until it is woken.
 pub const BLOCKED: u32 = 17;
 
-/// The job is ready or runs, and the wake is recorded. A take or a start clears that record. If neither follows,
-/// the job becomes ready instead of blocked at its next rest. A wake for the next job of a free place, by the name
-/// that this job will have, is recorded in the same way.
+/// The job is ready or runs, so the wake is recorded. A take or a start of the job clears that record. If neither
+/// follows, the record makes the job ready again instead of blocked when it next rests. If the name is the one that
+/// the next job of a free slot will have, the wake is recorded in the same way.
 pub const MARKED: u32 = 18;
 
 /// An earlier wake of the job is still recorded.
 pub const ALREADY_MARKED: u32 = 19;
 
-/// No job has this name now.
+/// No job has this name at present.
 pub const GONE: u32 = 20;
 
-/// The advice on a sample: keep the number of cores.
+/// The advice on a sample: keep the number of cores as it is.
 pub const STAY: u32 = 21;
 
 /// The advice on a sample: ask for one core more.
@@ -90,10 +91,10 @@ pub const ADD: u32 = 22;
 /// The advice on a sample: give one core back.
 pub const REMOVE: u32 = 23;
 
-/// The value of `unpark` in an answer if no worker must be unparked.
+/// The value of a result's field `unpark` if no worker must be unparked.
 pub const NOBODY: u32 = 64;
 
-/// A seat at an executor in C's layout: one pointer, which is null if there is no seat.
+/// C's handle on an executor: one pointer, to a thread's right to call it (a seat), or null if the handle is empty.
 #[repr(C)]
 pub struct ArachneExec {
     opaque: *mut u8,
@@ -103,30 +104,31 @@ impl ArachneExec {
     pub const NULL: ArachneExec = ArachneExec { opaque: std::ptr::null_mut() };
 }
 
-/// The result of an executor's end, for C: a code, and the jobs that had not ended.
+/// The result of ending an executor: a code, and the number of jobs that had not ended.
 #[repr(C)]
 #[derive(Clone, Copy, Debug, PartialEq, Eq)]
 pub struct ArachneExecLeft {
-    /// The number of jobs that are left, which were written to the caller's array.
+    /// The number of jobs that had not ended. Their numbers were written to the caller's array.
     pub count: u64,
     pub code: u32,
 }
 
-/// The result of a call on an executor: a code, the job, and the worker whose thread the caller must unpark.
+/// The result of a call on an executor: a code, the job, and the worker that the caller must unpark.
 #[repr(C)]
 #[derive(Clone, Copy, Debug, PartialEq, Eq)]
 pub struct ArachneExecTold {
-    /// The name of the job that was spawned, or that the handle holds: 20 bits for its place, and 44 for the
-    /// place's generation.
+    /// The name of the job that was spawned, or that the handle holds: 20 bits for its slot, and 44 for the slot's
+    /// generation, which is the number of jobs that have ended there.
     pub name: u64,
-    /// The number of the job that the handle holds, with which it was spawned.
+    /// The number of the job that the handle holds, as it was given to the spawn.
     pub job: u64,
     pub code: u32,
     /// The worker whose thread the caller must unpark, or NOBODY.
     pub unpark: u32,
 }
 
-/// A seat at a set of locks in C's layout: one pointer, which is null if there is no seat.
+/// C's handle on a set of locks: one pointer, to a thread's right to use them (a seat), or null if the handle is
+/// empty.
 #[repr(C)]
 pub struct ArachneLocks {
     opaque: *mut u8,
@@ -136,18 +138,20 @@ impl ArachneLocks {
     pub const NULL: ArachneLocks = ArachneLocks { opaque: std::ptr::null_mut() };
 }
 
-/// The answer of a lock. The events of each lock are numbered from 0, modulo 2^64.
+/// The result of a call on a lock. The events of each lock (grants, asks, frees and leaves) are numbered from 0,
+/// modulo 2^64.
 #[repr(C)]
 #[derive(Clone, Copy, Debug, PartialEq, Eq)]
 pub struct ArachneLockTold {
-    /// The number of the event: the grant, the ask, the free or the leave.
+    /// The number of this call's event: the grant, the ask, the free or the leave.
     pub at: u64,
-    /// The waiter that holds the lock now, if a free handed it on. The number of that grant is `at` + 1.
+    /// The task that holds the lock now, if a free handed it on. The event number of that grant is `at` + 1.
     pub next: u64,
     pub code: u32,
 }
 
-/// A share of a set of ledgers in C's layout: one pointer, which is null if there is no share.
+/// C's handle on a set of ledgers: one pointer, to a thread's right to add (a share), or null if the handle is
+/// empty.
 #[repr(C)]
 pub struct ArachneAdder {
     opaque: *mut u8,
@@ -157,7 +161,8 @@ impl ArachneAdder {
     pub const NULL: ArachneAdder = ArachneAdder { opaque: std::ptr::null_mut() };
 }
 
-/// An estimator in C's layout: its settings, and the threshold of each number of cores from 1.
+/// An estimator in C's layout: its settings, and for each number of cores from 1 its threshold, which is the
+/// utilisation below which a core may be given back.
 #[repr(C)]
 #[derive(Clone, Copy, Debug, PartialEq, Eq)]
 pub struct ArachneEstimator {
@@ -179,145 +184,146 @@ pub struct ArachneSample {
 }
 
 unsafe extern "C" {
-    /// Makes an executor of `shards` shards, and puts its first seat into an empty handle.
+    /// Creates an executor with `shards` shards, and puts its first seat into `exec`, which must be empty.
     ///
-    /// Shard s has the blocks 64 s to 64 s + 63, each of 64 places; worker s % 64 runs its jobs. Returns DONE;
-    /// REFUSED if the handle is in use, or if `shards` is greater than 256; NO_MEMORY.
+    /// Shard s has the blocks 64 s to 64 s + 63, each with slots for 64 jobs; worker s % 64 runs these jobs.
+    /// Returns DONE; REFUSED if the handle is in use, or if `shards` is greater than 256; NO_MEMORY.
     ///
     /// Threads: safe beside calls with other handles; two at once with `exec` are undefined behaviour.
     pub fn arachne_exec_new(exec: *mut ArachneExec, shards: usize) -> u32;
 
-    /// Splits a seat in two, for another thread: `other` gets the second part, which holds no job and has no worker
-    /// number.
+    /// Splits the seat of `exec` for another thread: `other` gets a new seat, without a job or a worker number.
     ///
     /// Returns DONE; REFUSED if `exec` is empty or `other` is in use; NO_MEMORY.
     ///
-    /// After more than 127 splits in a row, each of a part of the one before, splits still succeed but the executor
-    /// can't be ended any more.
+    /// After more than 127 splits in a row, each of one of the two seats that the split before resulted in (such as
+    /// `exec` each time), splits still succeed, but the executor can't be ended any more.
     ///
     /// Threads: safe beside calls with other handles; two at once with `exec` or `other` are undefined behaviour.
     pub fn arachne_exec_split(exec: *mut ArachneExec, other: *mut ArachneExec) -> u32;
 
-    /// Joins the seat of `other` into that of `exec`, so that `other` holds nothing.
+    /// Joins the seat of `other` into that of `exec`, and leaves `other` empty.
     ///
-    /// Returns DONE, or REFUSED if one of the handles is empty, or if `other` holds a job or is a worker. Both
-    /// handles must be of one executor, which is not checked. If they are of two executors, the executor of `other`
-    /// can't be ended any more, and the end of the executor of `exec` may return too few jobs.
+    /// Returns DONE, or REFUSED if one of the handles is empty, or if `other` holds a job or has a worker number.
+    /// The caller must pass two handles of one executor, which is not checked. If they are of two executors, the
+    /// executor of `other` can't be ended any more, and the end of the executor of `exec` may return too few jobs.
     ///
     /// Threads: safe beside calls with other handles; two at once with `exec` or `other` are undefined behaviour.
     pub fn arachne_exec_join(exec: *mut ArachneExec, other: *mut ArachneExec) -> u32;
 
-    /// Ends the executor, writes the jobs that are left to the beginning of `left`, and empties the handle.
+    /// Ends the executor, writes the numbers of the jobs that haven't ended to the beginning of `left`, and empties
+    /// the handle.
     ///
-    /// The jobs that are left were spawned and have not ended; jobs of number 0 are not written. A number that
-    /// several jobs have is written once for each of these jobs. Returns DONE with the count of jobs written;
-    /// REFUSED if the handle is empty or holds a job, or if not all other handles were joined into this one;
-    /// NO_MEMORY. Returns REFUSED also if `left` has less room than 4,096 jobs for each shard. Unless the code is
-    /// DONE, the count is 0, and the executor and `left` are unchanged.
+    /// A number that several such jobs have is written once for each of them; the number 0 is never written.
+    /// Returns DONE with the count of numbers written; REFUSED if the handle is empty or holds a job, if not all
+    /// other handles were joined into this one, or if `left` has room for fewer than 4,096 numbers for each shard;
+    /// NO_MEMORY. Unless the code is DONE, the count is 0, and the executor and `left` are unchanged.
     ///
     /// Threads: safe beside calls with other handles; two at once with `exec` are undefined behaviour.
     pub fn arachne_exec_end(exec: *mut ArachneExec, left: *mut u64, left_room: usize) -> ArachneExecLeft;
 
-    /// Frees the seat of a handle, if it has one, and the executor with the last of its handles.
+    /// Frees the seat of a handle, if it has one. The last handle of an executor frees the executor too.
     ///
-    /// A job that the handle holds stays at its place for ever, and the other handles can't end the executor any
+    /// If the handle holds a job, that job can never be run again. After this call, the executor can't be ended any
     /// more.
     ///
     /// Threads: safe beside calls with other handles; two at once with `exec` are undefined behaviour.
     pub fn arachne_exec_close(exec: *mut ArachneExec);
 
-    /// Makes the seat the worker with a number from 0 to 63.
+    /// Gives the handle's seat the worker number `worker`, from 0 to 63.
     ///
-    /// Returns DONE; LOST if another seat has that number; REFUSED if the handle is empty, if its seat is a worker
-    /// already, or if `worker` is greater than 63.
+    /// Returns DONE; LOST if another seat has that number; REFUSED if the handle is empty, if its seat already has
+    /// a worker number, or if `worker` is greater than 63.
     ///
     /// Threads: safe beside calls with other handles; two at once with `exec` are undefined behaviour.
     pub fn arachne_exec_register(exec: *mut ArachneExec, worker: u32) -> u32;
 
-    /// Frees the seat's worker number. Returns DONE, or REFUSED if the handle is empty or its seat is no worker.
+    /// Gives the seat's worker number back. Returns DONE, or REFUSED if the handle is empty or its seat has no such
+    /// number.
     ///
     /// Threads: safe beside calls with other handles; two at once with `exec` are undefined behaviour.
     pub fn arachne_exec_leave(exec: *mut ArachneExec) -> u32;
 
-    /// Puts a job at a free place of a block, where it is ready: one try.
+    /// Tries once to put `job` into a free slot of `block`, ready to be run by any thread.
     ///
-    /// Returns READY with the job's name, and the worker to unpark; FULL if no place of the block is free; LOST if
-    /// another thread was first; REFUSED if the handle is empty or there is no such block. A job with the number 0
+    /// Returns READY with the job's name, and the worker to unpark; FULL if no slot of the block is free; LOST if
+    /// another thread was faster; REFUSED if the handle is empty or there is no such block. A job with the number 0
     /// is not returned by `arachne_exec_end`.
     ///
     /// Threads: safe beside calls with other handles; two at once with `exec` are undefined behaviour.
     pub fn arachne_exec_spawn(exec: *mut ArachneExec, block: usize, job: u64) -> ArachneExecTold;
 
-    /// Tries once to put a job at a free place of a block, so that the handle holds the job and nobody else can
-    /// take it.
+    /// Tries once to put `job` into a free slot of `block`. The handle then holds the job, so nobody else can take
+    /// it.
     ///
-    /// Returns RUN with the job's name and number; FULL if no place of the block is free; LOST if another thread
-    /// was first; REFUSED if the handle is empty or holds a job, or if there is no such block.
+    /// Returns RUN with the job's name and number; FULL if no slot of the block is free; LOST if another thread was
+    /// faster; REFUSED if the handle is empty or holds a job, or if there is no such block.
     ///
     /// Threads: safe beside calls with other handles; two at once with `exec` are undefined behaviour.
     pub fn arachne_exec_spawn_here(exec: *mut ArachneExec, block: usize, job: u64) -> ArachneExecTold;
 
-    /// Returns the blocks of a shard that may have ready jobs, a bit for each of its 64 blocks, by one load.
+    /// Returns a bit for each of the 64 blocks of `shard` that may have ready jobs, by one load.
     ///
-    /// A block whose bit is clear has no ready job, or another thread is in a call that will set the bit, or find
-    /// that it needn't. Returns 0 also if the handle is empty or there is no such shard.
+    /// A block whose bit is clear has no ready job, unless a call in progress will still set the bit or find it
+    /// set. Returns 0 also if the handle is empty or there is no such shard.
     ///
     /// Threads: safe beside calls with other handles; two at once with `exec` are undefined behaviour.
     pub fn arachne_exec_shown(exec: *mut ArachneExec, shard: usize) -> u64;
 
-    /// Returns the places of a block that have a ready job, a bit for each of its 64 places, by one load.
+    /// Returns a bit for each of the 64 slots of `block` that has a ready job, by one load.
     ///
     /// Returns 0 also if the handle is empty or there is no such block.
     ///
     /// Threads: safe beside calls with other handles; two at once with `exec` are undefined behaviour.
     pub fn arachne_exec_ready(exec: *mut ArachneExec, block: usize) -> u64;
 
-    /// Tries once to take a ready job of a block, so that the handle holds it. The block may be any worker's.
+    /// Tries once to take a ready job of `block`, so that the handle holds the job. The block may be any worker's.
     ///
-    /// Returns RUN with the job's name and number; AGAIN if it took none; REFUSED if the handle is empty or holds a
-    /// job, or if there is no such block.
+    /// Returns RUN with the job's name and number; AGAIN if no job was taken; REFUSED if the handle is empty or
+    /// holds a job, or if there is no such block.
     ///
     /// Threads: safe beside calls with other handles; two at once with `exec` are undefined behaviour.
     pub fn arachne_exec_take(exec: *mut ArachneExec, block: usize) -> ArachneExecTold;
 
-    /// Takes up to `most` ready jobs of one block (64 places) by one atomic operation. The handle then holds them:
-    /// nobody else can run them. A `most` of 0 counts as 1.
+    /// Takes up to `most` ready jobs of `block` in one atomic operation. The handle then holds them, so nobody else
+    /// can take them. A `most` of 0 counts as 1.
     ///
-    /// Returns the places of the jobs that were taken, a bit for each of the block's 64 places. The next calls
-    /// concern the job at the lowest place, and once it rests or has ended the job at the next place.
-    /// `arachne_exec_start` returns that job's name and number. Returns 0 if no job was taken, if the handle is
-    /// empty or holds a job already, or if there is no such block.
+    /// Returns a bit for each of the block's 64 slots whose job was taken. The next calls concern the job in the
+    /// lowest of these slots; when that job rests or ends, the next calls concern the job in the next slot, and so
+    /// on. `arachne_exec_start` returns the number and the name of that job. Returns 0 if no job was taken, if the
+    /// handle is empty or holds a job already, or if there is no such block.
     ///
     /// Threads: safe beside calls with other handles; two at once with `exec` are undefined behaviour.
     pub fn arachne_exec_take_many(exec: *mut ArachneExec, block: usize, most: u32) -> u64;
 
-    /// Begins to run the next of the jobs that `arachne_exec_take_many` has taken: clears the record of a wake that
-    /// has come since the take.
+    /// Begins to run the next of the jobs that `arachne_exec_take_many` has taken. Clears the record of a wake that
+    /// came since the take.
     ///
     /// Returns RUN with the job's name and number, or REFUSED if the handle holds no job.
     ///
     /// Threads: safe beside calls with other handles; two at once with `exec` are undefined behaviour.
     pub fn arachne_exec_start(exec: *mut ArachneExec) -> ArachneExecTold;
 
-    /// Takes the next job of the worker's blocks that is ready, or lets the worker park.
+    /// Takes the next job that is ready in the blocks of the handle's worker, or lets the worker park.
     ///
     /// Returns RUN with the job's name and number; PARK if the worker must sleep; AGAIN if the caller must call
-    /// again; REFUSED if the handle is empty or holds a job, or if its seat is no worker.
+    /// again; REFUSED if the handle is empty or holds a job, or if its seat has no worker number.
     ///
     /// Threads: safe beside calls with other handles; two at once with `exec` are undefined behaviour.
     pub fn arachne_exec_next(exec: *mut ArachneExec) -> ArachneExecTold;
 
-    /// Sets the worker's idle bit, and then checks if a block of the worker may have ready jobs.
-    /// `arachne_exec_next` does the same if it finds no job.
+    /// Sets the worker's idle bit, by which other threads know to unpark it, and then checks if a block of the
+    /// worker may have ready jobs. `arachne_exec_next` does the same if it finds no job.
     ///
-    /// Returns PARK; AGAIN, with the bit cleared again; REFUSED if the handle is empty or its seat is no worker.
+    /// Returns PARK if no block may have any; AGAIN, after clearing the idle bit, if one may; REFUSED if the handle
+    /// is empty or its seat has no worker number.
     ///
     /// Threads: safe beside calls with other handles; two at once with `exec` are undefined behaviour.
     pub fn arachne_exec_may_park(exec: *mut ArachneExec) -> u32;
 
-    /// Clears the worker's idle bit, after a sleep that ended by itself.
+    /// Clears the worker's idle bit. Call it if the worker stops sleeping without having been unparked.
     ///
-    /// Returns DONE, or REFUSED if the handle is empty or its seat is no worker.
+    /// Returns DONE, or REFUSED if the handle is empty or its seat has no worker number.
     ///
     /// Threads: safe beside calls with other handles; two at once with `exec` are undefined behaviour.
     pub fn arachne_exec_wake_up(exec: *mut ArachneExec) -> u32;
@@ -328,32 +334,31 @@ unsafe extern "C" {
     /// Threads: safe beside calls with other handles; two at once with `exec` are undefined behaviour.
     pub fn arachne_exec_rest_ready(exec: *mut ArachneExec) -> ArachneExecTold;
 
-    /// Lets the job that the handle holds wait for a wake.
+    /// Blocks the job that the handle holds until it is woken.
     ///
-    /// Returns BLOCKED; READY with the worker to unpark, if a wake has come since the job was taken or started;
-    /// REFUSED if the handle holds no job.
+    /// Returns BLOCKED; READY with the worker to unpark, if the job was woken since it was taken or started, and so
+    /// is ready again; REFUSED if the handle holds no job.
     ///
     /// Threads: safe beside calls with other handles; two at once with `exec` are undefined behaviour.
     pub fn arachne_exec_rest_blocked(exec: *mut ArachneExec) -> ArachneExecTold;
 
-    /// Ends the job that the handle holds, and frees its place. Returns DONE, or REFUSED if the handle holds no
-    /// job.
+    /// Ends the job that the handle holds, and frees its slot. Returns DONE, or REFUSED if the handle holds no job.
     ///
-    /// A place is used for at most 2^44 - 1 jobs.
+    /// After 2^44 - 1 jobs a slot is retired and takes no more jobs.
     ///
     /// Threads: safe beside calls with other handles; two at once with `exec` are undefined behaviour.
     pub fn arachne_exec_finish(exec: *mut ArachneExec) -> u32;
 
-    /// Wakes the job of a name: one try.
+    /// Tries once to wake the job with this name.
     ///
     /// Returns READY with the worker to unpark, if the job was blocked; MARKED if it wasn't, and this wake is
     /// recorded; ALREADY_MARKED if a wake was recorded before; GONE if no job has the name; LOST if another thread
-    /// was first; REFUSED if the handle is empty.
+    /// was faster; REFUSED if the handle is empty.
     ///
     /// Threads: safe beside calls with other handles; two at once with `exec` are undefined behaviour.
     pub fn arachne_exec_wake(exec: *mut ArachneExec, name: u64) -> ArachneExecTold;
 
-    /// Tries once to wake the job of a name, and takes the job if it was blocked, so that the handle holds it.
+    /// Tries once to wake the job with this name. If the job was blocked, the handle then holds it.
     ///
     /// Returns RUN with the job's name and number, if the job was blocked. MARKED, ALREADY_MARKED, GONE and LOST
     /// are as in `arachne_exec_wake`; REFUSED if the handle is empty or holds a job.
@@ -361,126 +366,132 @@ unsafe extern "C" {
     /// Threads: safe beside calls with other handles; two at once with `exec` are undefined behaviour.
     pub fn arachne_exec_wake_here(exec: *mut ArachneExec, name: u64) -> ArachneExecTold;
 
-    /// Makes `count` locks, and puts the first seat into an empty handle.
+    /// Creates `count` locks, and puts their first seat, a thread's right to use them, into `locks`, which must be
+    /// empty.
     ///
     /// Returns DONE; REFUSED if the handle is in use; NO_MEMORY.
     ///
     /// Threads: safe beside calls with other handles; two at once with `locks` are undefined behaviour.
     pub fn arachne_locks_new(locks: *mut ArachneLocks, count: usize) -> u32;
 
-    /// Splits a seat in two, for another thread: `other` gets the new seat.
+    /// Splits the seat of `locks` for another thread: `other` gets a new seat.
     ///
     /// Returns DONE; REFUSED if `locks` is empty or `other` is in use; NO_MEMORY.
     ///
     /// Threads: safe beside calls with other handles; two at once with `locks` or `other` are undefined behaviour.
     pub fn arachne_locks_split(locks: *mut ArachneLocks, other: *mut ArachneLocks) -> u32;
 
-    /// Joins the seat of `other` into that of `locks`, so that `other` holds nothing.
+    /// Joins the seat of `other` into that of `locks`, and leaves `other` empty.
     ///
-    /// Returns DONE, or REFUSED if one of the handles is empty. Both handles must be of one set of locks, which is
-    /// not checked. If they are of two sets, the seat of `other` is only freed, as by `arachne_locks_close`.
+    /// Returns DONE, or REFUSED if one of the handles is empty. The caller must pass two handles of one set of
+    /// locks, which is not checked. If they are of two sets, the seat of `other` is only freed, as by
+    /// `arachne_locks_close`.
     ///
     /// Threads: safe beside calls with other handles; two at once with `locks` or `other` are undefined behaviour.
     pub fn arachne_locks_join(locks: *mut ArachneLocks, other: *mut ArachneLocks) -> u32;
 
-    /// Frees the seat of a handle, if it has one, and the locks with the last of their handles.
+    /// Frees the seat of a handle, if it has one. The last handle of a set of locks frees the locks too.
     ///
     /// Threads: safe beside calls with other handles; two at once with `locks` are undefined behaviour.
     pub fn arachne_locks_close(locks: *mut ArachneLocks);
 
-    /// Tries once to ask for a lock for `who`.
+    /// Tries once to ask for a lock for the task with the number `who`.
     ///
-    /// Returns GRANTED if `who` holds the lock now; QUEUED if `who` waits for it; ALREADY_IN if `who` held it or
-    /// waited before; NO_MEMORY, only if `who` would have to wait; CONTENDED if another thread was in a call on the
-    /// lock; REFUSED if the handle is empty or there is no such lock.
+    /// Returns GRANTED if `who` holds the lock now; QUEUED if `who` now waits for it; ALREADY_IN if `who` already
+    /// held it or waited; NO_MEMORY, only if `who` would have to wait; CONTENDED if another thread was in a call on
+    /// the lock; REFUSED if the handle is empty or there is no such lock.
     ///
     /// Threads: safe beside calls with other handles; two at once with `locks` are undefined behaviour.
     pub fn arachne_lock_ask(locks: *mut ArachneLocks, lock: usize, who: u64) -> ArachneLockTold;
 
     /// Tries once to free a lock that `who` holds.
     ///
-    /// Returns FREED if nobody waited; HANDED_ON if the waiter `next` owns the lock now; NOT_HOLDER if `who` didn't
-    /// hold it; CONTENDED if another thread was in a call on the lock; REFUSED if the handle is empty or there is
-    /// no such lock.
+    /// Returns FREED if nobody waited; HANDED_ON if the longest waiter, `next`, holds the lock now; NOT_HOLDER if
+    /// `who` didn't hold it; CONTENDED if another thread was in a call on the lock; REFUSED if the handle is empty
+    /// or there is no such lock.
     ///
     /// Threads: safe beside calls with other handles; two at once with `locks` are undefined behaviour.
     pub fn arachne_lock_free(locks: *mut ArachneLocks, lock: usize, who: u64) -> ArachneLockTold;
 
-    /// Tries once to take `who` out of the queue of a lock, such as when the future of `who` is dropped.
+    /// Tries once to take `who` out of the queue of a lock, for example because the future of `who` is dropped.
     ///
-    /// Returns LEFT if `who` waits no longer; GRANTED if `who` was granted the lock meanwhile, and must free it;
-    /// NOT_HOLDER if `who` neither waited nor held it; CONTENDED if another thread was in a call on the lock;
-    /// REFUSED if the handle is empty or there is no such lock.
+    /// Returns LEFT if `who` waits no longer; GRANTED if `who` was granted the lock meanwhile, so that the caller
+    /// must free it; NOT_HOLDER if `who` neither waited nor held it; CONTENDED if another thread was in a call on
+    /// the lock; REFUSED if the handle is empty or there is no such lock.
     ///
     /// Threads: safe beside calls with other handles; two at once with `locks` are undefined behaviour.
     pub fn arachne_lock_withdraw(locks: *mut ArachneLocks, lock: usize, who: u64) -> ArachneLockTold;
 
-    /// Tries once to find out if `who` holds a lock.
+    /// Tries once to find out whether `who` holds a lock.
     ///
-    /// Returns GRANTED with the number of the grant to `who`; NOT_HOLDER if `who` doesn't hold the lock; CONTENDED
-    /// if another thread was in a call on the lock; REFUSED if the handle is empty or there is no such lock.
+    /// Returns GRANTED, with the event number of the grant, if `who` holds it; NOT_HOLDER if not; CONTENDED if
+    /// another thread was in a call on the lock; REFUSED if the handle is empty or there is no such lock.
     ///
     /// Threads: safe beside calls with other handles; two at once with `locks` are undefined behaviour.
     pub fn arachne_lock_check(locks: *mut ArachneLocks, lock: usize, who: u64) -> ArachneLockTold;
 
-    /// Makes `count` ledgers, each of total 0, and puts their first share into an empty handle.
+    /// Creates `count` ledgers (counters), each of total 0, and puts their first share into `adder`, which must be
+    /// empty.
     ///
-    /// Returns DONE; REFUSED if the handle is in use; NO_MEMORY.
+    /// A share is one thread's right to add to the ledgers. Returns DONE; REFUSED if the handle is in use;
+    /// NO_MEMORY.
     ///
     /// Threads: safe beside calls with other handles; two at once with `adder` are undefined behaviour.
     pub fn arachne_ledgers_new(adder: *mut ArachneAdder, count: usize) -> u32;
 
-    /// Adds an amount to a ledger.
+    /// Adds `amount` to a ledger.
     ///
-    /// Returns false, with nothing changed, if the handle is empty or there is no such ledger.
+    /// Returns false, and changes nothing, if the handle is empty or there is no such ledger.
     ///
     /// Threads: safe beside calls with other handles; two at once with `adder` are undefined behaviour.
     pub fn arachne_ledger_add(adder: *mut ArachneAdder, ledger: usize, amount: u64) -> bool;
 
-    /// Reads the total of a ledger, modulo 2^64, once all other handles were joined into this one.
+    /// Writes the sum of all amounts added to a ledger, modulo 2^64, to `total`. The caller must first have joined
+    /// all other handles into this one.
     ///
-    /// Returns false, with nothing changed, if another handle was not joined into this one, if the handle is empty,
+    /// Returns false, and changes nothing, if another handle was not joined into this one, if the handle is empty,
     /// or if there is no such ledger.
     ///
     /// Threads: safe beside calls with other handles; two at once with `adder` are undefined behaviour.
     pub fn arachne_ledger_total(adder: *mut ArachneAdder, ledger: usize, total: *mut u64) -> bool;
 
-    /// Splits a share in two, for another thread: `other` gets the second part, to which nothing was added.
+    /// Splits the share of `adder` for another thread: `other` gets a new share, which has added nothing.
     ///
     /// Returns DONE; REFUSED if `adder` is empty or `other` is in use; NO_MEMORY.
     ///
-    /// After more than 127 splits in a row, each of a part of the one before, splits still succeed but no total can
-    /// be read.
+    /// After more than 127 splits in a row, each of one of the two shares that the split before resulted in (such
+    /// as `adder` each time), splits still succeed, but no total can be read any more.
     ///
     /// Threads: safe beside calls with other handles; two at once with `adder` or `other` are undefined behaviour.
     pub fn arachne_ledger_split(adder: *mut ArachneAdder, other: *mut ArachneAdder) -> u32;
 
-    /// Joins the share of `other` into that of `adder`, so that `other` holds nothing.
+    /// Joins the share of `other` into that of `adder`, and leaves `other` empty.
     ///
-    /// Returns false, with nothing changed, if one of the handles is empty. Both handles must be of one set of
-    /// ledgers, which is not checked. If they are of two sets, totals of the ledgers of `adder` may be read before
-    /// all of their handles were joined, and totals of the ledgers of `other` can't be read any more.
+    /// Returns false, and changes nothing, if one of the handles is empty. The caller must pass two handles of one
+    /// set of ledgers, which is not checked. If they are of two sets, the totals of `adder`'s ledgers may be
+    /// readable before all of their handles were joined, and the totals of `other`'s ledgers can't be read any
+    /// more.
     ///
     /// Threads: safe beside calls with other handles; two at once with `adder` or `other` are undefined behaviour.
     pub fn arachne_ledger_join(adder: *mut ArachneAdder, other: *mut ArachneAdder) -> bool;
 
-    /// Frees the share of a handle, if it has one, and the ledgers with the last of their handles.
+    /// Frees the share of a handle, if it has one. The last handle of a set of ledgers frees the ledgers too.
     ///
-    /// The other handles can't read a total any more.
+    /// After this call, no other handle can read a total.
     ///
     /// Threads: safe beside calls with other handles; two at once with `adder` are undefined behaviour.
     pub fn arachne_ledger_close(adder: *mut ArachneAdder);
 
-    /// Makes an estimator that has judged no sample yet. Returns false, with nothing changed, if `max` is greater
-    /// than 64.
+    /// Sets `estimator` to one that has judged no sample yet. Returns false, and changes nothing, if `max` is
+    /// greater than 64.
     ///
     /// Threads: safe beside calls with other memory; two at once with `estimator` are undefined behaviour.
     pub fn arachne_estimator_new(up: u64, hysteresis: u64, max: u64, estimator: *mut ArachneEstimator) -> bool;
 
-    /// Judges a sample, and returns STAY, ADD or REMOVE.
+    /// Judges `sample`, and returns STAY, ADD or REMOVE.
     ///
-    /// Returns REFUSED, with nothing changed, if the sample can't have been measured, or if the estimator's `max`
-    /// is greater than 64.
+    /// Returns REFUSED, and changes nothing, if the sample can't have been measured, or if the estimator's `max` is
+    /// greater than 64.
     ///
     /// Threads: safe beside calls with other memory; two at once with `estimator` are undefined behaviour.
     pub fn arachne_estimator_judge(estimator: *mut ArachneEstimator, sample: *const ArachneSample) -> u32;

@@ -16,29 +16,29 @@ pub const API_VERSION: u32 = 1;
 /// The call succeeded.
 pub const DONE: u32 = 0;
 
-/// The handle is empty, or is in use although it must be empty, or the event is not allowed now. Nothing has
-/// changed.
+/// The call was refused, and has changed nothing: the handle is empty, or is in use although it must be empty, or
+/// this event is not allowed now.
 pub const REFUSED: u32 = 1;
 
-/// Memory was refused. Nothing has changed.
+/// The allocator refused memory. Nothing has changed.
 pub const NO_MEMORY: u32 = 2;
 
-/// A client begins.
+/// The message by which a client introduces itself.
 pub const HELLO: u32 = 3;
 
-/// A kernel thread joins its client.
+/// The message by which a kernel thread joins its client.
 pub const JOIN: u32 = 4;
 
-/// A thread gives its core back, if it has one, and waits for another core.
+/// The message by which a thread gives its core back, if it has one, and waits for another core.
 pub const WAIT: u32 = 5;
 
-/// A client asks for a number of cores.
+/// The message by which a client asks for a number of cores.
 pub const ASK: u32 = 6;
 
-/// There are fewer bytes than a message has.
+/// The bytes are fewer than a message has.
 pub const SHORT: u32 = 7;
 
-/// The kind of message is unknown.
+/// The message is of an unknown kind.
 pub const KIND: u32 = 8;
 
 /// The client speaks another version of the protocol.
@@ -47,10 +47,10 @@ pub const VERSION: u32 = 9;
 /// The priority is out of range.
 pub const PRIORITY: u32 = 10;
 
-/// The place is out of range.
+/// The thread's number, `place`, is out of range.
 pub const PLACE: u32 = 11;
 
-/// A number that the message does not use is not 0.
+/// A field that this kind of message does not use is not 0.
 pub const UNUSED: u32 = 12;
 
 /// There is nothing to do.
@@ -59,17 +59,17 @@ pub const NOTHING: u32 = 13;
 /// The core was taken from the thread: move the thread away from the core.
 pub const TAKEN: u32 = 14;
 
-/// The core was given to the thread, which floats: move the thread to the core.
+/// The core was given to the thread, which floats (it doesn't wait for cores): move the thread to the core.
 pub const PLACED: u32 = 15;
 
-/// The core was given to the thread, which waited: move the thread to the core, and notify the thread.
+/// The core was given to the thread, which waited for one: move the thread to the core, and notify the thread.
 pub const GRANTED: u32 = 16;
 
-/// A message of a client. Fields that the message does not use are 0.
+/// A message from a client. Fields that this kind of message does not use are 0.
 #[repr(C)]
 #[derive(Clone, Copy, Debug, PartialEq, Eq)]
 pub struct ArachneMessage {
-    /// HELLO, JOIN, WAIT or ASK if the bytes begin with such a message; otherwise the code of the reason why they
+    /// HELLO, JOIN, WAIT or ASK if the bytes begin with such a message; otherwise the code that says why they
     /// don't.
     pub code: u32,
     pub priority: u32,
@@ -82,7 +82,7 @@ pub struct ArachneMessage {
     pub floats: bool,
 }
 
-/// An arbiter in C's layout: one pointer, which is null if there is no arbiter.
+/// C's handle on an arbiter: one pointer, which is null if the handle is empty.
 #[repr(C)]
 pub struct ArachneArbiter {
     opaque: *mut u8,
@@ -92,7 +92,7 @@ impl ArachneArbiter {
     pub const NULL: ArachneArbiter = ArachneArbiter { opaque: std::ptr::null_mut() };
 }
 
-/// The action that the caller must take on a thread. Fields that the action does not use are 0.
+/// The action that the caller must take on a thread. Fields that this action does not use are 0.
 #[repr(C)]
 #[derive(Clone, Copy, Debug, PartialEq, Eq)]
 pub struct ArachneAction {
@@ -114,31 +114,31 @@ pub struct ArachneShare {
 }
 
 unsafe extern "C" {
-    /// Reads the message at the beginning of the bytes.
+    /// Reads the message at the beginning of `bytes`.
     ///
     /// Returns HELLO, JOIN, WAIT or ASK; SHORT if there are fewer than 16 bytes; otherwise KIND, VERSION, PRIORITY,
-    /// PLACE or UNUSED, by the first of the message's four numbers that is not valid.
+    /// PLACE or UNUSED, for the first of the message's four numbers that is not valid.
     ///
     /// Threads: safe beside any call, if nobody writes to `bytes` meanwhile.
     pub fn arachne_message_read(bytes: *const u8, bytes_count: usize) -> ArachneMessage;
 
-    /// Makes an arbiter of the cores 0 to `cores` - 1, without clients, in an empty handle.
+    /// Creates an arbiter of the cores 0 to `cores` - 1, without clients, in `arbiter`, which must be empty.
     ///
     /// Returns DONE; REFUSED if the handle is in use, or if `cores` is greater than 1,024; NO_MEMORY.
     ///
     /// Threads: safe beside calls with other handles; two at once with `arbiter` are undefined behaviour.
     pub fn arachne_arbiter_new(arbiter: *mut ArachneArbiter, cores: u32) -> u32;
 
-    /// Frees the arbiter of a handle, if it has one.
+    /// Frees the arbiter of a handle, if it has one, and leaves the handle empty.
     ///
     /// Threads: safe beside calls with other handles; two at once with `arbiter` are undefined behaviour.
     pub fn arachne_arbiter_close(arbiter: *mut ArachneArbiter);
 
-    /// Adds a client with its priority (0 goes first), the cores that it reserves, and the most cores that it may
-    /// ask for.
+    /// Adds a client with its priority (0 is the highest), the cores that it reserves, and the most cores that it
+    /// may ask for.
     ///
-    /// `client`, the client's number, must be from 0 to 63, and no other client's. Returns DONE or REFUSED. The
-    /// caller must check that the client is entitled to this priority and these cores.
+    /// `client`, the client's number, must be from 0 to 63 and not in use. Returns DONE or REFUSED. The caller must
+    /// check that the client is entitled to this priority and these cores.
     ///
     /// Threads: safe beside calls with other handles; two at once with `arbiter` are undefined behaviour.
     pub fn arachne_arbiter_hello(arbiter: *mut ArachneArbiter, client: usize, priority: u8, reserved: u32, most: u32) -> u32;
@@ -154,33 +154,35 @@ unsafe extern "C" {
     /// Threads: safe beside calls with other handles; two at once with `arbiter` are undefined behaviour.
     pub fn arachne_arbiter_leave(arbiter: *mut ArachneArbiter, client: usize) -> u32;
 
-    /// Adds a thread to a client, at a free place from 0 to 63. A thread that floats never waits. Returns DONE or
-    /// REFUSED.
+    /// Adds a thread to a client, with a number `place` from 0 to 63 that is free. A thread that floats never waits
+    /// for a core. Returns DONE or REFUSED.
     ///
     /// Threads: safe beside calls with other handles; two at once with `arbiter` are undefined behaviour.
     pub fn arachne_arbiter_join(arbiter: *mut ArachneArbiter, client: usize, place: usize, floats: bool) -> u32;
 
-    /// Takes the core from a thread, if it has one, and lets the thread wait until a core is granted to it.
+    /// Takes the core from a thread, if it has one, and makes the thread wait until a core is granted to it.
     ///
-    /// Returns DONE, or REFUSED if the thread floats or waits already, or does not exist.
+    /// Returns DONE, or REFUSED if the thread floats, already waits, or does not exist.
     ///
     /// Threads: safe beside calls with other handles; two at once with `arbiter` are undefined behaviour.
     pub fn arachne_arbiter_wait(arbiter: *mut ArachneArbiter, client: usize, place: usize) -> u32;
 
-    /// Removes a thread. Returns DONE, or REFUSED if the client's number or the thread's place is greater than 63.
+    /// Removes a thread. Returns DONE, or REFUSED if the number of the client or of the thread is greater than 63.
     ///
     /// Threads: safe beside calls with other handles; two at once with `arbiter` are undefined behaviour.
     pub fn arachne_arbiter_end(arbiter: *mut ArachneArbiter, client: usize, place: usize) -> u32;
 
-    /// Computes again how many cores each client may have, from what all clients ask for now. Returns DONE or
-    /// REFUSED.
+    /// Computes anew how many cores each client may have, from the numbers that all clients ask for now. Returns
+    /// DONE or REFUSED.
     ///
     /// Threads: safe beside calls with other handles; two at once with `arbiter` are undefined behaviour.
     pub fn arachne_arbiter_decide(arbiter: *mut ArachneArbiter) -> u32;
 
-    /// Takes a core from a client that has more cores than it may have: from its last thread that has a core.
+    /// Takes a core from a client that has more cores than it may have, namely from its last thread that has a
+    /// core.
     ///
-    /// If that thread floats, the core is taken at once, otherwise only if `late` is set. Returns TAKEN or NOTHING.
+    /// If that thread floats, its core is taken at once; otherwise only if `late` is true, which means that the
+    /// client hasn't given a core back in time. Returns TAKEN or NOTHING.
     ///
     /// Threads: safe beside calls with other handles; two at once with `arbiter` are undefined behaviour.
     pub fn arachne_arbiter_take_back(arbiter: *mut ArachneArbiter, client: usize, late: bool) -> ArachneAction;
@@ -193,8 +195,7 @@ unsafe extern "C" {
     /// Threads: safe beside calls with other handles; two at once with `arbiter` are undefined behaviour.
     pub fn arachne_arbiter_give(arbiter: *mut ArachneArbiter) -> ArachneAction;
 
-    /// Returns the number of cores that a client may have, and the number that it has; 0 and 0 if the handle is
-    /// empty.
+    /// Returns how many cores a client may have, and how many it has. Both are 0 if the handle is empty.
     ///
     /// Threads: safe beside calls with other handles; two at once with `arbiter` are undefined behaviour.
     pub fn arachne_arbiter_share(arbiter: *mut ArachneArbiter, client: usize) -> ArachneShare;
