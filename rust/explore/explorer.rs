@@ -1,25 +1,26 @@
-//! An explorer of interleavings: real threads, of which one runs at a time in an order that a seed determines.
+//! An explorer of interleavings: it runs real threads one at a time, in an order that a seed determines.
 //!
 //! Each step of an atomic, a lock, a condition variable, an epoll, a clock or a thread is a *point*, at which another
-//! thread may take over. As in PCT (Burckhardt et al., 2010), each thread has a random priority, the runnable thread of
-//! the highest priority runs, and at a few points of a run the running thread drops behind all others. Unless the
-//! load's time is *exact*, it may also lose its processor for up to 16 ms. Locks and bells are the scheduler's own, so
-//! it knows which threads wait.
+//! thread may take over. Each thread has a random priority, and the runnable thread of the highest priority runs; at a
+//! few random points of a run, the running thread's priority becomes the lowest. Unless the load's time is *exact*, the
+//! running thread may also lose its processor for up to 16 ms. Locks and condition variables are the scheduler's own,
+//! so it knows which threads wait.
 //!
-//! Time is virtual. A point takes some nanoseconds, and if no thread can run, time jumps to the next one that sleeps.
-//! If no thread sleeps for a time, that is a *hang*, and so is a run of more than `LONGEST`. More than `STEPS` points
-//! are a *livelock*. Freed memory keeps a pattern until the end of the run: an atomic or a lock that has the pattern,
-//! or a block whose pattern has changed, was used after it was freed. A run must free all that it has allocated.
+//! Time is virtual. A point takes some nanoseconds; if no thread can run, time jumps to the wake of the next thread
+//! that sleeps. If no thread sleeps until a time either, that is a *hang*, and so is a run of more than `LONGEST`. More
+//! than `STEPS` points are a *livelock*. Freed memory keeps a pattern until the end of the run: an atomic or a lock
+//! that has the pattern, or a block whose pattern has changed, was used after it was freed. A run must free all that it
+//! has allocated.
 //!
-//! A hang, a livelock, a use of freed memory, a failed assertion and a fault each print the last points (`TRACE=1000`
-//! for more), the point at which each thread waits, and the load's name with the seed, which repeats the run.
-//! `explore/run` builds and runs it.
+//! At a hang, a livelock, a use of freed memory, a failed assertion or a fault, the explorer prints the last points
+//! (`TRACE=1000` for more), the point at which each thread waits, and the load's name with the seed, which repeats the
+//! run. The script `explore/run` builds and runs the explorer.
 //!
-//! The crate, and the model of the core, use atomics, locks and threads only through `sync.rs`. So the model's steps
-//! are points too, and nothing is assumed of it; the proved library is not tested here. Each point is sequentially
-//! consistent, so the explorer doesn't find a missing barrier or an order that is too weak. Nor does it find data races
-//! on other data between two points, or errors that need a condition variable's spurious wakes or another order of
-//! Linux's calls.
+//! The crate, and the model of its core, use atomics, locks and threads only through `sync.rs`. So the model's steps
+//! are points too, and nothing is assumed about the model; the proved library is not tested here. Each point is
+//! sequentially consistent, so the explorer doesn't find a missing barrier or an order that is too weak. Nor does it
+//! find data races on other data between two points, or errors that need a condition variable's spurious wakes or
+//! another order of Linux's calls.
 
 use std::alloc::{GlobalAlloc, Layout, System};
 use std::cell::{Cell, UnsafeCell};
@@ -36,7 +37,8 @@ const MOST: usize = 16;
 const STEPS: u64 = 300_000;
 const KEPT: usize = 1 << 12;
 const LONGEST: u64 = 10_000_000_000;
-/// After this many points a thread always drops behind all others: it may wait in a loop for one of them.
+/// After this many points (steps at which threads may switch), a thread always gets the lowest priority. It may be
+/// waiting in a loop for another thread.
 const PATIENCE: u64 = 3000;
 const START: u64 = 1_000_000_000;
 const NEVER: u64 = u64::MAX;
@@ -54,8 +56,8 @@ type Job = Box<dyn FnOnce() + Send>;
 
 struct Thread {
     state: Cell<State>,
-    /// The object that the thread waits for, the time until which it waits, and the epoll in which it does; and true if
-    /// it was woken.
+    /// How this thread waits, in four fields: for which object, until which time, in which epoll, and whether it was
+    /// woken.
     on: Cell<usize>,
     until: Cell<u64>,
     epoll: Cell<i32>,
@@ -80,7 +82,7 @@ struct Event {
 }
 const NO_EVENT: Event = Event { thread: 0, what: "", at: None, value: NEVER, now: START };
 
-/// The scheduler's state. Only the running thread uses it.
+/// The scheduler's state, which all threads share. Only the running thread accesses it.
 struct World {
     threads: [Thread; MOST],
     count: Cell<usize>,
@@ -93,22 +95,23 @@ struct World {
     switches: Cell<u64>,
     now: Cell<u64>,
     tick: Cell<u64>,
-    /// The point of the next change of priority, the mean number of points between two changes, and the last point at
-    /// which another thread took over.
+    /// Here and in the next two fields: the point (the number of a step) of the next change of priority, the mean
+    /// number of points between two changes, and the last point at which another thread took over.
     change: Cell<u64>,
     gap: Cell<u64>,
     began: Cell<u64>,
     lowest: Cell<u64>,
-    /// The thread that will lose its processor, the point at which it does, and for how many nanoseconds.
+    /// The thread that will lose its processor, the point (the number of a step) at which it does, and for how many
+    /// nanoseconds.
     loss: Cell<(usize, u64, u64)>,
-    /// The point, and the time, at which the scheduler chooses the running thread anew. The scheduler also chooses anew
-    /// when a thread was woken.
+    /// The point (the number of a step) and, in the next field, the time at which the scheduler next chooses which
+    /// thread runs. The scheduler also chooses again when a thread was woken.
     alarm: Cell<u64>,
     timer: Cell<u64>,
     stirred: Cell<bool>,
     events: UnsafeCell<[Event; KEPT]>,
 }
-// SAFETY: only the running thread uses it, and hands it to the next by `goes_on`.
+// SAFETY: only the running thread accesses it, and `go_on` makes the next thread the running one.
 unsafe impl Sync for World {}
 
 static WORLD: AtomicPtr<World> = AtomicPtr::new(std::ptr::null_mut());
@@ -157,7 +160,7 @@ impl World {
         let (steps, now) = (self.steps.get() + 1, self.now.get() + self.tick.get());
         self.steps.set(steps);
         self.now.set(now);
-        // SAFETY: of the thread that runs.
+        // SAFETY: only the running thread accesses the events.
         unsafe {
             (*self.events.get())[steps as usize % KEPT] = Event { thread: me, what, at: Some(at), value: NEVER, now }
         };
@@ -182,7 +185,7 @@ impl World {
             self.change.set(steps + 1 + self.random() % (2 * self.gap.get()));
             let until = self.now.get() + (1 << (10 + self.random() % 15));
             match if self.exact.get() { 0 } else { self.random() % 4 } {
-                // No thread has a processor; or this one hasn't.
+                // In case 3 no thread has a processor until then; in case 2 only this thread has none.
                 3 => self.now.set(until),
                 2 => {
                     self.wait(me, 0, until, -1);
@@ -203,7 +206,7 @@ impl World {
         self.began.set(self.steps.get());
     }
 
-    /// Lets the first of the threads that can run go on. Returns once the calling thread may go on.
+    /// Lets the runnable thread with the highest priority run. Returns when the calling thread may run again.
     fn go_on(&self, me: usize) {
         let next = loop {
             self.stirred.set(false);
@@ -229,7 +232,7 @@ impl World {
         let loss = if loses == next { from } else { NEVER };
         self.alarm.set(self.change.get().min(steps + self.threads[next].patience.get()).min(loss));
         if next != me {
-            // SAFETY: of the thread that runs.
+            // SAFETY: only the running thread accesses the events.
             old.last.set(unsafe { (*self.events.get())[steps as usize % KEPT] });
             self.switches.set(self.switches.get() + 1);
             self.threads[next].goes_on.store(true, SeqCst);
@@ -244,12 +247,12 @@ impl World {
         }
     }
 
-    /// Advances the virtual time, since no thread can run: wakes the thread that sleeps for the shortest time, unless
-    /// an epoll has an event of which no thread was notified.
+    /// Advances the virtual time, because no thread can run. Wakes the thread that sleeps for the shortest time, unless
+    /// an epoll has an event that no thread was notified of.
     fn pass_time(&self, timer: u64) {
         for thread in self.all().filter(|thread| thread.state.get() == State::Waits && thread.epoll.get() >= 0) {
             let mut what = [thread.epoll.get(), 1];
-            // SAFETY: one record of the eight bytes that Linux wants.
+            // SAFETY: there is one record, of the eight bytes that Linux expects.
             if unsafe { poll(&mut what, 1, 0) } == 1 {
                 return thread.state.set(State::Ready);
             }
@@ -262,7 +265,8 @@ impl World {
         self.now.set(timer);
     }
 
-    /// Lets this thread wait. Returns true if the thread was woken before its time.
+    /// Blocks this thread until another thread wakes it, or until the time `until`. Returns true if the thread was
+    /// woken before its time.
     fn wait(&self, me: usize, on: usize, until: u64, epoll: i32) -> bool {
         let thread = &self.threads[me];
         (thread.on.set(on), thread.until.set(until), thread.epoll.set(epoll), thread.told.set(false));
@@ -271,7 +275,7 @@ impl World {
         thread.told.get()
     }
 
-    /// Lets threads that wait for this object run: all of them, or one chosen at random.
+    /// Wakes the threads that wait for the object `on`: all of them or, if `one` is true, one chosen at random.
     fn tell(&self, on: usize, one: bool) {
         let waits = |thread: &&Thread| thread.state.get() == State::Waits && thread.on.get() == on;
         let count = self.all().filter(waits).count();
@@ -284,7 +288,7 @@ impl World {
         }
     }
 
-    /// Begins a job on an idle kernel thread, or on a new one.
+    /// Begins a job on an idle kernel thread or, if none is idle, on a new one.
     fn begin(&'static self, name: &str, job: Job) {
         let tracks = HELD.tracks.replace(false);
         let idle = (1..self.count.get()).find(|&at| self.threads[at].state.get() == State::Idle);
@@ -330,8 +334,8 @@ impl World {
     }
 }
 
-/// Marks a step of the calling thread, before which the scheduler may let another thread run. Does nothing outside of a
-/// run.
+/// Marks a step of the calling thread; before the step, the scheduler may let another thread run. Does nothing outside
+/// of a run.
 #[inline]
 fn point(what: &'static str, at: &'static Location<'static>) {
     let me = me();
@@ -340,11 +344,11 @@ fn point(what: &'static str, at: &'static Location<'static>) {
     }
 }
 
-/// Records for the trace the value that the step at the last point has read.
+/// Records, for the trace, the value that was read by the step at the last point.
 #[inline]
 fn seen(value: u64) {
     let world = world();
-    // SAFETY: of the thread that runs.
+    // SAFETY: only the running thread accesses the events.
     unsafe { (*world.events.get())[world.steps.get() as usize % KEPT].value = value };
 }
 
@@ -366,7 +370,7 @@ pub fn fail(what: &str) -> ! {
     };
     let lines = std::env::var("TRACE").ok().and_then(|lines| lines.parse().ok()).unwrap_or(40).min(KEPT as u64 - 1);
     let steps = world.steps.get();
-    // SAFETY: of the thread that runs.
+    // SAFETY: only the running thread accesses the events.
     let events = unsafe { &*world.events.get() };
     (steps.saturating_sub(lines) + 1..=steps).for_each(|step| tell(&mut text, &events[step as usize % KEPT]));
     for thread in world.all().filter(|thread| thread.state.get() != State::Idle) {
@@ -375,14 +379,15 @@ pub fn fail(what: &str) -> ! {
     }
     let (load, seed) = (world.load.get(), world.seed.get());
     text += &format!("FAILED {load} seed {seed} after {steps} points: {}\n", what.replace('\n', " "));
-    // If nobody reads the text, that is no failure.
+    // It is no failure if nobody reads the text.
     let _ = std::io::stdout().write_all(text.as_bytes());
-    // SAFETY: a call with a number alone. No destructor may run.
+    // SAFETY: the call takes only a number. No destructor may run, so the process ends at once.
     unsafe { _exit(1) }
 }
 
-/// Prepares the process for the first run. Keeps all threads on one processor, so that one wakes another cheaply. A
-/// panic on any thread, or a fault, ends the process. `clean` frees what a kernel thread keeps for its next calls.
+/// Prepares the process for the first run. Keeps all threads on one processor, which makes it cheap for one thread to
+/// wake another. A panic on any thread, or a fault, ends the process. `clean` must free what a kernel thread keeps for
+/// its later calls of the crate.
 pub fn prepare(clean: fn()) {
     extern "C" fn fault(_: i32) {
         fail("a fault: something was used after it was freed, most likely");
@@ -426,7 +431,7 @@ pub fn prepare(clean: fn()) {
     };
     world.threads[0].kernel.set(Some(Box::leak(Box::new(std::thread::current()))));
     WORLD.store(Box::leak(Box::new(world)), SeqCst);
-    // SAFETY: the mask has the eight bytes that are said, and the handler lives for ever.
+    // SAFETY: the mask has eight bytes, as the call says, and the handler lives for ever.
     unsafe {
         sched_setaffinity(0, 8, &(1 << (sched_getcpu().max(0) % 64)));
         for number in [4, 6, 7, 11] {
@@ -436,8 +441,9 @@ pub fn prepare(clean: fn()) {
     std::panic::set_hook(Box::new(|panic| fail(&panic.to_string())));
 }
 
-/// Runs a load once by this seed. Returns the numbers of points and of switches that it took. All threads that the load
-/// begins have to end, and all that the load allocates has to be freed, by the load or by `end`.
+/// Runs a load once, in the order that `seed` determines. Returns the number of points, and the number of switches
+/// between threads. All threads that the load starts must end, and the load or `end` must free all memory that the load
+/// allocates.
 pub fn run(name: &'static str, load: fn(), exact: bool, seed: u64, end: fn()) -> (u64, u64) {
     let world = world();
     (world.load.set(name), world.seed.set(seed), world.exact.set(exact));
@@ -464,7 +470,7 @@ pub fn run(name: &'static str, load: fn(), exact: bool, seed: u64, end: fn()) ->
     (world.steps.get(), world.switches.get())
 }
 
-/// Lets the calling thread not run for `time`, once `points` more points have passed.
+/// Takes the processor from the calling thread for `time`, after `points` more points have passed.
 pub fn lose_processor(points: usize, time: std::time::Duration) {
     let world = world();
     let from = world.steps.get() + points as u64;
@@ -472,7 +478,7 @@ pub fn lose_processor(points: usize, time: std::time::Duration) {
     world.alarm.set(world.alarm.get().min(from));
 }
 
-/// Returns a number below `count`, determined by the seed.
+/// Returns a number below `count`, which the seed determines.
 pub fn choose(count: usize) -> usize {
     world().random() as usize % count
 }
@@ -481,8 +487,8 @@ pub fn choose(count: usize) -> usize {
 
 const PATTERN: u8 = 0xdb;
 
-/// The blocks of memory that a run has freed, and the number that it has allocated and not freed; counted only if
-/// `tracks`.
+/// The blocks of memory that a run has freed, and the number of blocks that it has allocated and not yet freed; counted
+/// only if `tracks` is true.
 struct Held {
     tracks: Cell<bool>,
     live: Cell<isize>,
@@ -500,7 +506,8 @@ static HELD: Held = Held {
 
 impl Held {
     fn give_back(&self) {
-        // SAFETY: of the thread that runs; the blocks were handed to `dealloc`, and are as long as they say.
+        // SAFETY: only the running thread accesses the blocks, which were handed to `dealloc` and have the sizes of
+        // their layouts.
         unsafe {
             for &(at, layout) in &(&*self.blocks.get())[..self.count.replace(0)] {
                 if std::slice::from_raw_parts(at, layout.size()).iter().any(|&byte| byte != PATTERN) {
@@ -518,7 +525,7 @@ impl Held {
 /// The allocator of a program that explores.
 pub struct Memory;
 
-// SAFETY: the system's, which gets each block back once.
+// SAFETY: each call goes to the system's allocator, which gets each block back once.
 unsafe impl GlobalAlloc for Memory {
     unsafe fn alloc(&self, layout: Layout) -> *mut u8 {
         HELD.live.set(HELD.live.get() + HELD.tracks.get() as isize);
@@ -536,11 +543,11 @@ unsafe impl GlobalAlloc for Memory {
     }
 }
 
-/// Fails if this value lies in memory that was freed.
+/// Fails if the value `at` lies in memory that was freed.
 #[inline]
 fn check<T>(at: &T) {
     let bytes = at as *const T as *const u8;
-    // SAFETY: the value has so many bytes, and nobody else runs.
+    // SAFETY: the value has as many bytes as are read, and no other thread runs.
     let freed = unsafe {
         match std::mem::size_of::<T>() {
             8 => bytes.cast::<u64>().read() == u64::from_ne_bytes([PATTERN; 8]),

@@ -1,4 +1,4 @@
-//! Loads for the explorer, of some three kernel threads each.
+//! The loads that the explorer runs, of some three kernel threads each.
 
 use arachne::net::Async;
 use arachne::{
@@ -19,12 +19,12 @@ static MEMORY: explorer::Memory = explorer::Memory;
 const MS: Duration = Duration::from_millis(1);
 const LONG: Duration = Duration::from_millis(500);
 
-/// A runtime with so few places that a task may find none.
+/// Returns a runtime with so few task slots that a task may find none free.
 fn runtime(workers: usize) -> Runtime {
     Builder::new(workers).places(4 * workers).slices(None).build().unwrap()
 }
 
-/// A number that a thread can wait for.
+/// A number, with a condition variable on which a thread waits until the number is large enough.
 #[derive(Default)]
 struct Count(Mutex<usize>, Condvar);
 
@@ -41,7 +41,7 @@ impl Count {
     }
 }
 
-/// Tasks are spawned from outside as workers fall asleep: each task runs once.
+/// Tasks are spawned from outside while workers fall asleep: each task runs once.
 fn sleepers() {
     let (runtime, ran) = (runtime(2), Arc::new(Count::default()));
     for round in 0..3 {
@@ -57,7 +57,7 @@ fn sleepers() {
     }
 }
 
-/// If workers sleep, spawned and woken tasks run at once: no virtual time passes.
+/// If workers sleep, spawned and woken tasks run at once, that is, before any virtual time passes.
 fn prompt() {
     let (runtime, gate) = (runtime(2 + choose(2)), Arc::new(Semaphore::new(0)));
     for _ in 0..3 {
@@ -76,7 +76,8 @@ fn prompt() {
     }
 }
 
-/// As many tasks as workers, each of which blocks its worker until all have begun: each needs a worker of its own.
+/// There are as many tasks as workers, and each task blocks its worker until all have begun, so each needs a worker of
+/// its own.
 fn hands() {
     let (runtime, begun) = (runtime(2), Arc::new(Count::default()));
     for round in 1..3 {
@@ -184,8 +185,8 @@ fn closing() {
     assert_eq!(permits.available_permits(), free + count);
 }
 
-/// Handles spawn while their runtime ends, and while another runtime begins and gets the tables. Each task ends, or
-/// never begins, and no task gets into the other runtime.
+/// Handles spawn tasks while their runtime ends, and while another runtime begins and reuses its tables. Each task
+/// ends, or never begins, and no task gets into the other runtime.
 fn door() {
     let (first, dropped) = (runtime(2), Arc::new(Count::default()));
     let (handle, within) = (first.handle(), dropped.clone());
@@ -237,11 +238,12 @@ fn resets() {
     assert!(now() + 100_000 >= until && now() < until + SOON, "{} us", (now() as i64 - until as i64) / 1000);
 }
 
-/// Nanoseconds of virtual time, in which no machine is late, within which a ready task must begin.
+/// The nanoseconds of virtual time within which a ready task must begin; virtual time doesn't depend on the machine's
+/// load.
 const SOON: u64 = 5_000_000;
 
-/// Ready tasks behind a poll of 200 ms begin soon: the tasks in its worker's local queue, the task to run next, and the
-/// tasks that the poll makes ready.
+/// Ready tasks behind a poll of 200 ms begin soon: those in its worker's local queue, the one to run next, and those
+/// that the poll makes ready.
 fn behind() {
     let (runtime, begun) = (runtime(2 + choose(2)), Arc::new(Count::default()));
     let each = begun.clone();
@@ -270,8 +272,8 @@ fn behind() {
     begun.is(8);
 }
 
-/// A worker has a task in its local queue, makes another ready in its blocks, and begins a long poll: a free worker
-/// runs one at once.
+/// A worker has one task in its local queue, makes another ready in its task slot, and begins a long poll: a free
+/// worker runs one of them at once.
 fn apart() {
     let (runtime, begun) = (runtime(2), Arc::new(Mutex::new(Vec::new())));
     thread::sleep(choose(12) as u32 * MS);
@@ -290,13 +292,13 @@ fn apart() {
     assert!(late < 300_000, "after {} us", late / 1000);
 }
 
-/// A worker loses its processor as it ends a poll, or a little later: all tasks that are ready on it begin soon, except
-/// for the task that it has taken to run.
+/// A worker loses its processor as it ends a poll, or a little later: all its ready tasks begin soon, except for the
+/// task that it has taken to run.
 fn stands() {
     stands_on(runtime(2 + choose(2)));
 }
 
-/// As in `stands`, but the worker is the only one with a core, and another worker stands in for it.
+/// As in `stands`, but only this worker has a core, and another worker stands in for it.
 fn covered() {
     let runtime = runtime(2 + choose(2));
     arachne::set_active(&runtime, 1);
@@ -331,7 +333,7 @@ fn stands_on(runtime: Runtime) {
     assert!(late <= 1, "{late} begin late");
 }
 
-/// Long polls that spawn and wake tasks, while another worker makes the jobs in their workers' local queues ready.
+/// Long polls spawn and wake tasks, while another worker makes the jobs in their workers' local queues ready.
 fn relief() {
     let (runtime, ran, gate) = (runtime(2), Arc::new(Count::default()), Arc::new(Semaphore::new(0)));
     let task = |waits: u32| {
@@ -386,8 +388,8 @@ fn ticks() {
     assert!(runtime.block_on(ticking).unwrap_err().is_cancelled());
 }
 
-/// A worker wakes for a timer that was removed, just as a task comes to its blocks. The task waits for a task that it
-/// has spawned.
+/// A worker wakes for a timer that was removed, just as a task becomes ready in one of its task slots. That task waits
+/// for a task that it has spawned.
 fn stale() {
     let (runtime, mut waits, due) = (runtime(2 + choose(2)), sleep(40 * MS), now() + 40_000_000);
     let _ = runtime.enter(|| poll(&mut waits, &Arc::default()));
@@ -403,15 +405,16 @@ fn stale() {
     runtime.block_on(task).unwrap();
 }
 
-/// A worker whose tasks take some 50 us each and yield helps a worker that is in a long poll. It soon runs the task
-/// that is next there, and its own tasks have their turns, however many tasks that poll makes ready.
+/// A worker whose tasks take some 50 us each and yield helps a worker that is in a long poll. The helping worker soon
+/// runs the task that was to run next on the other, and still runs its own tasks in turn, however many tasks that poll
+/// makes ready.
 fn phases() {
     let runtime = Builder::new(2).places(512).slices(None).build().unwrap();
     let (begun, ended) = (Arc::new(Count::default()), Arc::new(Count::default()));
     let (begins, ends, many) = (begun.clone(), ended.clone(), choose(2) * 80);
     let task = runtime.spawn(async move {
         begins.add();
-        // Until the other worker is busy.
+        // Waits until the other worker is busy.
         thread::sleep(5 * MS);
         let since = now();
         let next = spawn(async move {
@@ -444,7 +447,7 @@ fn phases() {
     spins.into_iter().for_each(|spin| runtime.block_on(spin).unwrap());
 }
 
-/// The only worker is in a poll that waits for a ready task to run: the watcher runs it.
+/// The only worker is in a poll that waits for a ready task: the watcher runs that task.
 fn watcher() {
     let runtime = Builder::new(1).places(8).slices(None).watch_polls(10 * MS, false).build().unwrap();
     let ran = Arc::new(Count::default());
@@ -513,8 +516,8 @@ impl Drop for Counted {
     }
 }
 
-/// An orderly end: all who wait for it are woken, even a task that begins to wait at that moment or changes its waker,
-/// and tasks that are spawned then.
+/// At an orderly end, all tasks that wait for it are woken, even one that begins to wait or changes its waker at that
+/// moment. Tasks that these tasks then spawn still run.
 fn drain() {
     let (runtime, ended) = (runtime(2), Arc::new(Count::default()));
     for yields in 0..2 {
@@ -533,7 +536,7 @@ fn drain() {
     ended.is(2);
 }
 
-/// A sudden end: each task has run or is dropped, exactly once, and its handle returns which.
+/// At a sudden end, each task has run or is dropped, exactly once, and its handle returns which of the two.
 fn shutdown() {
     let (runtime, dropped, gate) = (runtime(2), Arc::new(Count::default()), Arc::new(Semaphore::new(0)));
     let task = |kind: usize| {
@@ -562,7 +565,7 @@ fn shutdown() {
     }
 }
 
-/// A runtime that one of its own tasks drops.
+/// A runtime is dropped by one of its own tasks.
 fn own() {
     let (runtime, dropped) = (Arc::new(runtime(2)), Arc::new(Count::default()));
     let (kept, ends, waits) = (runtime.clone(), Counted(dropped.clone()), Counted(dropped.clone()));
@@ -583,7 +586,8 @@ fn own() {
     dropped.await_all(2);
 }
 
-/// More tasks than places: all tasks with a place wait for a task that gets its place only when another task ends.
+/// There are more tasks than task slots, and all tasks with a slot wait for a task that gets a slot only when another
+/// task ends.
 fn room() {
     let (runtime, gate) = (runtime(2), Arc::new(Semaphore::new(0)));
     let mut tasks: Vec<JoinHandle<()>> = Vec::new();
@@ -598,8 +602,8 @@ fn room() {
     }
 }
 
-/// Three senders at a full channel of one value: no value is lost, each sender's values are in order, and a sender that
-/// got its turn and found the channel full again is next.
+/// Three senders share a full channel of one value: no value is lost, and each sender's values stay in order. A sender
+/// that got its turn and found the channel full again is the next to get a turn.
 fn channels() {
     let (sender, receiver) = channel(1);
     sender.try_send(0).unwrap();
@@ -634,7 +638,7 @@ fn channels() {
     senders.into_iter().for_each(|task| runtime.block_on(task).unwrap());
 }
 
-/// Waiters leave when their time is over: no permit and no value is lost.
+/// Waiters of a semaphore and a channel leave when their time is over: no permit and no value is lost.
 fn leaving() {
     let (runtime, gate, (sender, receiver)) = (runtime(2), Arc::new(Semaphore::new(1)), channel(1));
     let tasks: Vec<_> = (0..3)
@@ -700,7 +704,7 @@ fn cores() {
     assert!(now() - since < 300_000, "after {} us", (now() - since) / 1000);
 }
 
-/// A core is given back while its worker is in a poll that waits for the jobs in its own local queues.
+/// A core is given back while its worker is in a poll that waits for the jobs in the worker's own local queues.
 fn returned() {
     let policy = Policy { every: MS, min_cores: 2, ..Policy::default() };
     let runtime = Builder::new(3).places(12).slices(None).policy(policy).build().unwrap();
@@ -724,7 +728,7 @@ fn returned() {
     }
 }
 
-/// Cores are given and taken at any time, as under an arbiter: ready tasks are run at once.
+/// Cores are given and taken at any time, as by an arbiter, and ready tasks are still run at once.
 fn granted() {
     let runtime = Builder::new(3).places(12).slices(None).build().unwrap();
     for _ in 0..3 {
@@ -748,8 +752,8 @@ fn granted() {
     }
 }
 
-/// Sockets are opened and closed: an event of a closed socket doesn't reach the next socket of its number, whose task
-/// would read in vain.
+/// Sockets are opened and closed: an event of a closed socket doesn't reach the next socket with the same number, whose
+/// task would read in vain.
 fn sockets() {
     let runtime = runtime(2);
     for round in 0..2 {
@@ -787,7 +791,7 @@ fn sockets() {
     }
 }
 
-/// Three tasks wait for one socket, and one may leave: each of the others reads a byte.
+/// Three tasks wait for one socket, and one of them may leave: each of the others reads a byte.
 fn crowd() {
     let (runtime, (mut near, far)) = (runtime(2), UnixStream::pair().unwrap());
     let (far, leaves) = (Arc::new(Async::new(far).unwrap()), choose(2) == 0);
@@ -808,7 +812,7 @@ fn crowd() {
     assert!(read == 3 || leaves && read == 2);
 }
 
-/// Three tasks want a lock, and one of them may leave the queue of waiters; there is work on the blocking pool, too.
+/// Three tasks want a lock, and one of them may leave the queue of waiters, while the blocking pool has work, too.
 fn locks() {
     let (runtime, lock, inside) = (runtime(2), Arc::new(Lock::new(0)), Arc::new(Mutex::new(false)));
     let tasks: Vec<_> = (0..3)
@@ -840,7 +844,7 @@ impl Drop for Leaves {
     }
 }
 
-/// A load's name, its function, and whether its time is exact.
+/// A load's name, its function, and whether its time is *exact* (no thread loses its processor).
 type Load = (&'static str, fn(), bool);
 const LOADS: [Load; 31] = [
     ("sleepers", sleepers, false),

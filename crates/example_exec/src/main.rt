@@ -1,4 +1,4 @@
-//! Jobs that wait for one another, run by two and then by four kernel threads over `arachne_exec`.
+//! Jobs that wait for one another, run by two and then by four kernel threads, with the executor `arachne_exec`.
 #![tactic(auto)]
 
 mod relay;

@@ -17,16 +17,16 @@ use std::time::Clock;
 #[derive(Drop)]
 pub struct Relay {
     executor: Executor,
-    /// The number of kernel threads. Each kernel thread is the worker of one shard.
+    /// The number of kernel threads. Each of them is the worker of one shard, a part of the executor's task table.
     team: u8,
-    /// The executor's name of each job.
+    /// For each job, the name by which the executor knows it.
     names: Vec<AtomicU64>,
     /// The number of the last job that has ended.
     last: AtomicU64,
     parkers: Vec<Parker>,
 }
 
-/// Spawns `jobs` jobs at each shard, and returns their names.
+/// Spawns `jobs` jobs in each shard (a part of the executor's task table), and returns their names.
 fn spawn_all(
     alloc: Global,
     executor: &Executor,
@@ -51,9 +51,10 @@ fn spawn_all(
 }
 
 impl Relay {
-    /// Creates a relay of `jobs` jobs for each of `team` kernel threads.
+    /// Returns a relay with `jobs` jobs for each of `team` kernel threads.
     ///
-    /// Returns the relay with the seat of the first kernel thread. The error is a refusal of memory.
+    /// Also returns the seat of the first kernel thread, which is that thread's handle of the executor. Returns an
+    /// error if memory is refused.
     pub fn new(alloc: Global, team: u8, jobs: usize) -> Result<(Relay, ExecSeat), AllocError>
         ensures seat { IfOk result (λ made. IsFree made.0.executor made.1) }
         ensures team { IfOk result (λ made. made.0.team ≡ team) }
@@ -79,9 +80,9 @@ impl Relay {
         self.last.load(Ordering::SeqCst)
     }
 
-    /// Closes the relay, and returns the number of jobs that are left.
+    /// Closes the relay, and returns the number of jobs that have not ended.
     ///
-    /// Returns `None` if another seat is still in use or if memory is refused.
+    /// Returns `None` if another seat (a thread's handle of the executor) is still in use or if memory is refused.
     pub fn close(self, alloc: Global, seat: ExecSeat) -> Option<usize>
         requires { IsFree self.executor seat }
     {
@@ -98,7 +99,7 @@ impl Relay {
         }
     }
 
-    /// Wakes the job at an index of `names`, if there is one.
+    /// Wakes the job `names[index]`, if there is one.
     fn wake<R: Wait>(&self, rt: &R, seat: &mut ExecSeat, index: usize)
         requires { HasNone self.now.executor seat.old }
         ensures { HasNone self.now.executor seat.new × (seat.new.known.worker ≡ seat.old.known.worker) }
@@ -119,7 +120,7 @@ impl Relay {
         }
     }
 
-    /// Ends a job and wakes the next one, if the previous job has ended; otherwise blocks the job.
+    /// Ends `job` and wakes the next one, if the job before it has ended; otherwise blocks `job`.
     fn run<R: Wait>(&self, rt: &R, seat: &mut ExecSeat, job: HeldJob)
         requires own { HasOne self.now.executor job seat.old }
         requires place { job.place < 4096 * self.now.executor.shards }
@@ -189,7 +190,7 @@ impl Team<ExecSeat> for Relay {
     }
 
     /// Called if a kernel thread can't be started: ends the relay early, since the others would wait forever for the
-    /// jobs of the missing thread's shard.
+    /// jobs that this thread should run.
     fn fail<R: Wait>(&self, _rt: &R, _fault: TeamFault) {
         self.last.store(self.names.len() as u64, Ordering::SeqCst);
         self.unpark_all();

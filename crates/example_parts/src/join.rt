@@ -1,6 +1,6 @@
-//! A fork and its join, by a join cell.
+//! Forks a computation and joins it, through a join cell.
 //!
-//! A child on another kernel thread leaves its result in the cell, and the parent fetches it from there.
+//! A child on another kernel thread puts its result into the cell, and the parent fetches it from there.
 
 ghost use Rattle.std.specs.Prelude.{◌≡◌, ◌*◌, ◌%◌, ◌^◌, IfOk};
 
@@ -25,7 +25,8 @@ type Cell = JoinCell<Square, u64>;
 /// The number of squares that are added up in the end, each computed by a kernel thread of its own.
 const MANY: u64 = 10_000;
 
-/// Leaves the square of `number` in the cell, and wakes the parent. Uses up the sending end.
+/// Puts the square of `number` into the cell, and wakes the parent. The call consumes the sending end, so the cell gets
+/// no second value.
 fn leave(cell: &Cell, end: SendingEnd<Square, u64>, number: u64, left: &Parker)
     requires place { end ≡ cell.now.table }
     requires what_for { cell.now.key ≡ number }
@@ -49,7 +50,7 @@ fn fetch<R: Wait>(rt: &R, cell: &Cell, left: &Parker) -> u64
 
 /// Returns the square of `number`, computed on another kernel thread.
 ///
-/// The error is a refusal of memory.
+/// Returns an error if memory is refused.
 fn square_beside<R: Threads + Wait + Sync>(
     rt: &R,
     alloc: Global,

@@ -10,7 +10,7 @@ use arachne_lang::{CheckFault, Meaning, TextFault, check, eval, parse};
 use std::alloc::{AllocError, Global};
 use thiserror::Error;
 
-/// A program of two threads that hold lock 0 in turn and add to ledger 0.
+/// A program of two threads, which take lock 0 in turn and add to ledger 0 (a counter).
 const TEXT: &str = "arachne 1
 ledgers 1
 locks 1
@@ -28,8 +28,7 @@ enum Refused {
     Memory(#[from(alloc)] AllocError),
 }
 
-/// Parses and checks the program in `text`, and evaluates it: returns its value, the totals of its ledgers and its
-/// threads.
+/// Parses, checks and evaluates the program in `text`: returns its value, the totals of its ledgers and its threads.
 fn meaning(alloc: Global, text: &[u8]) -> Result<Meaning, Refused>
     ensures { IfOk result (λ meaning. (program : Source) × (text_of program ≡ text.now) × (meaning ≡ meaning_of program)) }
 {

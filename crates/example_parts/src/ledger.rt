@@ -1,4 +1,4 @@
-//! Two kernel threads add the halves of a list to one ledger, which then has the sum of the list.
+//! Two kernel threads add the halves of a list to one ledger (a counter), which then has the sum of the list.
 
 ghost use Rattle.std.specs.Prelude.{◌≡◌, ◌%◌, ◌^◌, [], ◌∷◌, IfSome, sum};
 ghost use Rattle.arachne_ledger.specs.Views.{IsShareOf};
@@ -9,7 +9,8 @@ use std::alloc::Global;
 use std::thread;
 use std::thread::Threads;
 
-/// Adds each number to the only ledger. The share must be one through which nothing was added before.
+/// Adds each of `numbers` to the only ledger. The caller must pass a share (a thread's part of the ledgers) through
+/// which nothing was added before.
 fn add_all(ledgers: &Ledgers, mut share: Share, numbers: &[u64]) -> Share
     requires own { IsShareOf ledgers.now share }
     requires one { ledgers.now.count ≡ 1 }

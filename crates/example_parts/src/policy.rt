@@ -1,4 +1,4 @@
-//! Judges samples of a load one after another: when to ask for a core, and when to give one back.
+//! Asks the core policy about samples of a load, one after another: when to ask for a core, and when to give one back.
 
 ghost use Rattle.std.specs.Prelude.{◌≡◌, [], IfOk};
 ghost use Rattle.arachne_policy.specs.Advice.{advices};
@@ -45,7 +45,7 @@ fn sample(cores: u64, runnable: u64, busy: u64) -> Sample {
 }
 
 pub fn show(rt: &impl Print, alloc: Global) -> Result<()> {
-    // Two cores had too much to run, so that a third was requested. Now there is work for only 1.8 cores.
+    // On two cores there was too much to run, so a third core was requested. Now there is work for only 1.8 cores.
     let samples = [
         sample(2, 151, 1900),
         sample(3, 100, 1810),

@@ -13,7 +13,7 @@ use std::thread;
 use std::thread::Threads;
 use std::time::{Clock, Duration};
 
-/// Asks for the lock, and returns once the thread holds it.
+/// Asks for the lock, and returns once this thread holds it.
 ///
 /// Returns `None` if memory is refused.
 fn enter<R: Wait + Clock>(rt: &R, lock: &SleepLock, seat: &mut LockSeat, who: Who) -> Option<()>
@@ -23,10 +23,10 @@ fn enter<R: Wait + Clock>(rt: &R, lock: &SleepLock, seat: &mut LockSeat, who: Wh
     for _ in rt.forever() {
         match lock.ask(seat, who) {
             Tried::Answered(Ok(Asked::Granted(_))) => return Some(()),
-            // The thread has a place in the queue: whoever frees the lock learns who is next, and may wake that thread.
+            // This thread is in the lock's queue: whoever frees the lock learns which thread is next, and may wake it.
             Tried::Answered(Ok(Asked::Queued { .. })) => break,
             Tried::Answered(Err(_)) => return None,
-            // Another seat is using the lock at the moment, and nothing has changed: try again.
+            // Another thread's call on the lock is in progress, and nothing has changed: try again.
             Tried::Contended => thread::sleep(rt, Duration::from_micros(50)),
         }
     }
@@ -39,7 +39,7 @@ fn enter<R: Wait + Clock>(rt: &R, lock: &SleepLock, seat: &mut LockSeat, who: Wh
     unreachable!()
 }
 
-/// Frees the lock. Returns `None` if the thread didn't hold the lock.
+/// Frees the lock. Returns `None` if this thread didn't hold the lock.
 fn leave<R: Wait>(rt: &R, lock: &SleepLock, seat: &mut LockSeat, who: Who) -> Option<()>
     requires { IsSeatOf lock.now seat.old }
     ensures { IsSeatOf lock.now seat.new }
@@ -72,9 +72,9 @@ fn take_turns<R: Wait + Clock>(
     Some(seat)
 }
 
-/// Closes a lock that nobody uses any more, and returns its history.
+/// Closes a lock that nobody uses any more, and returns its history of requests, grants and releases.
 ///
-/// Returns `None` if another seat of the lock is still in use.
+/// Returns `None` if another seat (a thread's handle of the lock) is still in use.
 fn history(lock: SleepLock, seat: LockSeat) -> Option<History>
     requires { IsSeatOf lock seat }
     ensures { IfSome result (λ history. HasOneHolderAtATime history.items) }

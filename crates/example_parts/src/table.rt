@@ -1,4 +1,5 @@
-//! Two kernel threads meet at a context table: one puts numbers on core 0, the other takes them and sums them.
+//! Two kernel threads share a context table, which has slots for ready threads: one puts numbers into slots of core 0,
+//! and the other takes them out and sums them.
 
 ghost use Rattle.std.specs.Prelude.{◌≡◌, ◌<◌, IfSome};
 
@@ -10,12 +11,13 @@ use std::thread;
 use std::thread::Threads;
 use std::time::{Clock, Duration};
 
-/// The number of places of the core.
+/// The number of slots of the core.
 const PLACES: u8 = 8;
 
 const NUMBERS: u64 = 1000;
 
-/// A value for the table. Its type must have a tag which doesn't change while the table has the value.
+/// A number, as a value that the table can store. Its type must have a tag, which must not change while the table has
+/// the value.
 #[derive(Drop)]
 struct Parcel(u64);
 
@@ -27,9 +29,9 @@ impl Tagged for Parcel {
     }
 }
 
-/// Puts all numbers into the table, each as soon as there is a place for it.
+/// Puts all numbers into the table, each as soon as a slot is free.
 ///
-/// Returns the seat, or `None` if memory is refused.
+/// Returns the seat (this thread's handle of the table), or `None` if memory is refused.
 fn post<C: Contexts<Parcel>, R: Wait + Clock>(rt: &R, table: &C, seat: C::Seat) -> Option<C::Seat>
     requires seat { C.sits table.now seat × C.idle table.now seat }
     requires core { 0 < C.core_count table.now }
@@ -45,7 +47,7 @@ fn post<C: Contexts<Parcel>, R: Wait + Clock>(rt: &R, table: &C, seat: C::Seat) 
                 table.post(rt, &mut seat, claim, Parcel(number)).ok()?;
                 number += 1;
             }
-            // Another seat was quicker: try again.
+            // Another thread was quicker to take that slot: try again.
             Claimed::Lost(_) => {}
             Claimed::Full(_) | Claimed::Closed(_) => thread::sleep(rt, Duration::from_micros(50)),
         }
@@ -53,9 +55,9 @@ fn post<C: Contexts<Parcel>, R: Wait + Clock>(rt: &R, table: &C, seat: C::Seat) 
     unreachable!()
 }
 
-/// Takes each ready thread until all numbers were taken.
+/// Takes numbers out of the table, whenever one is ready, until all were taken.
 ///
-/// Returns the seat and the sum of the numbers, or `None` if memory is refused.
+/// Returns the seat (this thread's handle of the table) and the sum of the numbers, or `None` if memory is refused.
 fn take_all<C: Contexts<Parcel>, R: Wait + Clock>(
     rt: &R,
     table: &C,

@@ -1,10 +1,10 @@
-//! The client of an arbiter, the daemon of `rust/arbiter`, which grants whole processors to processes.
+//! The client of an arbiter, the daemon in `rust/arbiter`, which grants whole processors to processes.
 //!
-//! Worker 0 *floats*: it runs with a core of its own or without one. Each other worker waits for a core on a connection
-//! of its own, and gives the core back by waiting again. The number of cores that the runtime may have is in a shared
-//! page that the arbiter writes. Each worker compares that number with `active` (the number of active workers) whenever
-//! it checks for events; while all workers sleep, the arbiter notifies the kernel thread that reads the control
-//! connection. Without an arbiter, or once the arbiter has gone, the policy decides.
+//! Worker 0 *floats*: it runs with a core of its own or without one. Each other worker waits, on a connection of its
+//! own, until it is granted a core, and gives the core back by waiting again. The arbiter writes the number of cores
+//! that the runtime may have into a page of shared memory. Each worker compares that number with `active` (the number
+//! of active workers) whenever it checks for events. While all workers sleep, the arbiter notifies the kernel thread
+//! that reads the control connection. Without an arbiter, or after the connection to it has ended, the policy decides.
 
 use crate::shared::{Context, Shared};
 use crate::sync::atomic::{AtomicBool, AtomicPtr, AtomicU32, AtomicUsize, Ordering::*};
@@ -19,7 +19,7 @@ use std::os::unix::net::UnixStream;
 use std::path::PathBuf;
 use std::time::Duration;
 
-/// The messages, as `rust/arbiter/src/protocol.rs` has them.
+/// The size of a message, and below the kinds of messages, as in `rust/arbiter/src/protocol.rs`.
 const SIZE: usize = 16;
 const VERSION: u32 = 1;
 const HELLO: u32 = 1;
@@ -34,10 +34,10 @@ const REFUSED: u32 = 8;
 /// The time after which a runtime tries again to connect to an arbiter that wasn't there or has refused.
 const AGAIN: Duration = Duration::from_secs(1);
 const REFUSED_AGAIN: Duration = Duration::from_secs(30);
-/// The time for which a worker sleeps before it asks for a core again, if it got none or can't use it yet.
+/// The time for which a worker sleeps before it asks for a core again, if it was granted none or can't use it yet.
 const SOON: Duration = Duration::from_millis(1);
 
-/// The path of the arbiter's socket, and the facts about a runtime that are sent to it.
+/// The path of the arbiter's socket, and what the runtime reports about itself to the arbiter.
 #[derive(Clone, Debug)]
 pub(crate) struct Wish {
     pub(crate) path: PathBuf,
@@ -48,13 +48,15 @@ pub(crate) struct Wish {
 /// A runtime's connections to an arbiter, which the runtime's kernel threads share.
 #[derive(Default)]
 pub(crate) struct Client {
-    /// The number on the page that the arbiter writes. Once mapped, the page is never unmapped.
+    /// Points to the number of cores that the arbiter allows, on the shared page that the arbiter writes. The page is
+    /// never unmapped after it was mapped.
     page: AtomicPtr<AtomicU32>,
-    /// True if an arbiter decides how many cores there may be. Changed only under `order`.
+    /// True while an arbiter decides how many cores the runtime may use. A thread must have locked `order` to change
+    /// it.
     up: AtomicBool,
-    /// The number of cores that was last asked for.
+    /// The number of cores that the runtime last asked the arbiter for.
     asked: AtomicUsize,
-    /// Locked by whoever changes how many workers are active.
+    /// A thread must lock this before it changes how many workers are active.
     order: Mutex<()>,
     state: Mutex<State>,
     changed: Condvar,
@@ -64,17 +66,17 @@ pub(crate) struct Client {
 struct State {
     closed: bool,
     refused: bool,
-    /// The control connection, and after it a connection of each worker.
+    /// The control connection, and behind it one connection for each worker.
     streams: Vec<Arc<UnixStream>>,
-    /// For each worker the thread id of its kernel thread, or 0 until that thread runs.
+    /// For each worker, the thread id of its kernel thread; 0 until that thread runs.
     threads: Vec<u32>,
-    /// The event that wakes the second worker while it waits for a core, so that it runs jobs that the first doesn't
-    /// get to.
+    /// The event that wakes the second worker while it waits for a core, so that it runs jobs that the first worker
+    /// doesn't get to.
     call: Option<File>,
-    /// Processors that this process had before an arbiter moved threads.
+    /// The processors that this process could use before an arbiter moved its threads.
     cpus: Vec<usize>,
     /// True if the arbiter keeps threads on their cores by affinity. With cpusets it doesn't: a thread that set its
-    /// affinity would be kept on these processors even when its cpuset has others.
+    /// affinity would stay on these processors even after its cpuset has others.
     pins: bool,
 }
 
@@ -96,13 +98,13 @@ fn receive(mut stream: &UnixStream) -> io::Result<[u32; 4]> {
 }
 
 impl Client {
-    /// Resets the state, for a runtime that has no arbiter yet.
+    /// Resets the fields, for a runtime that has no arbiter yet.
     pub(crate) fn reset(&self) {
         *self.state.lock().unwrap() = State::default();
     }
 
-    /// Prepares for an arbiter of a runtime of `workers` workers. Records the processors that this kernel thread may
-    /// run on. Fails if a descriptor is refused.
+    /// Prepares this client, for a runtime of `workers` workers. Records the processors that this kernel thread may run
+    /// on. Fails if a descriptor is refused.
     pub(crate) fn open(&self, workers: usize) -> io::Result<()> {
         let mut state = self.state.lock().unwrap();
         (state.threads, state.cpus) = (vec![0; workers], sys::affinity());
@@ -110,7 +112,7 @@ impl Client {
         Ok(())
     }
 
-    /// Waits for a message on this connection, or for the event `call`, for at most `nanos`.
+    /// Waits for a message on `stream`, or for the event `call`, for at most `nanos` nanoseconds.
     fn waits(&self, stream: &UnixStream, nanos: u64) -> Ends {
         let call = self.state.lock().unwrap().call.as_ref().map_or(-1, |call| call.as_raw_fd());
         match sys::readable([stream.as_raw_fd(), call], nanos) {
@@ -123,20 +125,20 @@ impl Client {
         }
     }
 
-    /// Wakes the second worker, if it waits for a core: it then runs jobs that the first doesn't get to.
+    /// Wakes the second worker if it waits for a core, so that it runs jobs that the first worker doesn't get to.
     pub(crate) fn call(&self) {
         if let Some(call) = &self.state.lock().unwrap().call {
             sys::raise(call.as_raw_fd());
         }
     }
 
-    /// Returns true if an arbiter says how many cores there may be.
+    /// Returns true if an arbiter decides how many cores this runtime may use.
     #[inline]
     pub(crate) fn is_up(&self) -> bool {
         self.up.load(Acquire)
     }
 
-    /// Returns how many cores the arbiter allows this runtime; without an arbiter, any number.
+    /// Returns the number of cores that the arbiter allows this runtime; without an arbiter, `usize::MAX`.
     #[inline]
     pub(crate) fn limit(&self) -> usize {
         if !self.is_up() {
@@ -146,14 +148,14 @@ impl Client {
         unsafe { (*self.page.load(Relaxed)).load(Relaxed) as usize }
     }
 
-    /// Records the thread id of a worker, which is the calling thread.
+    /// Records the calling thread's id as that of the worker `worker`.
     pub(crate) fn names(&self, worker: usize) {
         self.state.lock().unwrap().threads[worker] = sys::thread_number().unwrap_or(u32::MAX);
         self.changed.notify_all();
     }
 
-    /// Lets the calling thread run on any processor: a thread that a worker starts begins with only the worker's
-    /// processor.
+    /// Lets the calling thread run on any processor: a thread inherits the affinity of the worker that starts it, which
+    /// is a single processor.
     pub(crate) fn unpin(&self) {
         let state = self.state.lock().unwrap();
         if state.pins {
@@ -161,20 +163,21 @@ impl Client {
         }
     }
 
-    /// Asks for this number of cores. Returns true if the number has changed.
+    /// Asks the arbiter for `cores` cores. Returns true if the last request was for another number.
     fn ask(&self, cores: usize) -> bool {
         if self.asked.swap(cores, SeqCst) == cores {
             return false;
         }
         let control = self.state.lock().unwrap().streams.first().cloned();
         if !control.map_or(false, |control| send(&control, [ASK, cores as u32, 0, 0]).is_ok()) {
-            // The connection is full, or the arbiter is gone, which the thread that reads the connection finds out.
+            // The connection's buffer is full, or the arbiter is gone, which the thread that reads the connection finds
+            // out.
             self.asked.store(usize::MAX, SeqCst);
         }
         true
     }
 
-    /// Connects to the arbiter, and keeps the connection, so that `close` and `hang_up` end each wait on it.
+    /// Connects to the arbiter, and stores the connection, so that `close` and `hang_up` can end every wait on it.
     fn connect(&self, wish: &Wish) -> io::Result<Arc<UnixStream>> {
         let stream = Arc::new(UnixStream::connect(&wish.path)?);
         let mut state = self.state.lock().unwrap();
@@ -185,14 +188,15 @@ impl Client {
         Ok(stream)
     }
 
-    /// Closes all connections, so that the arbiter forgets this runtime.
+    /// Closes all connections, so that the arbiter forgets this runtime; `refused` is true if the arbiter has refused a
+    /// thread.
     fn hang_up(&self, refused: bool) {
         let mut state = self.state.lock().unwrap();
         state.refused |= refused;
         state.streams.iter().for_each(|stream| drop(stream.shutdown(Shutdown::Both)));
     }
 
-    /// Ends all waits for a core, since the runtime ends.
+    /// Ends all waits for a core, because the runtime ends.
     pub(crate) fn close(&self) {
         self.state.lock().unwrap().closed = true;
         self.hang_up(false);
@@ -201,10 +205,10 @@ impl Client {
 }
 
 impl Shared {
-    /// Asks for the number of cores that the policy wants, and gives back the cores beyond that number. Returns true if
-    /// the number of cores that the runtime asks for or has changed.
+    /// Asks the arbiter for `cores` cores, as the policy wants, and gives back the cores beyond that number. Returns
+    /// true if the number of active workers, or the number that the arbiter is asked for, has changed.
     pub(crate) fn want(&self, cores: usize) -> bool {
-        // Whoever has the lock changes the same number.
+        // Another thread has the lock, and is changing the number of active workers.
         let _order = match self.arbiter.order.try_lock() {
             Ok(order) => order,
             Err(_) => return false,
@@ -218,19 +222,20 @@ impl Shared {
         asks
     }
 
-    /// Gives back cores, so that the runtime has no more than the arbiter allows: the cores of the last workers, but
-    /// never the first worker's.
+    /// Gives back the cores beyond `allowed`, the number that the arbiter allows: those of the last workers, but never
+    /// the first worker's.
     fn obey(&self, _order: &MutexGuard<()>, allowed: usize) {
         if self.arbiter.is_up() && allowed.max(1) < self.active.0.load(SeqCst) {
             self.set_active(allowed.max(1));
         }
     }
 
-    /// Gives back the cores that the arbiter wants back. Returns true if this worker's core is one of them.
+    /// Gives back the cores that the arbiter wants back. Returns true if the core of this worker, `me`, is one of them.
     pub(crate) fn is_asked_back(&self, me: usize) -> bool {
         let active = self.active.0.load(Relaxed);
         if active > 1 && self.arbiter.limit() < active {
-            // Whoever has the lock looks at the page too, or this worker looks at it the next time.
+            // If another thread has the lock, that thread reads the page too, or this worker reads it at its next
+            // check.
             if let Ok(order) = self.arbiter.order.try_lock() {
                 self.obey(&order, self.arbiter.limit());
             }
@@ -238,8 +243,8 @@ impl Shared {
         me >= self.active.0.load(Relaxed)
     }
 
-    /// Gives this worker's core back, and waits until a core is granted to the worker, or there is no arbiter any more.
-    /// The caller must check which of the two has happened.
+    /// Gives this worker's core back, and waits until a core is granted to this worker or the arbiter is gone. The
+    /// caller must check which of the two has happened.
     #[cold]
     pub(crate) fn wait_for_core(&self, context: &Context, turn: &mut Turn) {
         let me = context.me;
@@ -254,7 +259,7 @@ impl Shared {
             receive(&stream)
         });
         if !matches!(heard, Ok([GRANT, ..])) {
-            // If the arbiter doesn't know the thread any more, it is of no use to stay its client.
+            // The arbiter no longer knows this thread, so the runtime ends all its connections.
             self.arbiter.hang_up(matches!(heard, Ok([REFUSED, ..])));
             return thread::sleep(SOON);
         }
@@ -263,8 +268,9 @@ impl Shared {
         if me == active && me < self.arbiter.limit() {
             self.set_active(me + 1);
         } else if me >= active {
-            // The core was asked back since. Or a worker before this one has lost its core and is still in a poll, and
-            // only the first workers may be active.
+            // The arbiter has asked this core back since the grant. Or a worker with a lower number has lost its core
+            // and is still in a poll: then this worker must wait, as only the workers with the lowest numbers may be
+            // active.
             drop(order);
             thread::sleep(SOON);
         }
@@ -279,8 +285,8 @@ impl Shared {
             let met = self.meet(&wish, first.take());
             if let Ok(control) = &met {
                 while let Ok([ALLOWED, allowed, ..]) = receive(control) {
-                    // Not the number on the page, which may have grown meanwhile: a worker that was in a poll meanwhile
-                    // may have lost its core, and has to wait for one.
+                    // Uses the message's number and not that on the page, which may have grown since: a worker that was
+                    // in a poll may have lost its core, and has to wait for a new one.
                     let order = self.arbiter.order.lock().unwrap();
                     self.obey(&order, allowed as usize);
                 }
@@ -297,8 +303,8 @@ impl Shared {
         }
     }
 
-    /// Connects to the arbiter: once for the runtime, and once for each of its workers. Asks for `first` cores or, if
-    /// it is None, for as many as are active now.
+    /// Connects to the arbiter: once for the runtime, and once more for each of its workers. Asks for `first` cores or,
+    /// if that is None, for as many cores as are active now.
     fn meet(&self, wish: &Wish, first: Option<usize>) -> io::Result<Arc<UnixStream>> {
         let client = &self.arbiter;
         let state = client.state.lock().unwrap();
@@ -328,25 +334,25 @@ impl Shared {
         Ok(control)
     }
 
-    /// Goes on without an arbiter: from now on the policy decides, or else each worker has a core. Lets threads that
-    /// the arbiter kept on their cores by affinity run everywhere again. Returns true if the arbiter has refused a
-    /// thread.
+    /// Ends the use of an arbiter: from now on the policy decides or, without a policy, each worker has a core. Threads
+    /// that the arbiter kept on their cores by affinity may run on all processors again. Returns true if the arbiter
+    /// has refused a thread.
     fn part(&self, follows: bool) -> bool {
         let _order = self.arbiter.order.lock().unwrap();
         let was_up = self.arbiter.up.swap(false, SeqCst);
         let mut state = self.arbiter.state.lock().unwrap();
         state.streams.drain(..).for_each(|stream| drop(stream.shutdown(Shutdown::Both)));
         let refused = std::mem::take(&mut state.refused);
-        // Workers end only once `closed` is set: until then their numbers are no other threads' numbers.
+        // A worker ends only after `closed` is set, so until then its thread id is not that of another thread.
         if was_up && !state.closed && state.pins {
             for &thread in &state.threads {
-                // If the system refuses this, the thread stays on its processor.
+                // If the system refuses this, the thread stays on its one processor.
                 let _ = sys::set_affinity(thread, &state.cpus);
             }
         }
         drop(state);
         if was_up && !self.stop.load(SeqCst) {
-            // Workers that go on waiting do so because of the policy.
+            // Workers that still wait after this call do so because of the policy.
             let active = if follows { self.active.0.load(SeqCst) } else { self.workers.len() };
             self.set_active(active);
         }

@@ -28,7 +28,7 @@ impl Wake for Parker {
 }
 
 thread_local! {
-    /// This thread's parker, unless it is in use by a `block_on` around this one.
+    /// This thread's parker, unless a `block_on` further out uses it now.
     static PARKER: RefCell<Option<Arc<Parker>>> = const { RefCell::new(None) };
 }
 
@@ -53,7 +53,7 @@ pub fn block_on<F: Future>(future: F) -> F::Output {
     let waker = Waker::from(parker.clone());
     let mut cx = Context::from_waker(&waker);
     let mut future = future;
-    // SAFETY: the future is not used or moved but through this pin until it is dropped.
+    // SAFETY: until the future is dropped it is used only through this pin, so it isn't moved.
     let mut future = unsafe { Pin::new_unchecked(&mut future) };
     loop {
         if let Poll::Ready(output) = future.as_mut().poll(&mut cx) {
@@ -66,11 +66,11 @@ pub fn block_on<F: Future>(future: F) -> F::Output {
     }
 }
 
-/// If the timers of its thread are this late, in nanoseconds, a waiting `block_on` fires them itself.
+/// Nanoseconds of delay after which a waiting `block_on` fires its thread's timers itself.
 const LATE: u64 = 2_000_000;
 
-/// Parks until this thread is unparked, or its timers are late because the worker that fires them is in a long poll, or
-/// is this thread.
+/// Parks until this thread is unparked, or until its timers are late, because the worker that fires them is in a long
+/// poll or is this thread.
 fn park() {
     let timers = timer::of_this_thread();
     let due = timers.map_or(u64::MAX, |timers| timers.next().saturating_add(LATE));
@@ -92,7 +92,7 @@ fn park() {
 #[derive(Debug)]
 pub struct Yield(bool);
 
-/// Lets other tasks run first: for a task that computes for long, or always finds what it awaits.
+/// Lets other tasks run first, for use in a task that computes for long or that always finds what it awaits.
 ///
 /// ```
 /// let runtime = arachne::Runtime::new(1);
@@ -143,7 +143,7 @@ impl<F> fmt::Debug for PollFn<F> {
     }
 }
 
-/// Returns a future that calls `poll` at each poll. This is std's function of the same name, which rustc 1.63 lacks.
+/// Returns a future whose every poll calls `poll`. This is std's function of the same name, which rustc 1.63 lacks.
 ///
 /// ```
 /// use std::task::Poll;

@@ -76,7 +76,7 @@ impl Pool {
                     unsafe { task::end(raw) };
                     panic!("no kernel thread for blocking work: {error}");
                 }
-                // One of the existing threads runs it later.
+                // One of the existing threads will run the work later.
                 Err(_) => {}
             }
         }
@@ -111,13 +111,13 @@ impl Pool {
         self.changed.notify_all();
     }
 
-    /// Returns true if work waits for a thread, or runs.
+    /// Returns true if work waits for a thread of the pool, or runs on one.
     pub(crate) fn is_busy(&self) -> bool {
         let state = self.state.lock().unwrap();
         !state.work.is_empty() || state.idle < state.threads
     }
 
-    /// Cancels the work that has not begun, and accepts no more.
+    /// Cancels the work that has not begun, and refuses all later work.
     pub(crate) fn close(&self) {
         let mut state = self.state.lock().unwrap();
         state.stop = true;
@@ -128,7 +128,7 @@ impl Pool {
         left.into_iter().for_each(|raw| unsafe { task::end(raw) });
     }
 
-    /// Waits until all threads have ended, for at most `time`. Returns true if all have ended.
+    /// Waits until all threads of the pool have ended, for at most `time`. Returns true if all have ended.
     pub(crate) fn wait_for_end(&self, time: Duration) -> bool {
         let state = self.state.lock().unwrap();
         let (state, _) = self.changed.wait_timeout_while(state, time, |state| state.threads != 0).unwrap();
@@ -151,7 +151,7 @@ impl Shared {
 /// Runs a closure that may block, on a thread of the runtime's blocking pool. Returns the handle on the closure's
 /// result.
 ///
-/// Once the closure has begun, it can't be aborted. Within the closure, `block_on` waits for a future.
+/// Once the closure has begun, it can't be aborted. Within the closure, use `block_on` to wait for a future.
 ///
 /// ```
 /// let runtime = arachne::Runtime::new(1);

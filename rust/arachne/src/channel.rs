@@ -57,7 +57,8 @@ fn wake(node: Option<Arc<Node>>) {
     }
 }
 
-/// Removes a waiter from a queue. If its turn had come already, returns the next waiter, which gets the turn.
+/// Removes a waiter from a queue. If its turn had come already, returns the next waiter, to which the caller must pass
+/// the turn on.
 fn leave(line: &mut VecDeque<Arc<Node>>, node: &Arc<Node>) -> Option<Arc<Node>> {
     match line.iter().position(|other| Arc::ptr_eq(other, node)) {
         Some(at) => {
@@ -171,7 +172,7 @@ impl<T> fmt::Debug for Receiver<T> {
 }
 
 impl<T> Sender<T> {
-    /// Sends a value, once there is room. If the receivers are gone, the error is the value.
+    /// Sends `value`, after waiting until there is room. If all receivers are gone, the error contains the value.
     ///
     /// If the future is dropped before it is ready, the value is not sent.
     ///
@@ -185,7 +186,7 @@ impl<T> Sender<T> {
         Sending { channel: &self.0, value: Some(value), node: None }
     }
 
-    /// Sends a value if there is room now; see the example at `SendError`.
+    /// Sends `value` if there is room now; see the example at `SendError`.
     pub fn try_send(&self, value: T) -> Result<(), SendError<T>> {
         let mut state = self.0.lock().unwrap();
         if state.receivers == 0 {
@@ -203,7 +204,7 @@ impl<T> Sender<T> {
 }
 
 impl<T> Receiver<T> {
-    /// Waits for the next value; returns None once all senders are gone and the channel is empty.
+    /// Waits for the next value; returns None if all senders are gone and the channel is empty.
     ///
     /// ```
     /// let (sender, receiver) = arachne::channel(1);
@@ -398,7 +399,8 @@ impl<T> Drop for Receiver<T> {
         state.receivers -= 1;
         let last = state.receivers == 0;
         let all = if last { std::mem::take(&mut state.sending) } else { VecDeque::new() };
-        // Nobody can receive these values. Dropping a value wakes whoever waits for a reply through it.
+        // Nobody can receive these values any more. The values are dropped after the lock is released: dropping a value
+        // may wake a task that waits for a reply through it.
         let values = if last { std::mem::take(&mut state.values) } else { VecDeque::new() };
         drop(state);
         all.iter().for_each(|node| node.called.store(true, SeqCst));

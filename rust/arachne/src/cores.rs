@@ -1,10 +1,10 @@
-//! The number of active cores: the limit that the machine sets, and the policy that follows the load.
+//! The number of active cores: the limit that the machine sets, and the policy by which the number follows the load.
 //!
 //! The load is the number of ready tasks that a worker counts whenever it checks for events, averaged over time. The
-//! policy judges it at each of its intervals, and sooner after a request for a core. A worker that gives its core back
-//! waits; another worker runs the jobs of its blocks and fires its timers. While only the first worker has a core, the
-//! second one runs jobs that the first doesn't get to (`worker/sleepers.rs`). The limit is read each second while there
-//! is a policy.
+//! policy judges the load at regular intervals, and at shorter ones after it has asked for a core. A worker that gives
+//! its core back then waits, and another worker runs the jobs in its blocks (its task slots) and fires its timers.
+//! While only the first worker has a core, the second worker runs the jobs that the first doesn't get to
+//! (`worker/sleepers.rs`). With a policy, the machine's limit is read again each second.
 
 use crate::core::Estimator;
 use crate::shared::{Context, Shared, Worker};
@@ -16,7 +16,7 @@ use std::fs;
 use std::os::unix::fs::FileExt;
 use std::time::Duration;
 
-/// Load and use of all cores between two judgements.
+/// The load and the use of all cores between two judgements of the policy.
 #[derive(Clone, Copy, Default, Debug)]
 pub(crate) struct Sample {
     pub(crate) cores: u64,
@@ -44,14 +44,14 @@ pub(crate) enum Advice {
 /// ```
 #[derive(Clone, Copy, Debug)]
 pub struct Policy {
-    /// The policy asks for a core if the ready tasks of a worker exceed this on average, in thousandths of a task.
+    /// The policy asks for a core if a worker has more ready tasks than this on average; in thousandths of a task.
     pub load: u64,
-    /// The policy gives a core back once the use has fallen, by this many thousandths of a core, below the use at which
-    /// it asked for the core.
+    /// The policy gives a core back when the cores are used less, by this many thousandths of a core, than when it
+    /// asked for that core.
     pub hysteresis: u64,
     /// The time between two judgements.
     pub every: Duration,
-    /// The number of cores that are never given back.
+    /// The number of cores that the policy never gives back.
     pub min_cores: usize,
 }
 
@@ -73,7 +73,7 @@ impl Default for Policy {
 #[must_use]
 pub fn available_cores() -> usize {
     if cfg!(feature = "explore") {
-        // Under the explorer one thread runs at a time, as if on many processors.
+        // Under the explorer (a test) one thread runs at a time, as if there were many processors.
         return 64;
     }
     let mask = sys::affinity().len().max(1);
@@ -84,7 +84,8 @@ fn whole(thousandths: usize) -> usize {
     (thousandths + 999) / 1000
 }
 
-/// Returns the least quota of this process's control group and of the groups above it, in thousandths of a processor.
+/// Returns the smallest quota of this process's control group and of the groups above it, in thousandths of a
+/// processor.
 fn quota() -> Option<usize> {
     let groups = fs::read_to_string("/proc/self/cgroup").ok()?;
     let mut least = None;
@@ -121,7 +122,8 @@ const SOON: u32 = 4;
 
 /// The least and the most nanoseconds between two judgements under an arbiter.
 const WITH_ARBITER: (u64, u64) = (2_000_000, 5_000_000);
-/// For these nanoseconds after a request to an arbiter, the policy gives no core back: it would go to another process.
+/// For this many nanoseconds after a request to an arbiter the policy gives no core back, because the core would go to
+/// another process.
 const CALM: u64 = 50_000_000;
 
 /// The state of the policy, which the first worker applies for all.
@@ -133,15 +135,16 @@ pub(crate) struct Judge {
     at: u64,
     looked: u64,
     most: usize,
-    /// The number of judgements still to be made at shorter intervals, since a core was asked for.
+    /// The number of judgements that are still to be made at shorter intervals, after a core was asked for.
     soon: u32,
     /// The time of the last request for a core.
     added: u64,
-    /// True if a load began within the last sample, which was not judged. The next sample is judged in any case.
+    /// True if a load began within the last sample, so that the sample was not judged. The next sample is judged in any
+    /// case.
     begins: bool,
 }
 
-/// A worker's counts, the nanoseconds in which it had no work, and those in which it waited for a processor.
+/// A worker's counts, the nanoseconds for which it had no work, and those for which it waited for a processor.
 #[derive(Clone, Copy, Default)]
 struct Totals {
     runnable: u64,
@@ -178,8 +181,8 @@ impl Judge {
         ((self.policy.every.as_nanos() as u64).min(most) / times as u64).max(least)
     }
 
-    /// Returns true if the load began in the middle of this sample: enough tasks are ready to ask for a core, yet cores
-    /// were idle for part of the time.
+    /// Returns true if the load began in the middle of this sample: enough tasks were ready to ask for a core, yet
+    /// cores were idle for part of the time.
     ///
     /// Such a sample is not judged. The low use of such a sample would be recorded as the use at which the core was
     /// asked for, and the core would be kept until the use is lower still.
@@ -200,13 +203,15 @@ impl Judge {
         if now - self.looked > 1_000_000_000 {
             self.looked = now;
             let all = shared.workers.len();
-            // An arbiter keeps this worker on one processor, and decides how many others there are.
+            // An arbiter keeps this thread on one processor, so the processors that it may use don't show the limit;
+            // the arbiter decides how many others there are.
             let most = if up { quota().map_or(all, whole) } else { available_cores() };
             self.most = most.clamp(1, all);
         }
         let active = shared.active.0.load(Relaxed);
         shared.counts.core_time.fetch_add(elapsed * active as u64, Relaxed);
-        // Only the workers that were active all of the time: an arbiter may grant a core in the middle of a sample.
+        // Counts only the workers that were active all of the time: an arbiter may grant a core in the middle of a
+        // sample.
         let sample = sample(&self.last, &totals(shared, active.min(self.last.len()), now), elapsed);
         self.begins = !self.begins && self.is_begin(sample);
         if self.begins {
@@ -244,7 +249,7 @@ fn totals(shared: &Shared, active: usize, now: u64) -> Vec<Totals> {
     shared.workers[..active].iter().map(|line| of(&line.0)).collect()
 }
 
-/// Returns the nanoseconds in which a worker's thread was ready and had no processor.
+/// Returns the nanoseconds for which a worker's thread was ready to run and had no processor.
 fn waited(account: &crate::sync::Mutex<Option<fs::File>>) -> u64 {
     let mut text = [0; 64];
     let len = account.lock().unwrap().as_ref().and_then(|file| file.read_at(&mut text, 0).ok()).unwrap_or(0);
@@ -254,7 +259,7 @@ fn waited(account: &crate::sync::Mutex<Option<fs::File>>) -> u64 {
 
 /// Returns the load and the use of these workers since `last`.
 ///
-/// A worker counts its ready tasks only while it is busy; while it has no work, no task is ready. The time in which a
+/// A worker counts its ready tasks only while it is busy; while it has no work, no task is ready. The time for which a
 /// worker waited for a processor counts neither as use of a core nor as load.
 fn sample(last: &[Totals], totals: &[Totals], elapsed: u64) -> Sample {
     let cores = totals.len() as u64;
@@ -271,17 +276,17 @@ fn sample(last: &[Totals], totals: &[Totals], elapsed: u64) -> Sample {
 }
 
 impl Shared {
-    /// Gives this worker's core back: makes all jobs in its local queues ready, and waits until the policy asks for the
-    /// core again.
+    /// Gives this worker's core back: makes all jobs in its local queues ready, and then waits until the policy asks
+    /// for the core again.
     ///
-    /// Meanwhile, if only the first worker has a core, the second runs jobs that the first doesn't get to.
+    /// Meanwhile, if only the first worker has a core, the second worker runs the jobs that the first doesn't get to.
     pub(crate) fn give_back(&self, context: &Context, turn: &mut Turn) {
         self.lay_down(context, turn);
         let worker = context.worker;
         let (gate, waits) = &worker.given_back;
         worker.away.store(true, SeqCst);
-        // After all jobs are laid down: the keeper, which may be about to sleep, looks at this worker's blocks and
-        // timers.
+        // Rung only after all jobs were made ready: the worker that stands in for this one may be about to sleep, and
+        // must first check this one's blocks and timers.
         self.ring(self.keeper(context.me));
         if self.arbiter.is_up() {
             self.wait_for_core(context, turn);
@@ -310,8 +315,8 @@ impl Shared {
 
     /// Sets the number of active workers, and wakes all workers.
     pub(crate) fn set_active(&self, active: usize) {
-        // Under the lock of each worker, so that a worker that is about to wait sees the number, and so does an arbiter
-        // that came up before.
+        // Each flag is set under its worker's lock, so that a worker that is about to wait sees the number; so does an
+        // arbiter that came up before.
         for (number, line) in self.workers.iter().enumerate() {
             *line.0.given_back.0.lock().unwrap() = number >= active;
         }

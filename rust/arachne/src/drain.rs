@@ -1,4 +1,4 @@
-//! `shutdown_within` and `stopping`, by which a runtime ends in order, signals, and a limit on concurrent requests.
+//! The orderly end of a runtime (`shutdown_within` and `stopping`), signals, and a limit on concurrent requests.
 
 use crate::block_on::poll_fn;
 use crate::net::Async;
@@ -71,22 +71,22 @@ pub fn is_stopping() -> bool {
 #[must_use = "it waits once it is awaited"]
 pub struct Stopping {
     shared: Option<&'static Shared>,
-    /// The key and the waker by which the future waits.
+    /// The key and the waker under which the future is registered, if it waits.
     waits: Option<(u64, Waker)>,
-    /// The number of polls since the end began in which this future was polled before the task had tried to read a
+    /// The number of polls, since the end began, in which this future was polled before the task had tried to read a
     /// socket.
     blind: u32,
 }
 
-/// Once the end has begun the future stays pending for at most this many polls. So in one of these polls a `select!` in
-/// random order most likely tries its socket first.
+/// Once the end has begun, the future stays pending for at most this many polls. So a `select!` in random order most
+/// likely tries its socket first in one of these polls.
 const BLIND: u32 = 4;
 
 /// Waits until `Runtime::shutdown_within` is called, so that an idle connection can end; see `Stopping::or`.
 ///
-/// In a task that also waits for a socket, the future becomes ready only in a poll in which the task has tried to read,
-/// or after a few polls; the order in which the task polls the two doesn't matter. So a request that has arrived by
-/// then is still read.
+/// If the task also waits for a socket, the future becomes ready only in a poll in which the task has tried to read, or
+/// after a few polls; the order in which the task polls the two doesn't matter. So a request that has already arrived
+/// is still read.
 ///
 /// ```
 /// use std::time::Duration;
@@ -103,9 +103,10 @@ pub fn stopping() -> Stopping {
 }
 
 impl Stopping {
-    /// Waits for a future's output. Returns None if the runtime's end has begun and the future is not ready.
+    /// Waits for the output of `future`, or for the beginning of the runtime's end. Returns None if the end has begun
+    /// and `future` is not ready.
     ///
-    /// The future is polled first. A `Stopping` may be used again and again, for each read of a connection.
+    /// `future` is polled first. A `Stopping` may be used again and again, for each read of a connection.
     ///
     /// ```
     /// async fn serve(stream: arachne::net::TcpStream) -> std::io::Result<()> {
@@ -145,7 +146,7 @@ impl Future for Stopping {
             None => return Poll::Pending,
         };
         self.shared = Some(shared);
-        // A read that was put off comes first: there may be data to read.
+        // If the task has put off a read, the read comes first, as there may be data.
         let reads_later = in_own_poll(cx.waker(), |worker| worker.put_off.get());
         if shared.draining.has_begun() {
             let is_blind = self.waits.is_some() && in_own_poll(cx.waker(), |worker| worker.reads.get() == 0);
@@ -166,7 +167,7 @@ impl Future for Stopping {
             waiting.1.insert(key, cx.waker().clone());
             self.waits = Some((key, cx.waker().clone()));
         }
-        // Checked again after the waker is registered: `begin` sets the flag before it takes the wakers.
+        // Checked again after the waker is registered, because `begin` sets the flag before it takes the wakers.
         if !shared.draining.has_begun() {
             return Poll::Pending;
         }
@@ -202,7 +203,7 @@ pub struct Ended {
 }
 
 impl Runtime {
-    /// Returns the number of tasks that were spawned and have not ended.
+    /// Returns the number of this runtime's tasks that were spawned and have not ended.
     ///
     /// ```
     /// let runtime = arachne::Runtime::new(1);
@@ -214,13 +215,14 @@ impl Runtime {
         self.shared().live()
     }
 
-    /// Ends the runtime in order: lets its tasks finish, and drops those that have not finished by the deadline.
+    /// Ends the runtime in order: lets its tasks finish until the deadline, and drops those that have not finished by
+    /// then.
     ///
-    /// From this call on, `stopping` is ready, and `accept` of a listener fails once all connections that had arrived
-    /// are accepted. Tasks of `spawn_background` are not waited for. A poll in progress at the deadline is waited for.
-    /// Blocking work that still runs at the deadline goes on without the runtime, and tasks that it then spawns are
-    /// cancelled; `aborted` doesn't count such work. `Duration::MAX` is no deadline. If a task calls this function, the
-    /// call waits for that task too, until the deadline, and counts it.
+    /// From this call on, `stopping` is ready, and `accept` of a listener fails after it has accepted all connections
+    /// that had arrived. Tasks of `spawn_background` aren't waited for. A poll in progress at the deadline is waited
+    /// for. Blocking work that still runs at the deadline continues without the runtime, and the tasks that it spawns
+    /// after that are cancelled; `aborted` doesn't count this work. With `Duration::MAX` there is no deadline. If a
+    /// task calls this function, the call waits for that task too, until the deadline, and `aborted` counts it.
     ///
     /// ```
     /// use std::time::Duration;
@@ -246,7 +248,8 @@ impl Runtime {
     }
 }
 
-/// A signal that this process catches, instead of its previous action; threads can wait for it.
+/// A signal of the operating system that this process catches, instead of its previous action; tasks and threads can
+/// wait for it.
 ///
 /// ```no_run
 /// # fn main() -> std::io::Result<()> {
@@ -271,11 +274,12 @@ impl AsRawFd for Event {
 }
 
 impl Signal {
-    /// Catches the signal of this number from now on; 15 is SIGTERM, 2 is SIGINT.
+    /// Catches the signal `number` from now on; 15 is SIGTERM, 2 is SIGINT.
     ///
     /// The signal stays caught after this value is dropped. If an earlier `Signal` caught the same signal, only the new
-    /// one receives it from then on. Fails if `number` is no signal, or a signal that can't be caught, such as 9. Also
-    /// fails for 4, 7, 8 and 11 (SIGILL, SIGBUS, SIGFPE, SIGSEGV), since a real fault must end the process.
+    /// one receives the signal from now on. Fails if `number` is no signal, or is one that can't be caught, such as 9
+    /// (SIGKILL). Also fails for 4, 7, 8 and 11 (SIGILL, SIGBUS, SIGFPE, SIGSEGV), since a real fault must end the
+    /// process.
     ///
     /// ```
     /// # fn main() -> std::io::Result<()> {
@@ -294,9 +298,9 @@ impl Signal {
 
     /// Waits until the signal comes, or returns at once if the signal has come since the last wait.
     ///
-    /// Tasks use `recv`; `wait` blocks its thread, and in `spawn_blocking` would delay the runtime's end. If several
-    /// tasks wait, one of them gets the signal. Like a socket, a `Signal` belongs to the runtime in which it first
-    /// waits; for a later runtime make a new one.
+    /// In tasks, use `recv`: `wait` blocks its thread and, even in `spawn_blocking`, would delay the runtime's end. If
+    /// several tasks wait, one of them gets the signal. Like a socket, a `Signal` belongs to the runtime in which it
+    /// first waits; a later runtime needs a new one.
     ///
     /// ```
     /// # fn main() -> std::io::Result<()> {
@@ -323,7 +327,8 @@ impl Signal {
     }
 }
 
-/// Limits concurrent use to a maximum. Beyond the maximum, `enter` returns None without waiting.
+/// A limit on the number of uses of something that are in progress at once. If that many are in progress, `enter`
+/// returns None without waiting.
 ///
 /// ```
 /// let limit = arachne::Limit::new(1);
@@ -335,7 +340,7 @@ impl Signal {
 #[derive(Clone, Debug)]
 pub struct Limit(Arc<(AtomicUsize, usize)>);
 
-/// A place under a limit, given back when the ticket is dropped; see `Limit::enter`.
+/// One use in progress under a `Limit`, which ends when the ticket is dropped; see `Limit::enter`.
 ///
 /// ```
 /// let limit = arachne::Limit::new(8);
@@ -349,7 +354,7 @@ pub struct Limit(Arc<(AtomicUsize, usize)>);
 pub struct Ticket(Limit);
 
 impl Limit {
-    /// Returns a limit of `most` concurrent uses. Clones of a limit share the count.
+    /// Returns a limit of `most` uses in progress at once. Clones of a limit share the count.
     ///
     /// ```
     /// let limit = arachne::Limit::new(1);
@@ -362,7 +367,7 @@ impl Limit {
         Limit(Arc::new((AtomicUsize::new(0), most)))
     }
 
-    /// Takes a place under the limit, or returns None if all places are taken.
+    /// Begins a use, or returns None if as many uses as the limit allows are in progress.
     ///
     /// ```
     /// let limit = arachne::Limit::new(100);
@@ -379,7 +384,7 @@ impl Limit {
         entered.is_ok().then(|| Ticket(self.clone()))
     }
 
-    /// Returns the number of places that are taken; see the example at `Ticket`.
+    /// Returns the number of uses in progress; see the example at `Ticket`.
     #[must_use]
     pub fn count(&self) -> usize {
         self.0 .0.load(SeqCst)

@@ -5,16 +5,16 @@ use crate::sync::atomic::{AtomicU64, Ordering::*};
 
 /// The most stolen jobs in a worker's local queues.
 pub(crate) const FIRST: usize = 8;
-/// The length of the *line*, the local queue of a worker's own jobs: a power of two.
+/// The capacity of the *line*, the local queue of a worker's own jobs: a power of two.
 pub(crate) const LINE: usize = 64;
 
 /// The local queues of one worker. Only the worker itself puts jobs into them.
 #[derive(Default)]
 pub(crate) struct Hand {
     pub(crate) next: Next,
-    /// Stolen jobs. They run before all others that are ready.
+    /// Stolen jobs. They run before all other ready jobs of the worker.
     pub(crate) first: Jobs<FIRST>,
-    /// Jobs that run after those that were ready before them.
+    /// The worker's own jobs, which run after those that were ready before them.
     pub(crate) line: Jobs<LINE>,
 }
 
@@ -24,7 +24,7 @@ impl Hand {
         self.next.is_empty() && self.waits() == 0
     }
 
-    /// Returns the number of jobs behind the job that runs next.
+    /// Returns the number of jobs in the queues, without the job that runs next.
     pub(crate) fn waits(&self) -> usize {
         self.first.len() + self.line.len()
     }
@@ -37,7 +37,7 @@ impl Hand {
     }
 }
 
-/// The memory for one job of a local queue.
+/// The memory for one job in a local queue.
 #[derive(Default)]
 struct Slot {
     name: AtomicU64,
@@ -59,14 +59,14 @@ impl Slot {
     }
 }
 
-/// Takes the job in a slot of a queue by advancing `count` from `seen`. Returns the current count if another thread was
+/// Takes the job in `slot` by advancing `count` from `seen`. The error is the current count, if another thread was
 /// faster.
 ///
 /// If `alone` is true, no other thread ever takes a job, and a plain store suffices.
 ///
 /// The slot must be read before the count is advanced. The count only grows, and the worker writes a slot again only
-/// after it has seen the advance by which its job was taken. So a thread that advances the count has read one whole
-/// job; what a slower thread has read may be a mixture of two, and is discarded.
+/// after it has seen that the count was advanced past the slot's job. So a thread that advances the count has read one
+/// whole job; a slower thread may have read a mixture of two jobs, and discards it.
 #[inline]
 fn take(count: &AtomicU64, seen: u64, slot: &Slot, alone: bool) -> Result<Job, u64> {
     let job = slot.get();
@@ -79,12 +79,12 @@ fn take(count: &AtomicU64, seen: u64, slot: &Slot, alone: bool) -> Result<Job, u
 
 /// The slot for the job that runs next on a worker. The worker puts a job into it, and any thread may take the job.
 ///
-/// The slot is on cache lines of its own: the worker writes there at each wake, while other threads read its other
-/// queues.
+/// The slot is on cache lines of its own: the worker writes to it at each wake, while other threads read the worker's
+/// other queues.
 #[derive(Default)]
 #[repr(align(128))]
 pub(crate) struct Next {
-    /// The number of puts and takes; odd while there is a job.
+    /// The number of puts and takes together; it is odd while the slot has a job.
     steps: AtomicU64,
     slot: Slot,
 }
@@ -142,7 +142,8 @@ impl<const ROOM: usize> Jobs<ROOM> {
         self.len() == 0
     }
 
-    /// Puts a job at the end. Returns false, and does nothing, if there are `most` jobs already, or no room.
+    /// Puts a job at the end of the queue. Returns false, and does nothing, if the queue has `most` jobs already, or no
+    /// room.
     #[inline]
     pub(crate) fn put(&self, job: Job, most: usize) -> bool {
         let (put, taken) = (self.put.load(Relaxed), self.taken.load(Acquire));

@@ -15,10 +15,10 @@ use std::panic::Location;
 const CALL: u64 = 1;
 const TURN: u64 = 1 << 32;
 
-/// Lets calls of handles in only while their runtime exists.
+/// Lets the calls of a `Handle` through only while its runtime exists.
 ///
-/// The state that a runtime's threads share is used again by a later runtime, which old handles must not reach. So a
-/// handle keeps the count of turns (how often this door was opened or closed) at which it was made.
+/// A later runtime uses again the state that this runtime's threads share, and old handles must not reach it. So each
+/// handle stores the count of turns (how often this door was opened or closed) at which it was made.
 #[derive(Default)]
 pub(crate) struct Door(AtomicU64);
 
@@ -27,7 +27,7 @@ impl Door {
         self.0.fetch_add(TURN, SeqCst);
     }
 
-    /// Closes the door for new calls, and waits for the calls in progress.
+    /// Closes the door to new calls of handles, and waits for the calls in progress.
     pub(crate) fn close(&self) {
         self.0.fetch_add(TURN, SeqCst);
         while self.0.load(SeqCst) % TURN != 0 {
@@ -35,18 +35,18 @@ impl Door {
         }
     }
 
-    /// Returns how often the door was opened or closed. So runtimes that use the same state one after another have
-    /// different counts.
+    /// Returns how often the door was opened or closed. So two runtimes that use the same state, one after the other,
+    /// have different counts.
     pub(crate) fn turns(&self) -> u64 {
         self.0.load(SeqCst) / TURN
     }
 
-    /// Makes a call, if the door is open and `turns` is its current count.
+    /// Calls `call` if the door is open and `turns` is its current count; otherwise returns None.
     ///
     /// `turns` counts how often the door was opened or closed, so it is odd while the door is open.
     ///
-    /// The call must be counted before the counts are compared: `close` changes the door's count first, and then waits
-    /// for the calls in progress.
+    /// This call must be counted as in progress before the counts are compared: `close` changes the door's count first,
+    /// and then waits for the calls in progress.
     fn within<T>(&self, turns: u64, call: impl FnOnce() -> T) -> Option<T> {
         struct Leave<'a>(&'a AtomicU64);
         impl Drop for Leave<'_> {
@@ -87,7 +87,7 @@ impl Handle {
         Handle { shared, turns: shared.door.turns() }
     }
 
-    /// Returns a handle on the runtime of the calling task, `block_on` or `enter`.
+    /// Returns a handle on the runtime in whose task, `block_on` or `enter` this is called.
     ///
     /// ```
     /// let runtime = arachne::Runtime::new(1);
@@ -135,7 +135,7 @@ impl Handle {
         }
     }
 
-    /// Spawns a task at the workers in turn, as the function `spawn_balanced` does.
+    /// Spawns tasks on the workers in turn, as the function `spawn_balanced` does.
     ///
     /// ```
     /// let runtime = arachne::Runtime::new(2);
@@ -156,8 +156,8 @@ impl Handle {
         }
     }
 
-    /// Spawns a task. Hands the future back if no place is free, if tasks already wait for a place, or if the runtime
-    /// has ended.
+    /// Spawns a task, or returns the future in the error. The error means that no task slot is free, that other tasks
+    /// wait for one, or that the runtime has ended.
     ///
     /// ```
     /// let runtime = arachne::Runtime::new(1);
@@ -197,7 +197,8 @@ impl Handle {
         }
     }
 
-    /// Returns the counts of the workers until now, as `Runtime::stats` does. All are zero once the runtime has ended.
+    /// Returns what the workers have counted until now, as `Runtime::stats` does. All counts are zero after the runtime
+    /// has ended.
     ///
     /// ```
     /// let runtime = arachne::Runtime::new(2);
@@ -212,7 +213,7 @@ impl Handle {
     }
 }
 
-/// Returns the handle of a task that was cancelled before it began.
+/// Returns the handle of a new task that is cancelled before it begins.
 fn cancelled<F>(future: F, about: About) -> JoinHandle<F::Output>
 where
     F: Future + Send + 'static,

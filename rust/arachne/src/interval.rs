@@ -11,7 +11,7 @@ use std::time::Duration;
 /// A tick that comes this late counts as missed.
 const LATE: Duration = Duration::from_millis(5);
 
-/// Used in place of a time beyond the clock's range: thirty years, for which no process waits.
+/// Added instead of a period that would exceed the clock's range: thirty years, for which no process waits.
 const NEVER: Duration = Duration::from_secs(30 * 365 * 86_400);
 
 /// Returns the time that is `period` after `moment`.
@@ -19,7 +19,7 @@ fn later(moment: Instant, period: Duration) -> Instant {
     moment.checked_add(period).unwrap_or_else(|| moment + NEVER)
 }
 
-/// When the ticks that follow a missed tick come; see `Interval::set_missed_tick_behavior`.
+/// Says when the ticks after a missed tick come; see `Interval::set_missed_tick_behavior`.
 ///
 /// ```
 /// use arachne::MissedTickBehavior;
@@ -146,7 +146,7 @@ impl Interval {
         Pin::new(&mut self.sleep).reset(due);
     }
 
-    /// Sets the next tick to a period from now.
+    /// Moves the next tick to one period from now.
     ///
     /// ```
     /// use std::time::{Duration, Instant};
@@ -168,7 +168,7 @@ impl Interval {
         self.period
     }
 
-    /// Sets when the ticks that follow a missed tick come: `Burst` by default. See the example at `MissedTickBehavior`.
+    /// Sets when the ticks after a missed tick come: `Burst` by default. See the example at `MissedTickBehavior`.
     pub fn set_missed_tick_behavior(&mut self, behavior: MissedTickBehavior) {
         self.missed = behavior;
     }

@@ -11,13 +11,13 @@ use std::fmt;
 use std::future::Future;
 use std::task::{Context, Poll, Wake, Waker};
 
-/// The numbers of the tasks that have ended, and the waker of the task that waits in `join_next`.
+/// The numbers of the set's tasks that have ended, and the waker of the task that waits in `join_next`.
 struct Ended {
     numbers: Mutex<VecDeque<u64>>,
     waits: Slot,
 }
 
-/// The waker that a task of the set wakes at its end: it records that the task has ended.
+/// The waker that a task of the set wakes at its end: the wake records that the task has ended.
 struct Tells {
     number: u64,
     ended: Arc<Ended>,
@@ -130,7 +130,7 @@ impl<T> JoinSet<T> {
         poll_fn(|cx: &mut Context<'_>| self.poll_join_next(cx)).await
     }
 
-    /// Polls for the output of a task that has ended; see `join_next`. Only the task that polled last is woken.
+    /// Polls for the output of any task that has ended; see `join_next`. Only the task that polled last is woken.
     ///
     /// ```
     /// arachne::Runtime::new(1).block_on(async {
@@ -148,7 +148,7 @@ impl<T> JoinSet<T> {
             return Poll::Ready(None);
         }
         self.ended.waits.set(cx.waker());
-        // Checked again after the waker is registered: a task may have ended before it could see the waker.
+        // Checked again after the waker is registered, because a task may have ended before it could see the waker.
         match self.try_join_next() {
             Some(output) => Poll::Ready(Some(output)),
             None => Poll::Pending,

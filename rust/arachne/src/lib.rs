@@ -31,10 +31,10 @@
 //! }
 //! ```
 //!
-//! The core is proved: no two workers hold one task at a time, a waker of a task that has ended wakes no other task,
-//! and a ready task that no worker holds is visible to the workers whenever no call is in progress. This crate decides
-//! which worker runs what and when it sleeps, and is only tested. `docs/rust.md` lists the rules that the crate must
-//! keep for the proofs to apply to a program.
+//! The core is proved: no two workers hold one task at a time, and a waker of a task that has ended wakes no other
+//! task. While no call of the core is in progress, the workers can find every ready task that none of them holds. The
+//! rest of this crate, which decides which worker runs which task and when a worker sleeps, is tested but not proved.
+//! `docs/rust.md` lists the rules that the crate must keep for the proofs to apply to a program.
 //!
 //! Most names are tokio's, or std's. Outside of a runtime `spawn` and `sleep` panic, and a socket that has to wait
 //! returns an error: use them in a task, or in `Runtime::block_on`. Linux, 64 bits, rustc 1.63 or later.

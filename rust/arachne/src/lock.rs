@@ -12,7 +12,8 @@ use std::ops::{Deref, DerefMut};
 use std::pin::Pin;
 use std::task::{Context, Poll};
 
-/// A waiter. The core's queue keeps a counted reference to it, as a number.
+/// A task or thread that waits for the lock, or holds it. The core's queue keeps a counted reference (an `Arc`) to the
+/// node, as a number.
 struct Node {
     granted: AtomicBool,
     slot: Slot,
@@ -109,10 +110,11 @@ impl<T: ?Sized> Lock<T> {
     fn free(&self, who: u64) {
         if let Freed::HandedOn(next) = self.core.free(who) {
             if next % 2 == 1 {
-                // The waiter is a `try_ask` that is withdrawing: it is about to see that it holds the lock.
+                // The waiter is a `try_ask` that is just withdrawing its request: it will see that it holds the lock.
                 return;
             }
-            // SAFETY: a waiter leaves a count of its node with the core, for the holder that hands the lock on to it.
+            // SAFETY: a waiter leaves one count of its node's `Arc` with the core, for the holder that hands the lock
+            // on to the waiter.
             let node = unsafe { Arc::from_raw(next as usize as *const Node) };
             node.granted.store(true, SeqCst);
             node.slot.wake();
@@ -166,7 +168,7 @@ impl<'a, T: ?Sized> Future for Locking<'a, T> {
                 Poll::Pending
             }
             Asked::Granted => {
-                // SAFETY: the count that was left above. The core has not kept it, as nobody had to wait.
+                // SAFETY: this is the count that was left above. The core has not kept it, as nobody had to wait.
                 drop(unsafe { Arc::from_raw(who) });
                 Poll::Ready(Guard { lock, who: who as usize as u64, _node: Some(node) })
             }
@@ -179,10 +181,10 @@ impl<T: ?Sized> Drop for Locking<'_, T> {
         if let Some(node) = self.node.take() {
             let who = Arc::as_ptr(&node);
             if self.lock.core.withdraw(who as usize as u64) {
-                // SAFETY: the count that the core's queue had; the waiter has left the queue.
+                // SAFETY: this is the count that the core's queue had; the waiter has left the queue.
                 drop(unsafe { Arc::from_raw(who) });
             } else {
-                // The lock was handed to this waiter meanwhile, so it must be freed.
+                // The lock was handed to this waiter meanwhile, so this waiter must free it.
                 self.lock.free(who as usize as u64);
             }
         }
@@ -201,7 +203,7 @@ impl<T: ?Sized> Drop for Locking<'_, T> {
 pub struct Guard<'a, T: ?Sized> {
     lock: &'a Lock<T>,
     who: u64,
-    /// Keeps the node alive, since the core knows the holder by the node's address.
+    /// Keeps the node alive, because the core knows the holder by the node's address.
     _node: Option<Arc<Node>>,
 }
 // SAFETY: the guard is the only access to the value, on whatever thread.

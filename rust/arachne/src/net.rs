@@ -1,15 +1,15 @@
 //! Sockets and other descriptors: a task that can't read or write yet waits for an event of the runtime's epoll.
 //!
-//! A socket belongs to the runtime in which it first waits. Once that runtime has ended, a wait for the socket fails in
-//! any runtime; `from_std(socket.into_std()?)` makes a new socket of it.
+//! A socket belongs to the runtime in which it first waits. Once that runtime has ended, each wait for the socket
+//! fails, in any runtime; `from_std(socket.into_std()?)` makes a new socket from it.
 //!
-//! Names are std's. `bind` and `from_std` don't wait, so they aren't `async`. Reads and writes take `&self`, so tasks
-//! may share a socket (by an `Arc`, say). Any number of tasks may wait for one socket in its methods; an event wakes
-//! all of them. Of several tasks that call a `poll_` function of one direction, or read by the traits of tokio or
-//! futures-io, only the last one is woken.
+//! Names are those of std. `bind` and `from_std` don't wait, so they aren't `async`. Reads and writes take `&self`, so
+//! tasks may share a socket (by an `Arc`, say). Any number of tasks may wait for one socket in its methods; an event
+//! wakes all of them. If several tasks call `poll_` functions of one direction (reading or writing), or read by the
+//! traits of tokio or futures-io, only the task that polled last is woken.
 //!
-//! Futures of single operations, such as `read`, `write`, `accept` and `recv_from`, lose nothing if they are dropped.
-//! `read_exact` and `write_all` may have moved a part of the bytes when they are dropped.
+//! Dropping a future of a single operation, such as `read`, `write`, `accept` and `recv_from`, loses no data.
+//! `read_exact` and `write_all` may have moved a part of the bytes by the time they are dropped.
 //!
 //! ```
 //! use arachne::net::{TcpListener, TcpStream};
@@ -51,14 +51,14 @@ pub use unix::{UnixListener, UnixStream};
 #[derive(Clone)]
 struct Registered {
     shared: &'static Shared,
-    /// The count of the runtime's `Door` (which lets calls in only while the runtime exists): how often it was opened
-    /// or closed. A later runtime that uses the same state has another count.
+    /// The count of the runtime's `Door`, which lets calls in only while the runtime exists: how often it had been
+    /// opened or closed. A later runtime that uses the same state has a different count.
     turns: u64,
     io: Arc<Io>,
     key: Key,
 }
 
-/// A descriptor, and its entry in a reactor once it has one.
+/// A descriptor and, after its first wait, its entry in a runtime's reactor (its epoll).
 struct Registration {
     fd: RawFd,
     at: once::Once<Registered>,
@@ -115,7 +115,7 @@ mod once {
 
     pub(super) struct Once<T>(AtomicPtr<T>);
 
-    // SAFETY: as for a `Box<T>` that is shared once it was written.
+    // SAFETY: as for a `Box<T>` that is shared once it has been written.
     unsafe impl<T: Send + Sync> Sync for Once<T> {}
     // SAFETY: the same.
     unsafe impl<T: Send> Send for Once<T> {}
@@ -135,7 +135,7 @@ mod once {
         pub(super) fn set(&self, value: T) {
             let value = Box::into_raw(Box::new(value));
             if self.0.compare_exchange(ptr::null_mut(), value, AcqRel, Acquire).is_err() {
-                // SAFETY: from `into_raw` above, and not stored.
+                // SAFETY: the pointer is from `into_raw` above, and was not stored.
                 drop(unsafe { Box::from_raw(value) });
             }
         }
@@ -145,17 +145,17 @@ mod once {
         fn drop(&mut self) {
             let value = *self.0.get_mut();
             if !value.is_null() {
-                // SAFETY: from `into_raw` in `set`, and only freed here.
+                // SAFETY: the pointer is from `into_raw` in `set`, and is only freed here.
                 drop(unsafe { Box::from_raw(value) });
             }
         }
     }
 }
 
-/// Returns true if the current poll may read now. If not, the task must first yield to its worker.
+/// Returns true if the task that polls now may read its socket. If not, the task must first return to its worker.
 ///
-/// A poll may always make one read, and more until its worker must check for events again. If the waker isn't the
-/// task's own, as in a `block_on`, the result is true: such a poll doesn't return to the worker.
+/// A task may always read once per poll, and more often until its worker must check for events again. If `waker` isn't
+/// the task's own, as in a `block_on`, the result is true, because such a poll doesn't return to the worker.
 #[inline]
 fn may_read(waker: &Waker) -> bool {
     Worker::with(|worker| match worker {
@@ -170,12 +170,12 @@ impl<S: AsRawFd> Source<S> {
         Source { of, socket }
     }
 
-    /// Returns the socket, removed from its reactor.
+    /// Returns the socket, after removing it from its reactor (its epoll).
     fn into_inner(self) -> S {
         self.socket
     }
 
-    /// Returns the socket's entry in the reactor. The first call makes the entry, in the current runtime.
+    /// Returns the socket's entry in its reactor (its epoll). The first call makes the entry, in the current runtime.
     fn registered(&self) -> io::Result<&Registered> {
         let Registration { at, registering, .. } = &self.of;
         if let Some(at) = at.get() {
@@ -197,7 +197,7 @@ impl<S: AsRawFd> Source<S> {
         Waiting { of: &self.of, key: 0 }
     }
 
-    /// Waits until an attempt of the operation returns anything but `WouldBlock`; see `attempt`.
+    /// Repeats an operation until it returns anything but `WouldBlock`, and waits between the attempts; see `attempt`.
     #[inline]
     fn wait<'a, const READS: bool, T>(
         &'a self,
@@ -230,8 +230,9 @@ impl<S: AsRawFd> Source<S> {
 
     /// Attempts an operation as long as the descriptor is ready; otherwise calls `register` and returns `Pending`.
     ///
-    /// `len` is the size of the buffer. An attempt that `moved` fewer bytes has emptied the socket (or filled it), so
-    /// that the descriptor is no longer ready (see epoll(7)).
+    /// `len` is the size of the buffer, and `moved` returns the number of bytes that an attempt has moved. An attempt
+    /// that moved fewer than `len` bytes has emptied the socket (or filled it), so the descriptor is no longer ready
+    /// (see epoll(7)).
     #[inline]
     fn attempt<T>(
         &self,
@@ -261,7 +262,8 @@ impl<S: AsRawFd> Source<S> {
         let mut untold = false;
         loop {
             if state & (ready | closed) == 0 {
-                // Before the state is read again: an event changes the state, and then wakes whoever is registered.
+                // Registered before the state is read again: an event first changes the state, and then wakes whoever
+                // is registered.
                 register(io, cx.waker());
                 state = io.state.load(SeqCst);
                 if state & (ready | closed) == 0 {
@@ -269,7 +271,8 @@ impl<S: AsRawFd> Source<S> {
                         let ended = io::Error::new(io::ErrorKind::Other, "the runtime of this socket has ended");
                         return Poll::Ready(Err(ended));
                     }
-                    // Once the end has begun, one attempt reads data whose event has not been delivered yet.
+                    // Once the runtime's end has begun, one attempt is made to read data whose event has not been
+                    // delivered yet.
                     if untold || !reads || !at.shared.draining.has_begun() {
                         return Poll::Pending;
                     }
@@ -313,10 +316,11 @@ pub async fn lookup_host(host: impl ToSocketAddrs + Send + 'static) -> io::Resul
     crate::spawn_blocking(move || host.to_socket_addrs().map(Iterator::collect)).await?
 }
 
-/// The backlog of a listener. std's is 128; a client beyond the backlog tries again after a second.
+/// The backlog of a listener. std's is 128; a client that finds the backlog full tries again after a second.
 const BACKLOG: i32 = 4096;
 
-/// Polls for a connection. Fails once the runtime's end has begun and all connections that had arrived are accepted.
+/// Polls for a new connection of `listener`. Fails if the runtime's end has begun and all connections that had arrived
+/// by then are accepted.
 fn poll_accept<S: AsRawFd, T>(
     listener: &Source<S>,
     cx: &mut Context<'_>,
@@ -331,19 +335,19 @@ fn poll_accept<S: AsRawFd, T>(
             return polled;
         }
         if in_own_poll(cx.waker(), |worker| worker.put_off.get()) {
-            // The attempt was put off, and is made in the next poll.
+            // The attempt was put off, and will be made in the next poll.
             cx.waker().wake_by_ref();
             return Poll::Pending;
         }
         if was_stopping {
-            // All connections that had arrived before are accepted.
+            // All connections that had arrived before the end are accepted.
             return Poll::Ready(Err(io::Error::new(io::ErrorKind::Other, "the runtime is about to end")));
         }
-        // The end began during the attempt.
+        // The end has begun during the attempt, so one more attempt is made.
     }
 }
 
-/// Waits for a connection. The task is also woken when the runtime's end begins.
+/// Waits for a new connection. The task is also woken when the runtime's end begins.
 async fn accept<S: AsRawFd, T>(listener: &Source<S>, accept: impl Fn(&S) -> io::Result<T>) -> io::Result<T> {
     let (mut stopping, mut waiting) = (crate::drain::stopping(), listener.waiting());
     poll_fn(|cx: &mut Context<'_>| {
@@ -358,7 +362,7 @@ async fn accept<S: AsRawFd, T>(listener: &Source<S>, accept: impl Fn(&S) -> io::
 
 /// Any descriptor that epoll can watch: a pipe, an eventfd, or a kind of socket that has no type in this crate.
 ///
-/// Reads and writes are calls of `S` that return `WouldBlock` instead of waiting.
+/// A read or a write is a call of `S` that returns `WouldBlock` instead of waiting.
 ///
 /// ```
 /// use std::{io::{Read, Write}, os::unix::net::UnixStream};
@@ -374,7 +378,8 @@ async fn accept<S: AsRawFd, T>(listener: &Source<S>, accept: impl Fn(&S) -> io::
 pub struct Async<S: AsRawFd>(Source<S>);
 
 impl<S: AsRawFd> Async<S> {
-    /// Takes a descriptor, and makes it non-blocking. `source` must keep the same descriptor.
+    /// Takes `source`, and makes its descriptor non-blocking. `source` must keep the same descriptor as long as this
+    /// value exists.
     ///
     /// If epoll can't watch the descriptor, the first read or write that has to wait fails, with `PermissionDenied`.
     ///
@@ -411,7 +416,7 @@ impl<S: AsRawFd> Async<S> {
         self.0.into_inner()
     }
 
-    /// Calls `attempt` whenever there may be something to read, until it returns anything but `WouldBlock`.
+    /// Calls `attempt` whenever there may be something to read, until the call returns anything but `WouldBlock`.
     ///
     /// See the example at `Async`.
     pub async fn read_with<T>(&self, attempt: impl FnMut(&S) -> io::Result<T>) -> io::Result<T> {
@@ -419,7 +424,7 @@ impl<S: AsRawFd> Async<S> {
         self.0.wait::<true, _>(0, attempt, |_| 0).await
     }
 
-    /// Calls `attempt` whenever there may be room to write, until it returns anything but `WouldBlock`.
+    /// Calls `attempt` whenever there may be room to write, until the call returns anything but `WouldBlock`.
     ///
     /// ```
     /// use std::{io::{Read, Write}, os::unix::net::UnixStream};
@@ -458,7 +463,8 @@ impl<S: AsRawFd> Async<S> {
         self.0.poll(cx, true, 0, attempt, |_| 0)
     }
 
-    /// Polls a write; see `write_with`, and the example at `poll_read_with`. Only the task that polled last is woken.
+    /// Polls a write; see `write_with`, and the example at `poll_read_with`. Only the task that polled last to write is
+    /// woken.
     pub fn poll_write_with<T>(
         &self,
         cx: &mut Context<'_>,
@@ -474,11 +480,12 @@ impl<S: AsRawFd + fmt::Debug> fmt::Debug for Async<S> {
     }
 }
 
-/// Conversions and the descriptor, for each type of socket. `$make` makes a socket of std's for the example.
+/// Implements, for each type of socket, the conversions from and to std's socket, and access to the descriptor. `$make`
+/// is an expression for a socket of std, for the example.
 macro_rules! socket {
     ($name:ident, $std:ty, $make:literal) => {
         impl $name {
-            /// Takes a socket of std's, and makes it non-blocking. The socket's other options stay as they are.
+            /// Takes a socket of std, and makes it non-blocking. The socket's other options stay as they are.
             ///
             /// ```
             /// # fn main() -> std::io::Result<()> {
@@ -494,7 +501,7 @@ macro_rules! socket {
                 Ok($name(Source::new(socket)))
             }
 
-            /// Returns the socket of std's, which stays non-blocking; see the example at `from_std`.
+            /// Returns the socket as std's type; it stays non-blocking; see the example at `from_std`.
             pub fn into_std(self) -> io::Result<$std> {
                 Ok(self.0.into_inner())
             }
@@ -506,8 +513,8 @@ macro_rules! socket {
             }
         }
 
-        /// Gives access to options that have no method of this type. Don't read or write by the descriptor: the runtime
-        /// would not see it.
+        /// Gives access to socket options for which this type has no method. Don't read or write through the
+        /// descriptor, because the runtime would not notice.
         impl AsRawFd for $name {
             fn as_raw_fd(&self) -> RawFd {
                 self.0.socket.as_raw_fd()
@@ -523,7 +530,8 @@ macro_rules! socket {
     };
 }
 
-/// Reads and writes, for each type of connection. `$pair` makes two connected sockets for the examples.
+/// Implements reads and writes, for each type of connection. `$pair` is an expression for two connected sockets, for
+/// the examples.
 macro_rules! stream {
     ($name:ident, $pair:literal) => {
         impl $name {
@@ -585,8 +593,8 @@ macro_rules! stream {
                 self.0.poll(cx, false, len, |mut socket| socket.write_vectored(bytes), |&n| n)
             }
 
-            /// Reads at most `buffer.len()` bytes, once there are some. Returns the number of bytes read; 0 at the
-            /// connection's end.
+            /// Waits until there are bytes to read, and reads at most `buffer.len()` of them. Returns the number of
+            /// bytes read, which is 0 at the connection's end.
             ///
             /// ```
             /// # fn main() -> std::io::Result<()> {
@@ -603,7 +611,8 @@ macro_rules! stream {
                 self.0.wait::<true, _>(len, |mut socket| socket.read(buffer), |&n| n).await
             }
 
-            /// Fills the buffer. Fails with `UnexpectedEof` if the connection ends before the buffer is full.
+            /// Reads until the buffer is full. Fails with `UnexpectedEof` if the connection ends before the buffer is
+            /// full.
             ///
             /// ```
             /// # fn main() -> std::io::Result<()> {
@@ -625,7 +634,7 @@ macro_rules! stream {
                 Ok(())
             }
 
-            /// Writes some of the bytes, at least one, once there is room. Returns the number of bytes written.
+            /// Waits until there is room, and writes at least one of the bytes. Returns the number of bytes written.
             ///
             /// ```
             /// # fn main() -> std::io::Result<()> {
@@ -676,8 +685,8 @@ macro_rules! stream {
                 cx: &mut Context<'_>,
                 buffer: &mut tokio::io::ReadBuf<'_>,
             ) -> Poll<io::Result<()>> {
-                // Not `initialize_unfilled`, which writes zeros to all of the room at each read.
-                // SAFETY: the read only writes to these bytes, and reads none of them.
+                // Not `initialize_unfilled`, which writes zeros to the whole buffer before each read. SAFETY: the read
+                // only writes to these bytes, and never reads them.
                 let room = unsafe { &mut *(buffer.unfilled_mut() as *mut [std::mem::MaybeUninit<u8>] as *mut [u8]) };
                 match $name::poll_read(&self, cx, room) {
                     Poll::Ready(Ok(n)) => {

@@ -1,6 +1,6 @@
-//! Records the states of a runtime's tasks and how long ready tasks waited, and calls hooks.
+//! Records the states of a runtime's tasks and how long ready tasks have waited, and calls hooks.
 //!
-//! A runtime built without `Builder::observed` records none of this, and only makes one test per step.
+//! A runtime built without `Builder::observed` records none of this, and makes only one test per step of a task.
 
 use crate::core::Job;
 use crate::shared::Shared;
@@ -12,9 +12,9 @@ use std::panic::Location;
 use std::ptr;
 use std::time::Duration;
 
-/// Callbacks at the steps of tasks, for a tracing library, say; see `Builder::hooks`.
+/// Functions that the runtime calls at the steps of tasks, for a tracing library, say; see `Builder::hooks`.
 ///
-/// Each hook is called on the thread that makes the step, and must not panic. `id` is a number that no other task of
+/// Each hook is called on the thread that makes the step, and must not panic. `_id` is a number that no other task of
 /// the runtime ever has.
 ///
 /// ```
@@ -32,32 +32,32 @@ use std::time::Duration;
 /// assert_eq!(spawns.0.load(SeqCst), 1);
 /// ```
 pub trait Hooks: Send + Sync {
-    /// A task was spawned.
+    /// Called when a task was spawned.
     fn spawned(&self, _about: &About) {}
-    /// A poll of this task begins.
+    /// Called when a poll of this task begins.
     fn poll_begins(&self, _id: u64, _about: &About) {}
-    /// The poll ends. If the task has ended, a call of `ended` follows.
+    /// Called when the poll is over. If the task has ended, a call of `ended` follows.
     fn poll_ends(&self, _id: u64) {}
-    /// The task that waits at this place was made ready.
+    /// Called when the waiting task in the slot with index `_place` was made ready.
     fn woken(&self, _place: usize) {}
-    /// The task has ended on a worker.
+    /// Called when the task has ended on a worker.
     fn ended(&self, _id: u64) {}
 }
 
-/// The number of classes of the histogram; see `Stats::ready_to_taken`.
+/// The number of buckets of the histogram; see `Stats::ready_to_taken`.
 pub(crate) const HISTOGRAM: usize = 24;
 
 #[derive(Default)]
 struct Record {
     spawned: AtomicPtr<Location<'static>>,
     label: AtomicPtr<Label>,
-    /// The task's name plus one, or 0 if there is no task.
+    /// The core's name of the slot's task (its slot and generation) plus one, or 0 if the slot has no task.
     name: AtomicU64,
-    /// The time since which the task waits, or 0 if it doesn't.
+    /// The time at which the task began to wait, or 0 if it doesn't wait.
     waits_since: AtomicU64,
-    /// The time since which the task is ready, or 0 if it isn't.
+    /// The time at which the task became ready, or 0 if it isn't ready.
     ready_since: AtomicU64,
-    /// The time since which the task runs, or 0 if it doesn't.
+    /// The time at which the task's poll began, or 0 if it isn't polled now.
     runs_since: AtomicU64,
 }
 
@@ -76,7 +76,7 @@ pub enum Doing {
     Waits,
     /// The task waits for a worker.
     Ready,
-    /// A worker polls the task.
+    /// A worker polls the task now.
     Runs,
 }
 
@@ -86,7 +86,7 @@ pub enum Doing {
 pub struct TaskInfo {
     /// A number that no other task of the runtime ever has.
     pub id: u64,
-    /// Where the task was spawned, and its name.
+    /// The line of code that spawned the task, and the task's name.
     pub about: About,
     /// The task's current state.
     pub doing: Doing,
@@ -172,7 +172,7 @@ impl Observer {
         }
     }
 
-    /// Records that the job at this place is ready from now on.
+    /// Records that the job in the slot with index `place` is ready from now on.
     #[inline]
     pub(crate) fn ready(&self, place: usize) {
         if self.is_on() {
@@ -185,7 +185,7 @@ impl Observer {
         std::array::from_fn(|i| self.histogram[i].load(Relaxed))
     }
 
-    /// Returns all tasks in progress, each as it is when the list reaches it.
+    /// Returns all tasks in progress, each with its state at the moment when the list reaches it.
     pub(crate) fn tasks(&self) -> Vec<TaskInfo> {
         let now = now();
         self.records.iter().filter_map(|record| record.info(now)).collect()
@@ -214,7 +214,7 @@ impl Record {
 }
 
 impl Shared {
-    /// Returns the task that a worker polls now: its name, and where it was spawned.
+    /// Returns the task that a worker polls now: its name in the core, and its description.
     pub(crate) fn running(&self, worker: usize) -> Option<(u64, About)> {
         let worker = &self.workers[worker].0;
         let name = worker.running.load(Relaxed);

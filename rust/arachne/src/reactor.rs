@@ -1,12 +1,12 @@
 //! The epoll of a runtime: the events of its sockets, and the waking of the worker that sleeps there.
 //!
-//! One worker at a time waits in the epoll. The tasks that these events wake go, in the events' order, into the local
-//! queues of the worker that waited. So a worker asks only for as many events as have room there (`asks` in worker.rs):
-//! at most 8, and fewer if 8 polls take more than about 100 us. A worker that is the only active one asks for more. The
-//! other events stay with the kernel for the next worker that polls the epoll, so that they don't wait for a worker
-//! that loses its processor; if there may be more, the worker wakes a sleeping one. A worker that has ready jobs of its
-//! own polls the epoll too; the tasks that it wakes then become ready in their blocks, unless it is the only active
-//! worker.
+//! Only one worker at a time waits in the epoll. The tasks that these events wake go into the local queues of the
+//! worker that waited, in the order of the events. So a worker asks for only as many events as its local queues have
+//! room for (`asks` in worker.rs): at most 8, and fewer if 8 polls take more than about 100 us. A worker that is the
+//! only active one asks for more events. The other events stay in the kernel for the next worker that polls the epoll,
+//! so that they aren't stuck with a worker that loses its processor; if there may be more events, the worker wakes a
+//! sleeping one. A worker that has ready jobs of its own polls the epoll too; the tasks that it wakes then become ready
+//! in their blocks, unless it is the only active worker.
 
 use crate::sync::atomic::{AtomicU64, AtomicUsize, Ordering::*};
 use crate::sync::{Arc, Condvar, Mutex};
@@ -22,15 +22,15 @@ pub(crate) const WRITE: u64 = 2;
 pub(crate) const READ_CLOSED: u64 = 4;
 pub(crate) const WRITE_CLOSED: u64 = 8;
 const TICK: u64 = 256;
-/// Used in place of a name, if a waker doesn't belong to a task of this runtime.
+/// Stored instead of a task's name (its slot and generation) if a waker doesn't belong to a task of this runtime.
 const OTHER: u64 = NOBODY - 1;
-/// The key of the eventfd that ends a wait.
+/// The epoll key of the eventfd that ends a wait.
 const WOKEN: u64 = 0;
 /// The most events that one poll of the epoll returns.
 pub(crate) const EVENTS: usize = 64;
 
-/// A waker that is registered for one event. If it belongs to a task of this runtime, it is kept in one word, without a
-/// lock. Other wakers take a lock.
+/// A waker that is registered for one event. A waker of a task of this runtime is kept in one word, without a lock. Any
+/// other waker is kept under a lock.
 pub(crate) struct Slot {
     table: usize,
     name: AtomicU64,
@@ -78,13 +78,13 @@ impl Slot {
 
 /// The readiness of a descriptor, and the wakers of the tasks that wait for it.
 ///
-/// The bits above the lowest eight count the events, so that a bit is cleared only if there was no event since the bit
-/// was read.
+/// The bits above the lowest eight count the events, so that a readiness bit is cleared only if no event came after the
+/// bit was read.
 pub(crate) struct Io {
     pub(crate) state: AtomicU64,
-    /// The last waker of the `poll_` functions that read, which replace it at each call.
+    /// The waker of the last call of a `poll_` function that reads; each call replaces it.
     pub(crate) reader: Slot,
-    /// The last waker of the `poll_` functions that write, which replace it at each call.
+    /// The waker of the last call of a `poll_` function that writes; each call replaces it.
     pub(crate) writer: Slot,
     /// The wakers of the futures that wait to read, any number of them.
     pub(crate) readers: Waiters,
@@ -92,14 +92,15 @@ pub(crate) struct Io {
     pub(crate) writers: Waiters,
 }
 
-/// The futures that wait for one direction of a descriptor. An event wakes all of these futures.
+/// The futures that wait for one direction (reading or writing) of a descriptor. An event wakes all of these futures.
 pub(crate) struct Waiters {
     table: usize,
-    /// The name of one task of this runtime that waits, which needs no lock. The future of that task may be gone.
+    /// The core's name of one task of this runtime that waits; it is accessed without a lock. The future of the task
+    /// with this name may have been dropped.
     first: AtomicU64,
     /// The number of the other wakers.
     count: AtomicUsize,
-    /// The next key, and the other wakers by key.
+    /// The next key to give out, and the other wakers with their keys.
     others: Mutex<(u64, Vec<(u64, Waker)>)>,
 }
 
@@ -108,9 +109,10 @@ impl Waiters {
         Waiters { table, first: AtomicU64::new(NOBODY), count: AtomicUsize::new(0), others: Mutex::default() }
     }
 
-    /// Registers a future's waker. `key` must be 0 at first, and is the future's key from then until `leave`.
+    /// Registers a future's waker. The caller must pass a `key` of 0 at first; the call sets it, and it stays the
+    /// future's key until `leave`.
     ///
-    /// The caller must read the descriptor's state after this call: an event changes the state before it wakes.
+    /// The caller must read the descriptor's state after this call, because an event changes the state before it wakes.
     #[inline]
     pub(crate) fn join(&self, key: &mut u64, waker: &Waker) {
         if *key == 0 {
@@ -132,7 +134,7 @@ impl Waiters {
         if let Some((_, old)) = waiting.iter_mut().find(|(of, _)| *of == *key) {
             if !old.will_wake(waker) {
                 let old = std::mem::replace(old, waker.clone());
-                // Without the lock: the drop of a waker may drop a future that calls `leave`.
+                // Dropped after the lock is released: the drop of a waker may drop a future that calls `leave`.
                 drop(others);
                 drop(old);
             }
@@ -187,7 +189,7 @@ impl Io {
         }
     }
 
-    /// Clears `bits` in the state, unless there was an event since `seen` was read. Returns the state after the call.
+    /// Clears `bits` in the state, unless there was an event after `seen` was read. Returns the state after the call.
     #[inline]
     pub(crate) fn clear(&self, seen: u64, bits: u64) -> u64 {
         match self.state.compare_exchange(seen, seen & !bits, SeqCst, SeqCst) {
@@ -223,15 +225,15 @@ impl Io {
     }
 }
 
-/// The descriptors by key. A key contains a use count, so that a late event of a removed descriptor finds nobody.
+/// The descriptors that are registered, by key. A key contains a use count, so that a late event of a removed
+/// descriptor finds no descriptor.
 #[derive(Default)]
 struct Sources {
     all: Vec<(u32, Option<Arc<Io>>)>,
     free: Vec<u32>,
 }
 
-/// The events that one poll of the epoll has returned. Events beyond the number asked for stay with the kernel, in
-/// order.
+/// The events that one poll of the epoll returned. Events beyond the number asked for stay in the kernel, in order.
 pub(crate) struct Found {
     events: [Event; EVENTS],
     count: usize,
@@ -247,7 +249,7 @@ impl Found {
         found
     }
 
-    /// Returns true if there may be more events.
+    /// Returns true if the kernel may have more events.
     pub(crate) fn is_full(&self) -> bool {
         self.count == self.asked
     }
@@ -259,7 +261,7 @@ impl Found {
 
 pub(crate) struct Reactor {
     epoll: RawFd,
-    /// The eventfd that ends a wait. The eventfd stays raised until a waiter has seen it.
+    /// The eventfd by which `notify` ends a wait. The eventfd stays raised until a waiter has seen it.
     event: RawFd,
     used: AtomicUsize,
     sources: Mutex<Sources>,
@@ -281,7 +283,7 @@ impl Reactor {
         self.used.load(Relaxed) != 0
     }
 
-    /// Ends the wait of the worker that waits in this epoll, or else the next wait.
+    /// Ends the wait of the worker that waits in this epoll or, if none waits, the next wait.
     pub(crate) fn notify(&self) {
         sys::raise(self.event);
     }
@@ -330,7 +332,7 @@ impl Reactor {
         io.as_ref().filter(|_| *uses as u64 == data >> 32).cloned()
     }
 
-    /// Wakes all tasks that wait for a descriptor, without an event.
+    /// Wakes all tasks that wait for any descriptor, without an event.
     pub(crate) fn wake_all(&self) {
         let sources: Vec<_> = self.sources.lock().unwrap().all.iter().filter_map(|(_, io)| io.clone()).collect();
         for io in sources {
@@ -346,8 +348,8 @@ impl Reactor {
 
     /// Waits for events or for `notify`, for at most `timeout` milliseconds (-1: for ever).
     ///
-    /// Only one worker at a time may wait. If the event of `notify` is beyond the `most` events asked for, it ends the
-    /// next wait too.
+    /// Only one worker at a time may wait. If the event of `notify` is beyond the `most` events asked for, the event
+    /// ends the next wait too.
     pub(crate) fn wait(&self, timeout: i32, most: usize) -> Found {
         let found = Found::of(self.epoll, timeout, most);
         if found.events[..found.count].iter().any(|event| event.data == WOKEN) {
@@ -356,7 +358,7 @@ impl Reactor {
         found
     }
 
-    /// Wakes the tasks that wait for these events. Returns the number of descriptors that had an event.
+    /// Wakes the tasks that wait for the events `found`. Returns the number of descriptors that had an event.
     pub(crate) fn tell(&self, found: &Found) -> usize {
         let sockets = found.events[..found.count].iter().filter(|event| event.data != WOKEN);
         sockets
@@ -376,7 +378,7 @@ pub(crate) struct Bell {
 }
 
 impl Bell {
-    /// Ends the current wait, or the next one.
+    /// Ends the current wait or, if there is none, the next one.
     pub(crate) fn ring(&self) {
         *self.rung.lock().unwrap() = true;
         self.heard.notify_one();

@@ -27,7 +27,7 @@ use std::time::Duration;
 /// local queue, and the stolen jobs.
 const HANDS: usize = 3 + crate::worker::HAND + crate::hand::FIRST;
 
-/// The function that each thread calls before its first task.
+/// The function of `Builder::on_worker_start`, which each thread that polls tasks calls before its first task.
 type Starts = Arc<dyn Fn() + Send + Sync>;
 
 /// Configures a runtime, and builds it.
@@ -62,10 +62,10 @@ impl fmt::Debug for Builder {
 }
 
 impl Builder {
-    /// Returns a builder with the default settings, for `cores` workers (kernel threads). 0 counts as 1, and more than
-    /// 64 as 64.
+    /// Returns a builder for a runtime of `cores` workers (kernel threads), with the default settings. If `cores` is 0,
+    /// there is one worker; if it is more than 64, there are 64.
     ///
-    /// `available_cores` returns the number of processors.
+    /// `available_cores()` returns the number of processors that the process may use.
     ///
     /// ```
     /// let runtime = arachne::Builder::new(3).build().unwrap();
@@ -88,10 +88,11 @@ impl Builder {
         }
     }
 
-    /// Sets the number of tasks that may be in progress at a time: 65,536 by default, at most 1,048,576.
+    /// Sets the number of task slots, which is the most tasks in progress at a time: 65,536 by default, at most
+    /// 1,048,576.
     ///
-    /// The number is rounded up to a multiple of 4,096 for each worker. Tasks beyond this number wait in a queue until
-    /// another task ends, or are refused by `try_spawn`.
+    /// The number is rounded up so that each worker has a multiple of 4,096 slots. Tasks beyond this number wait in a
+    /// queue until another task ends; `try_spawn` refuses them instead.
     ///
     /// ```
     /// let runtime = arachne::Builder::new(1).places(4096).build().unwrap();
@@ -105,7 +106,7 @@ impl Builder {
         self
     }
 
-    /// Lets the number of active cores follow the load. Without a policy all cores are active.
+    /// Sets a policy by which the number of active workers follows the load. Without a policy, all workers are active.
     ///
     /// ```
     /// let runtime = arachne::Builder::new(4).policy(arachne::Policy::default()).build().unwrap();
@@ -118,13 +119,16 @@ impl Builder {
         self
     }
 
-    /// Shares the machine's processors with other processes, by the daemon (`rust/arbiter`) that listens at `path`.
+    /// Shares the machine's processors with other processes, through the daemon (`rust/arbiter`) that listens at
+    /// `path`.
     ///
-    /// This daemon, the arbiter, grants each worker a processor; the first worker also runs without one. The runtime
-    /// asks for as many processors as its policy wants, or for one per worker. `priority` is 0 (first) to 7; `reserved`
-    /// cores (at most 65,535) go to this runtime before others get more than is reserved for them.
+    /// The daemon, called the *arbiter*, grants processors, and each worker waits until it has one; the first worker
+    /// also runs without. The runtime asks the arbiter for as many processors as its policy wants or, without a policy,
+    /// for one per worker. `priority` is from 0 (served first) to 7. The runtime gets up to `reserved` cores (at most
+    /// 65,535) before other runtimes get more than their own reserves.
     ///
-    /// If there is no arbiter, or it refuses, the runtime works as without this call, and tries again each second.
+    /// If no arbiter listens at `path`, or if the arbiter refuses, the runtime works as without this call, and tries
+    /// again each second.
     ///
     /// ```
     /// let builder = arachne::Builder::new(4).arbiter("/run/arachne-arbiter.sock", 0, 1);
@@ -136,7 +140,7 @@ impl Builder {
         self
     }
 
-    /// Keeps each worker on a processor of its own, unless there is an arbiter: then the arbiter does that.
+    /// If `pin` is true, keeps each worker on a processor of its own, unless there is an arbiter, which then does that.
     ///
     /// ```
     /// let runtime = arachne::Builder::new(2).pinned(true).build().unwrap();
@@ -153,8 +157,8 @@ impl Builder {
     /// Sets the time slice that workers request from Linux (6.12 and later): 100 us by default, which is Linux's
     /// minimum.
     ///
-    /// A thread that wakes gets a processor sooner if its slice is shorter. None keeps the system's slice (some 3 ms),
-    /// which suits tasks that compute for long beside other busy threads.
+    /// A thread with a shorter slice gets a processor sooner after it wakes. None leaves the system's slice (some 3
+    /// ms), which is better for tasks that compute for long while other threads are busy.
     ///
     /// ```
     /// let runtime = arachne::Builder::new(2).slices(None).build().unwrap();
@@ -165,9 +169,9 @@ impl Builder {
         self
     }
 
-    /// Sets the most threads for `spawn_blocking`: 512 by default, and at least one.
+    /// Sets the most threads that `spawn_blocking` may use: 512 by default, and at least one.
     ///
-    /// A thread starts if none is idle, and ends after five seconds without work.
+    /// A thread is started if none is idle, and ends after five seconds without work.
     ///
     /// ```
     /// let runtime = arachne::Builder::new(1).blocking_threads(1).build().unwrap();
@@ -183,8 +187,8 @@ impl Builder {
         self
     }
 
-    /// Lets the runtime record what `Runtime::tasks` and `Stats::ready_to_taken` return. This costs 48 bytes for each
-    /// task that there may be, and some 100 ns for each poll.
+    /// Records the states and waiting times of tasks, for `Runtime::tasks` and `Stats::ready_to_taken`. Recording costs
+    /// 48 bytes for each task slot, and some 100 ns for each poll.
     ///
     /// ```
     /// let runtime = arachne::Builder::new(1).observed().build().unwrap();
@@ -196,7 +200,7 @@ impl Builder {
         self
     }
 
-    /// Like `observed`, and calls these hooks at each step of a task; see `Hooks`.
+    /// Like `observed`, and also calls `hooks` at each step of each task; see `Hooks`.
     ///
     /// ```
     /// struct Prints;
@@ -214,8 +218,8 @@ impl Builder {
         self
     }
 
-    /// Calls a function on each thread that polls tasks, before its first task. These threads are the workers, and the
-    /// watcher of `watch_polls`.
+    /// Calls `starts` on each thread that polls tasks, before the thread's first task. These threads are the workers,
+    /// and the watcher of `watch_polls`.
     ///
     /// The function can set up thread-locals that tasks expect, such as tokio's: `std::mem::forget(handle.enter())` for
     /// the handle of a runtime of tokio that runs beside this one. A panic in the function ends the process.
@@ -231,10 +235,12 @@ impl Builder {
         self
     }
 
-    /// Starts a watcher thread that reports polls which take longer than `longer`, and works around them.
+    /// Starts a watcher thread, which detects polls that take longer than `longer` and lessens their effect on other
+    /// tasks.
     ///
-    /// Each such poll is counted in `Stats::slow_polls` and, if `log`, named on the standard error stream. Meanwhile
-    /// the watcher takes over the ready tasks, sockets and timers of the worker that is in the poll.
+    /// `Stats::slow_polls` counts these polls and, if `log` is true, each is reported on the standard error stream.
+    /// While the poll lasts, the watcher takes over the other ready tasks, the sockets and the timers of the worker
+    /// that is in the poll.
     ///
     /// ```
     /// use std::time::Duration;
@@ -255,8 +261,9 @@ impl Builder {
 
     /// Starts the workers, and returns the runtime.
     ///
-    /// Fails if memory, descriptors or threads are refused, or if the process has 32 runtimes. A runtime that has ended
-    /// also counts, until a runtime with the same cores, places and `observed` takes its place.
+    /// Fails if memory, descriptors or threads are refused, or if the process has 32 runtimes already. A runtime that
+    /// has ended still counts, until a runtime with the same number of cores and places and the same `observed` reuses
+    /// its state.
     ///
     /// ```
     /// # fn main() -> std::io::Result<()> {
@@ -278,7 +285,7 @@ impl Builder {
             shared.arbiter.open(self.cores)?;
         }
         let cpus = if self.pin && !shares { sys::affinity() } else { Vec::new() };
-        // The watcher is one more thread, behind the workers.
+        // The watcher calls the core too, so it gets handles of its own, the last ones of the crew.
         let crew = shared.root.lock().unwrap().crew(self.cores + self.slow.is_some() as usize, HANDS);
         let mut crew = crew.ok_or(io::ErrorKind::OutOfMemory)?;
         let watches = crew.drain(self.cores..).next();
@@ -326,7 +333,7 @@ impl Builder {
     }
 }
 
-/// Counts of a runtime; see `Runtime::stats`.
+/// The counts of a runtime; see `Runtime::stats`.
 ///
 /// ```
 /// let runtime = arachne::Runtime::new(2);
@@ -338,40 +345,42 @@ impl Builder {
 #[derive(Clone, Debug, Default)]
 #[non_exhaustive]
 pub struct Stats {
-    /// The number of active cores. Under an arbiter at least 1, even if the first worker has no core of its own.
+    /// The number of active cores (workers that may run tasks). With an arbiter it is at least 1, even if the first
+    /// worker has no core of its own.
     pub active: usize,
     /// True if an arbiter decides how many cores may be active.
     pub arbiter: bool,
-    /// The number of polls of tasks.
+    /// The number of polls of tasks since the runtime began.
     pub polls: u64,
     /// The number of tasks that ended on a worker.
     pub ended: u64,
-    /// The number of successful steals from other workers.
+    /// The number of times that a worker stole jobs from another.
     pub takes: u64,
-    /// The number of times that workers slept.
+    /// The number of times that a worker slept.
     pub parks: u64,
-    /// The number of tasks that had to wait for a free place.
+    /// The number of tasks that had to wait for a free task slot.
     pub queued: u64,
-    /// The number of cores that the policy asked for.
+    /// The number of times that the policy asked for a core.
     pub adds: u64,
-    /// The number of cores that the policy gave back.
+    /// The number of times that the policy gave a core back.
     pub removes: u64,
-    /// The time for which cores were active, summed over the cores. Only counted with a policy.
+    /// The time for which cores were active, summed over all cores. Only counted with a policy.
     pub core_time: Duration,
     /// The number of polls that took longer than the limit of `Builder::watch_polls`.
     pub slow_polls: u64,
-    /// The number of polls that the watcher made in place of workers that were stuck.
+    /// The number of polls that the watcher made for workers that were stuck in a long poll.
     pub rescued: u64,
     /// The counts of each worker.
     pub workers: Vec<WorkerStats>,
-    /// A histogram of the times for which ready tasks waited to be taken; empty unless the runtime is observed.
+    /// A histogram of the times for which ready tasks waited until a worker took them; empty unless the runtime is
+    /// observed.
     ///
-    /// Number i counts the times from 2^(i-1) up to 2^i microseconds. Number 0 counts those below one microsecond, and
-    /// the last number all longer ones.
+    /// Element i counts the times from 2^(i-1) up to 2^i microseconds. Element 0 counts those below one microsecond,
+    /// and the last element all longer ones.
     pub ready_to_taken: Vec<u64>,
 }
 
-/// Counts of one worker; see `Stats::workers`.
+/// The counts of one worker; see `Stats::workers`.
 ///
 /// ```
 /// let runtime = arachne::Runtime::new(1);
@@ -382,24 +391,24 @@ pub struct Stats {
 #[derive(Clone, Copy, Debug, Default)]
 #[non_exhaustive]
 pub struct WorkerStats {
-    /// The number of polls of tasks.
+    /// The number of polls that this worker made.
     pub polls: u64,
     /// The number of tasks that ended on this worker.
     pub ended: u64,
-    /// The number of successful steals from other workers.
+    /// The number of times that this worker stole jobs from another.
     pub takes: u64,
-    /// The number of waiting tasks that were woken on this worker.
+    /// The number of times that this worker woke a waiting task.
     pub wakes: u64,
-    /// The number of times that the worker slept.
+    /// The number of times that this worker slept.
     pub parks: u64,
-    /// The time for which the worker had no work.
+    /// The time for which this worker had no work.
     pub idle: Duration,
 }
 
 /// A runtime: worker threads that run tasks.
 ///
-/// Dropping a runtime ends it as `shutdown` does. If a task or the blocking work of the runtime itself drops it,
-/// another thread ends it, and the drop returns at once.
+/// Dropping a runtime ends it as `shutdown` does. If one of the runtime's own tasks, or a closure on its blocking pool,
+/// drops the runtime, another thread ends it, and the drop returns at once.
 ///
 /// ```
 /// let runtime = arachne::Runtime::new(4);
@@ -420,7 +429,7 @@ impl fmt::Debug for Runtime {
 }
 
 impl Runtime {
-    /// Returns a runtime of `cores` workers, and otherwise with the defaults of `Builder::new`.
+    /// Returns a runtime of `cores` workers, with the default settings of `Builder::new`.
     ///
     /// ```
     /// let runtime = arachne::Runtime::new(arachne::available_cores());
@@ -434,7 +443,7 @@ impl Runtime {
         Builder::new(cores).build().expect("a runtime")
     }
 
-    /// Spawns a task, from any thread. Returns the handle on the task's output.
+    /// Spawns a task on this runtime, from any thread. Returns a handle, which is a future of the task's output.
     ///
     /// ```
     /// let runtime = arachne::Runtime::new(2);
@@ -450,7 +459,7 @@ impl Runtime {
         self.shared.spawn_task(future, About { spawned: Location::caller(), name: None }, false)
     }
 
-    /// Like `spawn`, but gives the tasks to the workers in turn; see the function `spawn_balanced`.
+    /// Like `spawn`, but gives such tasks to the workers in turn; see the function `spawn_balanced`.
     ///
     /// ```
     /// let runtime = arachne::Runtime::new(2);
@@ -497,7 +506,7 @@ impl Runtime {
         self.shared.spawn_background(future, About { spawned: Location::caller(), name: None })
     }
 
-    /// Like `spawn`, but hands the future back if no place is free, or if tasks already wait for a place.
+    /// Like `spawn`, but returns the future in the error if no task slot is free or if other tasks wait for one.
     ///
     /// ```
     /// let runtime = arachne::Runtime::new(1);
@@ -515,7 +524,7 @@ impl Runtime {
         self.shared.try_spawn_task(future, About { spawned: Location::caller(), name: None })
     }
 
-    /// Returns a handle that spawns from any thread, and may outlive the runtime.
+    /// Returns a handle that can spawn from any thread, and may outlive the runtime.
     ///
     /// ```
     /// let runtime = arachne::Runtime::new(1);
@@ -541,7 +550,7 @@ impl Runtime {
         entered(self.shared, || block_on(future))
     }
 
-    /// Runs a function with this runtime for its spawns, sockets and timers.
+    /// Calls `f` on this thread, with this runtime for the spawns, sockets and timers of `f`.
     ///
     /// ```
     /// let runtime = arachne::Runtime::new(1);
@@ -552,7 +561,7 @@ impl Runtime {
         entered(self.shared, f)
     }
 
-    /// Returns the counts of the workers until now.
+    /// Returns what the workers have counted until now.
     ///
     /// ```
     /// let runtime = arachne::Runtime::new(2);
@@ -595,7 +604,8 @@ impl Runtime {
         }
     }
 
-    /// Returns all tasks in progress, with their states. The list is empty unless the runtime is observed.
+    /// Returns all tasks in progress, with their current states. The list is empty unless the runtime is observed
+    /// (`Builder::observed` or `Builder::hooks`).
     ///
     /// ```
     /// let runtime = arachne::Builder::new(1).observed().build().unwrap();
@@ -613,7 +623,8 @@ impl Runtime {
         self.shared.observer.tasks()
     }
 
-    /// Writes the list of `tasks` to the standard error stream at each signal of this number (10 is SIGUSR1).
+    /// From now on, writes the list of `tasks` to the standard error stream whenever the process gets `signal` (10 is
+    /// SIGUSR1).
     ///
     /// ```no_run
     /// # fn main() -> std::io::Result<()> {
@@ -640,9 +651,9 @@ impl Runtime {
 
     /// Ends the runtime: drops all tasks that have not ended, and joins the runtime's threads.
     ///
-    /// No task is polled from then on. The tasks are dropped on the calling thread, and their handles return
-    /// `Cancelled`. The call waits, without a limit, for polls in progress and for work that runs on the blocking pool.
-    /// See `shutdown_within` for an end that lets tasks finish.
+    /// After this call, no task is polled any more. The tasks are dropped on the calling thread, and their handles
+    /// return `Cancelled`. The call waits, without a limit, for polls in progress and for closures that run on the
+    /// blocking pool. To let tasks finish first, use `shutdown_within`.
     ///
     /// ```
     /// let runtime = arachne::Runtime::new(1);
@@ -654,7 +665,8 @@ impl Runtime {
         drop(self);
     }
 
-    /// Ends the runtime. Returns at `until` even if work on the blocking pool still runs.
+    /// Ends the runtime, as `shutdown` does. If `until` is given, returns at that time even if work on the blocking
+    /// pool still runs.
     pub(crate) fn end(&mut self, until: Option<Instant>) {
         if self.ended {
             return;
@@ -678,8 +690,8 @@ impl Runtime {
             end_spawned(shared);
             if left().is_zero() {
                 shared.door.close();
-                // Another thread waits for the blocking work that still runs. If none can be started, the state is
-                // never used again.
+                // Another thread waits for the blocking work that still runs, and then gives the state back. If no
+                // thread can be started, the state is never used again.
                 let _ = thread::Builder::new().name("arachne-end".into()).spawn(move || end_later(shared));
                 return;
             }
@@ -690,11 +702,11 @@ impl Runtime {
     }
 }
 
-/// The time between two searches for tasks that blocking work has spawned since the end.
+/// The time between two searches for tasks that blocking work has spawned since the runtime's end.
 const LOOK: Duration = Duration::from_millis(10);
 
-/// Waits for blocking work that outlives its runtime. Only after this wait may a later runtime use the state of the
-/// ended runtime.
+/// Waits for the blocking work that outlives its runtime. The runtime's state is given back, for use by a later
+/// runtime, only after this wait.
 fn end_later(shared: &'static Shared) {
     while !shared.blocking.wait_for_end(LOOK) {
         end_spawned(shared);
@@ -703,7 +715,7 @@ fn end_later(shared: &'static Shared) {
     shared.give();
 }
 
-/// Ends the tasks that blocking work has spawned since the runtime's end: the work may wait for them.
+/// Ends the tasks that blocking work has spawned since the runtime's end, since the work may wait for them.
 fn end_spawned(shared: &'static Shared) {
     if shared.live() != 0 {
         entered(shared, || end_all(shared));
@@ -715,7 +727,7 @@ impl Drop for Runtime {
         if self.ended || !is_own(self.shared) {
             return self.end(None);
         }
-        // A thread can't join itself. If no other thread can be started, the runtime runs on.
+        // A thread can't join itself. If no other thread can be started, the runtime isn't ended, and runs on.
         let threads = std::mem::take(&mut self.threads);
         let rest = ManuallyDrop::new(Runtime { shared: self.shared, threads, ended: self.ended });
         let ends = move || drop(ManuallyDrop::into_inner(rest));
@@ -723,7 +735,7 @@ impl Drop for Runtime {
     }
 }
 
-/// Aborts the process if dropped: a panic in a worker's own loop would lose the jobs that it holds.
+/// Aborts the process if a panic drops this value: a panic in a worker's own loop would lose the jobs that it holds.
 struct EndsTheProcess;
 impl Drop for EndsTheProcess {
     fn drop(&mut self) {
@@ -734,8 +746,8 @@ impl Drop for EndsTheProcess {
 
 /// Ends all tasks that have not ended.
 ///
-/// No worker runs any more, but other threads may be within a wake or a spawn. So the call searches the tables again
-/// until as many tasks have ended as were spawned.
+/// No worker runs any more, but other threads may still be in the middle of a wake or a spawn. So this function
+/// searches the tables again and again, until as many tasks have ended as were spawned.
 fn end_all(shared: &'static Shared) {
     loop {
         end_queued(shared);
@@ -747,7 +759,7 @@ fn end_all(shared: &'static Shared) {
     }
 }
 
-/// Ends the tasks that wait for a place.
+/// Ends the tasks in the queue, which never got a task slot.
 fn end_queued(shared: &'static Shared) {
     loop {
         let raw = match shared.queue.lock().unwrap().pop_front() {
@@ -755,13 +767,13 @@ fn end_queued(shared: &'static Shared) {
             None => return,
         };
         shared.queued.0.fetch_sub(1, SeqCst);
-        // SAFETY: the task was never put into a place, and nobody else has it.
+        // SAFETY: the task was never put into a slot, and nobody else has it.
         unsafe { task::end(raw) };
         shared.counts.ended_elsewhere.fetch_add(1, SeqCst);
     }
 }
 
-/// Makes all blocked tasks ready, and ends all ready tasks.
+/// Makes all blocked tasks ready, and then ends all ready tasks.
 fn end_placed(shared: &'static Shared) {
     let mut jobs = Vec::new();
     with_hands(shared, |hands| {
@@ -774,7 +786,8 @@ fn end_placed(shared: &'static Shared) {
             }
         }
         for block in 0..shared.roomy.len() * SHARD {
-            // Every block, and not only those that the summary shows: it may have missed a block.
+            // Searches every block of task slots, and not only those whose bit is set in the summary word, which may
+            // lack the bit of a block with jobs.
             while let Some(job) = hands.take_any(block) {
                 jobs.push(job.job);
                 hands.finish(&job);
@@ -784,7 +797,7 @@ fn end_placed(shared: &'static Shared) {
         }
     });
     shared.counts.ended_elsewhere.fetch_add(jobs.len() as u64, SeqCst);
-    // SAFETY: each job was taken out of the table, so this thread holds it, and no name leads to it.
+    // SAFETY: each job was taken out of the table, so only this thread can reach it.
     jobs.into_iter().for_each(|job| unsafe { task::end(job) });
 }
 

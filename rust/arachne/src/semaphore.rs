@@ -83,7 +83,7 @@ impl From<AcquireError> for std::io::Error {
 pub enum TryAcquireError {
     /// The semaphore is closed.
     Closed,
-    /// There are too few permits, or others wait for permits.
+    /// There are too few permits, or other tasks wait for permits.
     NoPermits,
 }
 
@@ -138,12 +138,12 @@ impl Semaphore {
         Acquire { semaphore: self, wants: wants as usize, node: None }
     }
 
-    /// Like `acquire`, for a permit that may go to another task; see the example at `Semaphore`.
+    /// Like `acquire`, but returns a permit that can be moved to another task; see the example at `Semaphore`.
     pub async fn acquire_owned(self: Arc<Self>) -> Result<OwnedSemaphorePermit, AcquireError> {
         self.acquire_many_owned(1).await
     }
 
-    /// Like `acquire_many`, for permits that may go to another task.
+    /// Like `acquire_many`, but returns permits that can be moved to another task.
     ///
     /// ```
     /// let permits = std::sync::Arc::new(arachne::Semaphore::new(5));
@@ -167,7 +167,7 @@ impl Semaphore {
         self.take(count).map(|()| SemaphorePermit { semaphore: self, count })
     }
 
-    /// Like `try_acquire`, for a permit that may go to another task.
+    /// Like `try_acquire`, but returns a permit that can be moved to another task.
     ///
     /// ```
     /// let permits = std::sync::Arc::new(arachne::Semaphore::new(1));
@@ -178,7 +178,7 @@ impl Semaphore {
         self.try_acquire_many_owned(1)
     }
 
-    /// Like `try_acquire_many`, for permits that may go to another task.
+    /// Like `try_acquire_many`, but returns permits that can be moved to another task.
     ///
     /// ```
     /// let permits = std::sync::Arc::new(arachne::Semaphore::new(3));
@@ -203,7 +203,7 @@ impl Semaphore {
         Ok(())
     }
 
-    /// Adds `count` permits, and wakes the tasks that can have them.
+    /// Adds `count` permits, and wakes the waiting tasks for which there are enough permits now.
     ///
     /// ```
     /// let permits = std::sync::Arc::new(arachne::Semaphore::new(0));
@@ -213,7 +213,7 @@ impl Semaphore {
     /// ```
     ///
     /// # Panics
-    /// Panics if there would be more permits than a `usize` counts.
+    /// Panics if there would be more permits than fit into a `usize`.
     #[track_caller]
     pub fn add_permits(&self, count: usize) {
         let mut state = self.state.lock().unwrap();
@@ -227,7 +227,7 @@ impl Semaphore {
         self.grant(state);
     }
 
-    /// Closes the semaphore: all who wait for permits, or request permits later, get an error.
+    /// Closes the semaphore: every request for permits, waiting or later, gets an error.
     ///
     /// Permits that were given stay valid.
     ///
@@ -250,7 +250,8 @@ impl Semaphore {
         self.state.lock().unwrap().closed
     }
 
-    /// Gives permits to the first waiters, as far as there are enough, and wakes these after the lock is released.
+    /// Gives permits to the first waiters, as long as there are enough, and wakes these waiters after the lock is
+    /// released.
     fn grant(&self, mut state: crate::sync::MutexGuard<'_, State>) {
         let mut granted = Vec::new();
         while state.line.front().map_or(false, |node| node.wants <= state.permits) {
@@ -336,7 +337,7 @@ impl Drop for Acquire<'_> {
     }
 }
 
-/// Permits of a semaphore, given back when this value is dropped.
+/// Permits of a semaphore, which are given back when this value is dropped.
 ///
 /// ```
 /// let permits = arachne::Semaphore::new(2);
@@ -351,7 +352,7 @@ pub struct SemaphorePermit<'a> {
     count: usize,
 }
 
-/// Like `SemaphorePermit`, but of a semaphore in an `Arc`: the permits may go to another task.
+/// Like `SemaphorePermit`, but from a semaphore in an `Arc`, so the permits can be moved to another task.
 ///
 /// ```
 /// let permits = std::sync::Arc::new(arachne::Semaphore::new(1));
@@ -374,7 +375,7 @@ macro_rules! permit {
         }
 
         impl $($permit)* {
-            /// Keeps the permits from being given back; see the example at `SemaphorePermit`.
+            /// Drops this value without giving its permits back; see the example at `SemaphorePermit`.
             pub fn forget(mut self) {
                 self.count = 0;
             }

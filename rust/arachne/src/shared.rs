@@ -26,7 +26,7 @@ mod explored;
 #[cfg(feature = "explore")]
 pub use explored::{forget_runtimes, forget_thread, set_active};
 
-/// The most runtimes of a process at a time: each runtime needs a table of waker functions.
+/// The most runtimes that a process may have at a time: each runtime needs a table of waker functions.
 pub(crate) const TABLES: usize = 32;
 
 /// A number that no worker has.
@@ -35,9 +35,9 @@ pub(crate) const NO_ONE: usize = usize::MAX;
 #[allow(clippy::declare_interior_mutable_const)]
 const NO_TABLE: AtomicPtr<Shared> = AtomicPtr::new(ptr::null_mut());
 static ALL: [AtomicPtr<Shared>; TABLES] = [NO_TABLE; TABLES];
-/// The number of `Shared` made so far, and the `Shared` that no runtime uses now.
+/// The number of `Shared` made so far, and those of them that no runtime uses now.
 ///
-/// A `Shared` is never freed, since a waker may be kept for ever.
+/// A `Shared` is never freed, because a waker may be kept for ever.
 static POOL: Mutex<(usize, Vec<&'static Shared>)> = Mutex::new((0, Vec::new()));
 
 /// The state that a runtime's kernel threads share: the core, the epoll, the workers, and which of them sleep.
@@ -46,45 +46,48 @@ pub(crate) struct Shared {
     pub(crate) root: Mutex<Root>,
     pub(crate) workers: Box<[Line<Worker>]>,
     pub(crate) reactor: Reactor,
-    /// The worker that waits in the epoll.
+    /// The worker that waits in the epoll, or `NO_ONE`.
     pub(crate) waits: Line<AtomicUsize>,
-    /// The deputy: the worker that polls the epoll now and then while the worker `waits` runs tasks.
+    /// The deputy, or `NO_ONE`: the worker that polls the epoll now and then while the worker in `waits` runs tasks.
     pub(crate) deputy: Line<AtomicUsize>,
     /// The time at which a worker that runs tasks last polled the epoll.
     pub(crate) looked: Line<AtomicU64>,
-    /// Milliseconds between two checks of the other workers by the deputy.
+    /// Milliseconds between two checks of the other workers by the *deputy*, the worker that polls the epoll now and
+    /// then.
     pub(crate) rests: AtomicI32,
     /// Milliseconds between two checks of the other workers by the worker that waits in the epoll.
     pub(crate) pauses: AtomicI32,
     /// Nanoseconds between two checks of the first worker by the second, if only the first has a core; else 0.
     pub(crate) covers: Line<AtomicU64>,
-    /// For each shard, its blocks that may have a free place, as bits.
+    /// For each shard (64 blocks of task slots), a bit mask of its blocks that may have a free slot.
     pub(crate) roomy: Box<[Line<AtomicU64>]>,
-    /// For each place, the name of the last task that waited there, so that this task can be ended with the runtime.
+    /// For each task slot, the core's name of the last task that waited there, so that this task can be ended with the
+    /// runtime.
     pub(crate) names: Box<[AtomicU64]>,
-    /// The workers that sleep, as bits. They only decide which worker it is worth waking.
+    /// A bit mask of the workers that sleep. The mask only serves to choose which worker to wake.
     pub(crate) sleepers: Line<AtomicU64>,
-    /// The number of workers that search for work. It only decides whether it is worth waking another.
+    /// The number of workers that search for work. The number only serves to decide whether to wake another worker.
     pub(crate) searching: Line<AtomicUsize>,
     /// The number of active workers.
     pub(crate) active: Line<AtomicUsize>,
-    /// Tasks that wait for a free place, and have not begun.
+    /// Tasks that wait for a free task slot, and have not begun.
     pub(crate) queue: Mutex<VecDeque<Raw>>,
     /// The number of tasks in `queue`.
     pub(crate) queued: Line<AtomicUsize>,
-    /// True if the tasks in `queue` can get no place until a task ends.
+    /// True if no task in `queue` can get a slot until another task ends.
     pub(crate) clogged: AtomicBool,
     pub(crate) stop: AtomicBool,
     pub(crate) next_home: AtomicUsize,
-    /// The timers of threads that are no workers. These timers belong to the first worker.
+    /// The timers of threads that are no workers. The first worker fires these timers.
     pub(crate) visitors: Timers,
     pub(crate) blocking: Pool,
     pub(crate) observer: Observer,
     pub(crate) draining: Draining,
     pub(crate) door: Door,
-    /// The number of tasks spawned by threads that are not workers.
+    /// The number of tasks that were spawned by threads that are not workers.
     pub(crate) spawned: Line<AtomicU64>,
-    /// Background tasks, which a drain doesn't wait for: the number spawned, and the number of futures dropped.
+    /// Background tasks, for which an orderly end doesn't wait: the number spawned, and the number of their futures
+    /// that were dropped.
     pub(crate) background: (AtomicU64, AtomicU64),
     /// The arbiter by which processes share the machine's cores, if this runtime has one.
     pub(crate) arbiter: Client,
@@ -102,24 +105,25 @@ pub(crate) struct Counts {
     pub(crate) ended_elsewhere: AtomicU64,
 }
 
-/// The state of a worker that other threads read. Only the worker itself writes its counts.
+/// The part of a worker's state that other threads read. Only the worker itself writes its counts.
 pub(crate) struct Worker {
     pub(crate) bell: Bell,
     pub(crate) hand: Hand,
     pub(crate) timers: Timers,
-    /// True while the worker's core is given back.
+    /// True while the worker's core is given back, and the condition variable on which the worker then waits.
     pub(crate) given_back: (Mutex<bool>, Condvar),
     /// True if the worker has made all jobs in its local queues ready, and waits for its core.
     pub(crate) away: AtomicBool,
-    /// The worker's shards. The core knows each shard by a worker number: the shard's index modulo `NUMBERS`.
+    /// The shards (64 blocks of 64 task slots each) whose jobs the worker runs. To the core, each shard has a worker
+    /// number: the shard's index modulo `NUMBERS`.
     pub(crate) shards: Box<[usize]>,
-    /// The number of the worker's shards, from the first on, that ever had a task. This number only grows. Searches
-    /// leave out the shards beyond it.
+    /// The number of the worker's shards (groups of task slots), counted from the first, that have ever had a task.
+    /// This number only grows. Searches for jobs leave out the shards beyond this number.
     pub(crate) used: AtomicUsize,
-    /// The block, counted over the worker's shards, in which the worker tries to place the next task.
+    /// The index of the block (of 64 task slots) in which the next task gets its slot, if the block has a free one.
     pub(crate) roomy: Line<AtomicUsize>,
-    /// The rights to park, one for each worker number of the worker's shards. Whoever runs the jobs of these shards
-    /// takes the lock.
+    /// The rights to park, one for each worker number of this worker's shards (their indexes modulo `NUMBERS`). Any
+    /// thread that runs the jobs of these shards takes the lock.
     pub(crate) parking: Mutex<Vec<Parking>>,
     pub(crate) polls: AtomicU64,
     pub(crate) spawned: AtomicU64,
@@ -127,21 +131,22 @@ pub(crate) struct Worker {
     pub(crate) takes: AtomicU64,
     pub(crate) wakes: AtomicU64,
     pub(crate) parks: AtomicU64,
-    /// How often the worker has counted its ready jobs, for the policy.
+    /// The number of times that the worker has counted its ready jobs, for the policy.
     pub(crate) scans: AtomicU64,
-    /// The sum of these counts of ready jobs.
+    /// The sum of all these counts of ready jobs.
     pub(crate) runnable: AtomicU64,
-    /// Nanoseconds that the worker was without work.
+    /// The nanoseconds for which the worker had no work.
     pub(crate) idle: AtomicU64,
-    /// The time since which the worker is without work; 0 if it has work.
+    /// The time at which the worker ran out of work; 0 if it has work.
     pub(crate) idle_since: AtomicU64,
-    /// The `/proc` file `schedstat` of the worker's thread: the time it ran, and the time it waited for a processor.
+    /// The file `schedstat` in `/proc` of the worker's thread: for how long the thread ran, and for how long it waited
+    /// for a processor.
     pub(crate) account: Mutex<Option<File>>,
-    /// For the watcher: the name of the task that is polled now.
+    /// For the watcher of slow polls: the core's name of the task that is polled now.
     pub(crate) running: AtomicU64,
-    /// For the watcher: where that task was spawned.
+    /// For the watcher: the line of code that spawned that task.
     pub(crate) site: AtomicPtr<Location<'static>>,
-    /// For the watcher: the label of that task.
+    /// For the watcher: the label (the name given by the program) of that task.
     pub(crate) label: AtomicPtr<Label>,
 }
 
@@ -180,7 +185,7 @@ impl Worker {
         }
     }
 
-    /// Publishes the task whose poll begins, for the watcher.
+    /// Records the task whose poll begins, so that the watcher can report it.
     #[inline]
     pub(crate) fn begins(&self, name: u64, about: &About) {
         self.site.store(about.spawned as *const _ as *mut _, Relaxed);
@@ -188,19 +193,19 @@ impl Worker {
         self.running.store(name, Relaxed);
     }
 
-    /// Returns the shards that may have tasks.
+    /// Returns the worker's shards (groups of task slots) that may have tasks.
     #[inline]
     pub(crate) fn used_shards(&self) -> &[usize] {
         &self.shards[..self.used.load(Relaxed)]
     }
 
-    /// Returns the nanoseconds for which the worker had no work until now.
+    /// Returns the nanoseconds for which the worker has had no work, until `now`.
     pub(crate) fn idle_time(&self, now: u64) -> u64 {
         let since = self.idle_since.load(Relaxed);
         self.idle.load(Relaxed) + if since == 0 { 0 } else { now.saturating_sub(since) }
     }
 
-    /// Ends the worker's time without work, and returns the current time.
+    /// Records that the worker has work again, and returns the current time.
     pub(crate) fn ends_idling(&self) -> u64 {
         let now = now();
         add(&self.idle, now.saturating_sub(self.idle_since.swap(0, Relaxed)));
@@ -217,7 +222,7 @@ impl Worker {
     }
 }
 
-/// Returns the `Shared` of this number, if one was ever made.
+/// Returns the `Shared` with the number `table`, if it was ever made.
 #[inline]
 pub(crate) fn shared_of(table: usize) -> Option<&'static Shared> {
     // SAFETY: a `Shared` that was stored there is never freed.
@@ -225,9 +230,9 @@ pub(crate) fn shared_of(table: usize) -> Option<&'static Shared> {
 }
 
 impl Shared {
-    /// Returns an unused `Shared` of this shape: that of an ended runtime, or a new one.
+    /// Returns an unused `Shared` with these numbers of workers and shards: that of an ended runtime, or a new one.
     ///
-    /// Fails if all 32 are in use or have other shapes, or if memory or descriptors are refused.
+    /// Fails if all 32 are in use or have other numbers, or if memory or descriptors are refused.
     pub(crate) fn get(workers: usize, shards: usize, observed: bool) -> io::Result<&'static Shared> {
         let mut pool = POOL.lock().unwrap();
         let alike =
@@ -338,31 +343,30 @@ impl Shared {
         (self.spawned() - ended).max(0) as u64
     }
 
-    /// Returns the number of tasks for which a drain waits: all but those of `spawn_background`.
+    /// Returns the number of tasks for which an orderly end waits: all but those of `spawn_background`.
     ///
     /// The number is never too low, even while tasks begin and end: `spawned` counts a background task before
-    /// `background.0` does, and `background.1` counts it before `ended` does. So the counts must be read in the reverse
-    /// order.
+    /// `background.0` does, and `background.1` counts it before `ended` does. So this function must read the counts in
+    /// the reverse order.
     pub(crate) fn awaited(&self) -> u64 {
         let ended = self.ended() - self.background.1.load(SeqCst) as i64;
         let background = self.background.0.load(SeqCst) as i64;
         (self.spawned() - background - ended).max(0) as u64
     }
 
-    /// Returns true if the runtime that began at the count `turns` of the `Door` has ended, or is about to end: nobody
-    /// waits for its events any more.
+    /// Returns true if the runtime that began at the count `turns` of the `Door` has ended, or is about to end, so that
+    /// nobody waits for its events any more.
     ///
-    /// Returns false in a poll of one of that runtime's own tasks: that task is dropped instead.
+    /// Returns false in a poll of one of that runtime's own tasks, because that task will be dropped instead.
     pub(crate) fn has_ended(&self, turns: u64) -> bool {
         let in_own_task = || Context::with(|worker| worker.map_or(false, |worker| ptr::eq(worker.shared, self)));
         self.door.turns() != turns || self.stop.load(SeqCst) && !in_own_task()
     }
 
-    /// Wakes the tasks that still wait for this runtime's sockets and timers after its end, in another runtime or in
-    /// blocking work.
+    /// Wakes the tasks that still wait for this runtime's sockets and timers after its end; they run in another runtime
+    /// or in blocking work.
     ///
-    /// After this call a wait for a socket of this runtime fails, and a sleep goes on in the runtime in which it is
-    /// polled.
+    /// After this call, a wait for a socket of this runtime fails, and a sleep continues in the runtime that polls it.
     pub(crate) fn let_go(&self) {
         self.reactor.wake_all();
         let timers = self.workers.iter().map(|worker| &worker.0.timers);
@@ -371,18 +375,20 @@ impl Shared {
         }
     }
 
-    /// Gives this state back, for a later runtime. No thread of the ended runtime uses the state any more.
+    /// Gives this state back, so that a later runtime can use it. The caller must know that no thread of the ended
+    /// runtime uses the state any more.
     pub(crate) fn give(&'static self) {
         POOL.lock().unwrap().1.push(self);
     }
 
-    /// Returns the worker whose blocks contain this place.
+    /// Returns the worker that owns the task slot with index `place`.
     #[inline]
     pub(crate) fn home(&self, place: usize) -> usize {
         place / (BLOCK * SHARD) % NUMBERS % self.workers.len()
     }
 
-    /// Returns the worker that runs the jobs and timers of `worker`: itself, or another worker if it has no core.
+    /// Returns the worker that runs the jobs of `worker` and fires its timers: `worker` itself or, if it has no core,
+    /// another one.
     #[inline]
     pub(crate) fn keeper(&self, worker: usize) -> usize {
         let active = self.active.0.load(SeqCst);
@@ -394,7 +400,7 @@ impl Shared {
     }
 }
 
-/// A worker's own state, for calls from within a task.
+/// A worker's own state, for calls from within its tasks.
 pub(crate) struct Context {
     pub(crate) shared: &'static Shared,
     pub(crate) me: usize,
@@ -402,20 +408,21 @@ pub(crate) struct Context {
     pub(crate) worker: &'static Worker,
     /// True if no other thread ever steals from this worker's local queues.
     pub(crate) alone: bool,
-    /// The name of the task that runs on this worker.
+    /// The core's name of the task that this worker polls now.
     pub(crate) current: Cell<u64>,
-    /// True if the task that runs on this worker woke itself.
+    /// True if the task that this worker polls now has woken itself.
     pub(crate) woken: Cell<bool>,
-    /// The number of reads of sockets in this poll.
+    /// The number of reads of sockets in the current poll.
     pub(crate) reads: Cell<u32>,
-    /// True if a read of a socket was put off in this poll.
+    /// True if a read of a socket was put off in the current poll.
     pub(crate) put_off: Cell<bool>,
-    /// The time at which this worker last checked sockets, timers and other workers, or was idle.
+    /// The time at which this worker last checked sockets, timers and other workers, or last had no work.
     pub(crate) looked: Cell<u64>,
-    /// True if a job that is woken on this worker runs next on it. If false, `room` decides where a woken job goes.
+    /// True if a job that is woken on this worker is to run next on it. If false, `room` decides where a woken job
+    /// goes.
     pub(crate) keeps: Cell<bool>,
-    /// If `keeps` is false: the number of woken jobs that still go into this worker's local queue, in order. The others
-    /// become ready in their blocks, without waking a worker to help.
+    /// If `keeps` is false: the number of woken jobs that may still go into this worker's local queue, in order.
+    /// Further jobs become ready in their blocks (their task slots), without waking a worker to help.
     pub(crate) room: Cell<usize>,
     random: Cell<u64>,
 }
@@ -446,15 +453,15 @@ impl Context {
         }
     }
 
-    /// Calls a function with this thread's context, or with None if the thread is no worker.
+    /// Calls `call` with this thread's context, or with None if this thread is no worker.
     #[inline]
     pub(crate) fn with<R>(call: impl FnOnce(Option<&Context>) -> R) -> R {
         let context = CONTEXT.with(Cell::get);
-        // SAFETY: `enter` clears the pointer before the context is gone.
+        // SAFETY: `enter` clears the pointer before the context is dropped.
         call(unsafe { context.as_ref() })
     }
 
-    /// Runs `f`, during which this context is the thread's.
+    /// Calls `f` with this context as the thread's context.
     pub(crate) fn enter<R>(&self, f: impl FnOnce() -> R) -> R {
         struct Leave;
         impl Drop for Leave {
@@ -467,10 +474,10 @@ impl Context {
         f()
     }
 
-    /// Returns true if the current poll may read a socket: always once, and again until the worker must check for
+    /// Returns true if the current poll may read a socket: always once, and then until the worker must check for
     /// events.
     ///
-    /// So a socket that always has more data doesn't keep its worker.
+    /// So a socket that always has more data doesn't keep its worker busy for ever.
     #[inline]
     pub(crate) fn may_read(&self) -> bool {
         let reads = self.reads.replace(self.reads.get() + 1);
@@ -494,7 +501,7 @@ fn next_random(mut x: u64) -> u64 {
     x ^ x << 17
 }
 
-/// Returns the runtime that this thread has entered, or whose worker it is.
+/// Returns the runtime that this thread has entered, or of which it is a worker.
 pub(crate) fn here() -> Option<&'static Shared> {
     ENTERED.with(Cell::get).or_else(|| Context::with(|worker| worker.map(|w| w.shared)))
 }
@@ -505,7 +512,7 @@ pub(crate) fn is_own(shared: &Shared) -> bool {
     is_it(ENTERED.with(Cell::get)) || is_it(Context::with(|worker| worker.map(|w| w.shared)))
 }
 
-/// Runs `f` with this runtime for its spawns, sockets and timers.
+/// Calls `f` with this runtime for the spawns, sockets and timers of `f`.
 pub(crate) fn entered<R>(shared: &'static Shared, f: impl FnOnce() -> R) -> R {
     struct Leave(Option<&'static Shared>);
     impl Drop for Leave {
@@ -532,7 +539,7 @@ impl Drop for Visitor {
     }
 }
 
-/// Calls a function with a seat (a handle of the core) of this thread, which is no worker of the runtime.
+/// Calls `call` with a seat (a handle of the core) of this thread, which is no worker of the runtime.
 pub(crate) fn with_hands<R>(shared: &'static Shared, call: impl FnOnce(&Hands) -> R) -> R {
     let mut call = Some(call);
     let visited = SEATS.try_with(|visitor| {
@@ -550,7 +557,7 @@ pub(crate) fn with_hands<R>(shared: &'static Shared, call: impl FnOnce(&Hands) -
     match (visited, call) {
         (Ok(Some(result)), _) => result,
         (_, Some(call)) => {
-            // The thread is ending and its seats are gone, or they are in use: makes seats for this call only.
+            // The thread is ending and its seats are gone, or they are in use, so seats are made for this call only.
             let mut root = shared.root.lock().unwrap_or_else(|e| e.into_inner());
             let hands = root.crew(1, 1).and_then(|mut crew| crew.pop()).expect("no memory for a seat");
             let result = call(&hands);

@@ -1,4 +1,4 @@
-//! The functions that spawn a task, and the choice of its place.
+//! The functions that spawn a task, and the choice of its task slot.
 
 use crate::core::{Hands, Spawned, SHARD};
 use crate::shared::{add, here, with_hands, Context, Shared};
@@ -10,10 +10,10 @@ use std::panic::Location;
 use std::pin::Pin;
 use std::task::{self as std_task, Poll};
 
-/// The number of tasks from other threads that go to one worker before the next worker gets some.
+/// The number of tasks from other threads that go to one worker before the next worker gets as many.
 const IN_A_ROW: usize = 16;
 
-/// The error of `try_spawn`: no place is free. It contains the future.
+/// The error of `try_spawn`: no task slot is free. The error contains the future, which was not spawned.
 ///
 /// ```
 /// let runtime = arachne::Builder::new(1).places(1).build().unwrap();     // rounded up to 4,096
@@ -38,7 +38,7 @@ impl<F> fmt::Debug for Refused<F> {
     }
 }
 
-/// The future of a background task, counted until it is dropped.
+/// The future of a background task; `Shared::background` counts it when it is dropped.
 struct Background<F> {
     future: F,
     _counted: Counted,
@@ -61,10 +61,10 @@ impl<F: Future> Future for Background<F> {
 }
 
 impl Shared {
-    /// Puts a task into a free place of a worker's blocks.
+    /// Puts a task into a free slot of the blocks (of 64 slots) of worker number `worker`.
     ///
-    /// Consecutive tasks go to the blocks of a shard in turn: the marks of neighbours in a block share a cache line,
-    /// and workers that wake two neighbours would contend for it.
+    /// Consecutive tasks go to different blocks, in turn: the state words of neighbouring slots in a block share a
+    /// cache line, for which workers that wake two neighbours would contend.
     pub(crate) fn spawn_at(&self, hands: &Hands, worker: usize, raw: Raw, keep: bool) -> Spawned {
         let (shards, next) = (&*self.workers[worker].0.shards, &self.workers[worker].0.roomy.0);
         let hint = next.load(Relaxed);
@@ -87,8 +87,8 @@ impl Shared {
                 let (bit, at) = (bits & bits.wrapping_neg(), shard * SHARD + bits.trailing_zeros() as usize);
                 let mut spawned = hands.spawn(at, raw, keep);
                 if spawned == Spawned::Full {
-                    // Cleared before the second try: a thread that frees a place sets the bit after it has freed the
-                    // place.
+                    // The bit is cleared before the second try, because a thread that frees a slot sets the bit after
+                    // it has freed the slot.
                     roomy.fetch_and(!bit, SeqCst);
                     spawned = hands.spawn(at, raw, keep);
                     if spawned != Spawned::Full {
@@ -105,10 +105,10 @@ impl Shared {
         Spawned::Full
     }
 
-    /// Puts a new task into a place of the core, or into the queue if no place is free.
+    /// Puts a new task into a free task slot, or into the queue if no slot is free.
     ///
-    /// The place is one of this worker's. If `balanced`, or if this thread is no worker, the workers get such tasks in
-    /// turn.
+    /// The slot belongs to the worker that calls this. If `balanced` is true, or if the calling thread is no worker,
+    /// the slots of all workers are used in turn.
     #[inline]
     pub(crate) fn spawn(&'static self, raw: Raw, balanced: bool) {
         if !self.place_new(raw, balanced) {
@@ -116,7 +116,8 @@ impl Shared {
         }
     }
 
-    /// Counts a new task, and puts it into a place. Returns false if no place is free, or if tasks wait for a place.
+    /// Counts a new task, and puts it into a task slot. Returns false if no slot is free, or if other tasks wait for
+    /// one.
     #[inline]
     fn place_new(&'static self, raw: Raw, balanced: bool) -> bool {
         Context::with(|worker| match worker {
@@ -157,8 +158,8 @@ impl Shared {
         }
     }
 
-    /// Puts a new task into a place of the first worker, from `home` on, that has a free place. Returns false if no
-    /// worker has a free place.
+    /// Puts a new task into a slot of the first worker, from number `home` on, that has a free one. Returns false if no
+    /// worker has a free slot.
     fn spawn_among(&self, hands: &Hands, home: usize, raw: Raw) -> bool {
         if self.queued.0.load(Relaxed) != 0 {
             return false;
@@ -180,7 +181,8 @@ impl Shared {
             self.queued.0.fetch_add(1, SeqCst);
         }
         self.counts.queued.fetch_add(1, Relaxed);
-        // After the task is counted: a worker looks at the count last before it sleeps.
+        // A worker is woken only after the task was counted, because each worker checks the count last before it
+        // sleeps.
         self.rouse_any();
     }
 
@@ -206,7 +208,7 @@ impl Shared {
         handle
     }
 
-    /// Like `spawn_task`, but hands the future back if no place is free.
+    /// Like `spawn_task`, but returns the future in the error if no task slot is free.
     pub(crate) fn try_spawn_task<F>(&'static self, future: F, about: About) -> Result<JoinHandle<F::Output>, Refused<F>>
     where
         F: Future + Send + 'static,
@@ -227,9 +229,10 @@ impl Shared {
     }
 }
 
-/// Spawns a task on the runtime of the calling task or `block_on`. Returns the handle on the task's output.
+/// Spawns a task on the runtime of the calling task or `block_on`. Returns a handle, which is a future of the task's
+/// output.
 ///
-/// The task runs next on this worker, or on another worker if the spawning task goes on for long.
+/// The task runs next on this worker, or on another worker if the current poll goes on for long.
 ///
 /// ```
 /// let sum = arachne::Runtime::new(2).block_on(async {
@@ -252,7 +255,7 @@ where
     here().expect("spawn outside of a runtime").spawn_task(future, about, false)
 }
 
-/// Like `spawn`, with a name for the task, which `Runtime::tasks` and the watcher of slow polls report.
+/// Like `spawn`, with a name for the task, which appears in `Runtime::tasks` and in the reports of slow polls.
 ///
 /// ```
 /// let name = arachne::Runtime::new(1).block_on(async { arachne::spawn_named("sweeper", async {}).about().name });
@@ -294,7 +297,7 @@ where
     here().expect("spawn outside of a runtime").spawn_task(future, about, true)
 }
 
-/// Like `spawn`, but hands the future back if no place is free, or if tasks already wait for a place.
+/// Like `spawn`, but returns the future in the error if no task slot is free or if other tasks wait for one.
 ///
 /// ```
 /// arachne::Runtime::new(1).block_on(async {
@@ -317,10 +320,11 @@ where
     here().expect("try_spawn outside of a runtime").try_spawn_task(future, about)
 }
 
-/// Like `spawn`, for a task that doesn't end by itself, such as one that sweeps a store.
+/// Like `spawn`, but for a task that doesn't end by itself, such as one that sweeps a store.
 ///
-/// `Runtime::shutdown_within` doesn't wait for such a task, and drops it once the other tasks have ended or at the
-/// deadline. The call waits for tasks that the background task spawns, unless it spawns them by this function too.
+/// `Runtime::shutdown_within` doesn't wait for such a task: it drops the task when the other tasks have ended, or at
+/// the deadline. `shutdown_within` does wait for tasks that the background task spawns, unless they are spawned by this
+/// function too.
 ///
 /// ```
 /// use std::time::Duration;

@@ -1,4 +1,4 @@
-//! Atomics, locks and threads of the standard library, or of the explorer (a test). No other module names `std::sync`.
+//! Atomics, locks and threads, of the standard library or of the explorer (a test). No other module names `std::sync`.
 //!
 //! With the feature `explore`, which is only for tests, each step asks the explorer's scheduler which thread runs next.
 
@@ -25,7 +25,7 @@ mod plain {
         call(timeout)
     }
 
-    /// Announces that an epoll may have an event.
+    /// Reports to the explorer that an epoll may have an event; here it does nothing.
     #[inline(always)]
     pub(crate) fn told() {}
 }

@@ -98,23 +98,23 @@ fn checked(result: i32) -> io::Result<i32> {
 }
 
 pub(crate) fn new_epoll() -> io::Result<RawFd> {
-    // SAFETY: a call with numbers only.
+    // SAFETY: all arguments are numbers.
     checked(unsafe { epoll_create1(CLOSE_ON_EXEC) })
 }
 
 pub(crate) fn new_event() -> io::Result<RawFd> {
-    // SAFETY: a call with numbers only.
+    // SAFETY: all arguments are numbers.
     checked(unsafe { eventfd(0, CLOSE_ON_EXEC | NON_BLOCKING) })
 }
 
-/// Returns a new event, which is closed as the file is dropped.
+/// Returns a new eventfd, which is closed when the file is dropped.
 pub(crate) fn new_event_file() -> io::Result<File> {
     // SAFETY: the descriptor is new, and nobody else has it.
     Ok(unsafe { File::from_raw_fd(new_event()?) })
 }
 
 pub(crate) fn close_fd(fd: RawFd) {
-    // SAFETY: a call with a number only. Only the caller has the descriptor, and doesn't use it again.
+    // SAFETY: the argument is a number. Only the caller has this descriptor, and doesn't use it again.
     unsafe { close(fd) };
 }
 
@@ -130,23 +130,23 @@ pub(crate) fn unwatch(epoll: RawFd, fd: RawFd) {
 
 /// Waits for events, for at most `timeout` milliseconds (-1: for ever).
 ///
-/// Returns the number of events written to `events`; 0 if the call was interrupted.
+/// Returns the number of events written to `events`, which is 0 if the call was interrupted.
 pub(crate) fn wait(epoll: RawFd, events: &mut [Event], timeout: i32) -> usize {
     wait_in(epoll, timeout, |timeout| {
-        // SAFETY: the kernel writes at most as many events as the slice has, and any bytes are an event.
+        // SAFETY: the kernel writes at most as many events as the slice has, and any bytes are a valid event.
         unsafe { epoll_wait(epoll, events.as_mut_ptr(), events.len() as i32, timeout) }.max(0) as usize
     })
 }
 
-/// Raises an event, which makes its descriptor readable.
+/// Raises an eventfd, which makes its descriptor readable.
 pub(crate) fn raise(event: RawFd) {
     let one = 1u64.to_ne_bytes();
-    // SAFETY: there are eight bytes to read.
+    // SAFETY: there are eight bytes for the kernel to read.
     unsafe { write(event, one.as_ptr(), 8) };
     told();
 }
 
-/// Resets an eventfd to 0, so that the epoll no longer reports it.
+/// Resets an eventfd to 0, after which the epoll no longer reports it.
 pub(crate) fn lower(event: RawFd) {
     let mut count = [0; 8];
     // SAFETY: there is room for eight bytes.
@@ -157,15 +157,15 @@ pub(crate) fn lower(event: RawFd) {
 pub(crate) fn set_nonblocking(fd: RawFd) -> io::Result<()> {
     const GET_FLAGS: i32 = 3;
     const SET_FLAGS: i32 = 4;
-    // SAFETY: calls with numbers only.
+    // SAFETY: all arguments are numbers.
     let flags = checked(unsafe { fcntl(fd, GET_FLAGS) })?;
-    // SAFETY: the same.
+    // SAFETY: as above.
     checked(unsafe { fcntl(fd, SET_FLAGS, flags | NON_BLOCKING) }).map(drop)
 }
 
-/// Sets the backlog of a socket that listens already.
+/// Sets the backlog of a socket that is listening already.
 pub(crate) fn listen(fd: RawFd, backlog: i32) -> io::Result<()> {
-    // SAFETY: a call with numbers only.
+    // SAFETY: all arguments are numbers.
     checked(unsafe { listen_call(fd, backlog) }).map(drop)
 }
 
@@ -199,10 +199,10 @@ pub(crate) fn connect_unix(path: &Path) -> io::Result<RawFd> {
     begin_connect(1, &mut bytes[..3 + path.len()])
 }
 
-/// Starts a connection to an address in the family's layout, whose first two bytes are the family.
+/// Starts a connection to an address in the layout of its `family`, whose first two bytes are the family.
 fn begin_connect(family: u16, address: &mut [u8]) -> io::Result<RawFd> {
     address[..2].copy_from_slice(&family.to_ne_bytes());
-    // SAFETY: a call with numbers only.
+    // SAFETY: all arguments are numbers.
     let fd = checked(unsafe { socket(family as i32, 1 | CLOSE_ON_EXEC | NON_BLOCKING, 0) })?;
     // SAFETY: the address has as many bytes as its length says.
     match checked(unsafe { connect(fd, address.as_ptr(), address.len() as u32) }) {
@@ -225,7 +225,7 @@ pub(crate) fn now() -> u64 {
     })
 }
 
-/// Returns the processors that the calling thread may run on; none if the call fails.
+/// Returns the processors that the calling thread may run on, or none if the call fails.
 pub(crate) fn affinity() -> Vec<usize> {
     let mut mask = [0u64; 16];
     // SAFETY: the mask has 128 bytes.
@@ -236,12 +236,12 @@ pub(crate) fn affinity() -> Vec<usize> {
     (0..1024).filter(|cpu| mask[cpu / 64] >> (cpu % 64) & 1 == 1).collect()
 }
 
-/// Keeps the calling thread on one processor. Returns true if the call succeeds.
+/// Keeps the calling thread on the processor `cpu`. Returns true if the call succeeds.
 pub(crate) fn pin(cpu: usize) -> bool {
     set_affinity(0, &[cpu])
 }
 
-/// Keeps a thread of this process on these processors; thread 0 is the calling thread. Returns true if the call
+/// Keeps a thread of this process on the processors `cpus`; thread 0 is the calling thread. Returns true if the call
 /// succeeds.
 pub(crate) fn set_affinity(thread: u32, cpus: &[usize]) -> bool {
     let mut mask = [0u64; 16];
@@ -250,7 +250,7 @@ pub(crate) fn set_affinity(thread: u32, cpus: &[usize]) -> bool {
     unsafe { sched_setaffinity(thread as i32, 128, mask.as_ptr()) == 0 }
 }
 
-/// Returns the kernel's number of the calling thread.
+/// Returns the kernel's id of the calling thread.
 pub(crate) fn thread_number() -> Option<u32> {
     std::fs::read_link("/proc/thread-self").ok()?.file_name()?.to_str()?.parse().ok()
 }
@@ -279,7 +279,8 @@ pub(crate) fn receive_with(socket: RawFd) -> io::Result<([u8; 16], Option<File>)
     Ok((bytes, has_fd.then(|| unsafe { File::from_raw_fd(rights.fd) })))
 }
 
-/// Maps the first number of a file that another process writes, in place of an earlier mapping of this function.
+/// Maps the first number of a file that another process writes, over the page that an earlier call of this function
+/// mapped at `at`.
 ///
 /// If `at` is null, the kernel chooses the address.
 pub(crate) fn map_page(file: &File, at: *mut AtomicU32) -> io::Result<*mut AtomicU32> {
@@ -288,8 +289,8 @@ pub(crate) fn map_page(file: &File, at: *mut AtomicU32) -> io::Result<*mut Atomi
     const SHARED: i32 = 1;
     const FIXED: i32 = 0x10;
     let flags = if at.is_null() { SHARED } else { SHARED | FIXED };
-    // SAFETY: only an earlier page is mapped at that address. Whoever reads the number there finds one before and after
-    // the call.
+    // SAFETY: only an earlier page is mapped at that address. A thread that reads the number there finds one both
+    // before and after the call.
     let mapped = unsafe { mmap(at as *mut u8, PAGE, READ, flags, file.as_raw_fd(), 0) };
     if mapped as isize == -1 {
         return Err(io::Error::last_os_error());
@@ -297,14 +298,14 @@ pub(crate) fn map_page(file: &File, at: *mut AtomicU32) -> io::Result<*mut Atomi
     Ok(mapped as *mut AtomicU32)
 }
 
-/// The initial value; rustc 1.63 doesn't take the expression within the array.
+/// The initial value of each element; rustc 1.63 doesn't accept the expression within the array.
 #[allow(clippy::declare_interior_mutable_const)]
 const NO_EVENT: AtomicI32 = AtomicI32::new(-1);
-/// For each signal, the eventfd to raise.
+/// For each signal, the eventfd that its handler raises, or -1.
 static SIGNALLED: [AtomicI32; 65] = [NO_EVENT; 65];
 
 extern "C" fn handler(number: i32) {
-    // Within a signal handler this call may only raise an event.
+    // A signal handler may do nothing here but raise an event.
     if let Some(event) = SIGNALLED.get(number as usize) {
         raise(event.load(SeqCst));
     }
@@ -312,10 +313,11 @@ extern "C" fn handler(number: i32) {
 
 /// The signals of faults: SIGILL, SIGBUS, SIGFPE and SIGSEGV.
 ///
-/// If a handler of such a signal returned, the instruction that failed would begin again, for ever.
+/// If a handler of such a signal returned, the failed instruction would be executed again, for ever.
 const FAULTS: [i32; 4] = [4, 7, 8, 11];
 
-/// Makes a signal raise this event, instead of its previous action or event. Fails for a signal of a fault.
+/// Makes the signal `number` raise the event `event`, instead of its previous action or event. Fails for a signal of a
+/// fault.
 pub(crate) fn raise_at(number: i32, event: RawFd) -> io::Result<()> {
     const INVALID: i32 = 22;
     if FAULTS.contains(&number) {
@@ -323,21 +325,22 @@ pub(crate) fn raise_at(number: i32, event: RawFd) -> io::Result<()> {
     }
     let kept = SIGNALLED.get(number as usize).ok_or(io::ErrorKind::InvalidInput)?;
     kept.store(event, SeqCst);
-    // SAFETY: the handler is a function of C's convention that lives for ever, and makes one call that a handler may.
+    // SAFETY: the handler is a function of C's convention that lives for ever, and its only call is one that a handler
+    // may make.
     match unsafe { signal(number, handler as extern "C" fn(i32) as usize) } {
         usize::MAX => Err(io::Error::last_os_error()),
         _ => Ok(()),
     }
 }
 
-/// Clears an event that is raised. Returns false if the event isn't raised.
+/// Clears an eventfd that is raised. Returns false if the eventfd isn't raised.
 pub(crate) fn take_event(event: RawFd) -> bool {
     let mut count = [0; 8];
     // SAFETY: there is room for eight bytes.
     unsafe { read(event, count.as_mut_ptr(), 8) == 8 }
 }
 
-/// Blocks the calling thread until the event is raised, and clears it. Returns false if the wait fails.
+/// Blocks the calling thread until the eventfd is raised, and clears it. Returns false if the wait fails.
 pub(crate) fn await_event(event: RawFd) -> bool {
     let mut polled = Polled { fd: event, wanted: 1, found: 0 };
     loop {
@@ -352,8 +355,8 @@ pub(crate) fn await_event(event: RawFd) -> bool {
     }
 }
 
-/// Waits until one of these descriptors is readable or has failed, for at most `nanos`. Returns for each whether it is
-/// readable or has failed.
+/// Waits until one of the two descriptors is readable or has failed, for at most `nanos` nanoseconds. Returns, for each
+/// descriptor, true if it is readable or has failed.
 pub(crate) fn readable(fds: [RawFd; 2], nanos: u64) -> [bool; 2] {
     let mut polled = fds.map(|fd| Polled { fd, wanted: 1, found: 0 });
     let time = [nanos as i64 / 1_000_000_000, nanos as i64 % 1_000_000_000];
@@ -362,7 +365,7 @@ pub(crate) fn readable(fds: [RawFd; 2], nanos: u64) -> [bool; 2] {
     polled.map(|it| it.found != 0)
 }
 
-/// The numbers of the calls `sched_setattr` and `sched_getattr`, on architectures for which they are known.
+/// The numbers of the system calls `sched_setattr` and `sched_getattr`, on architectures for which they are known.
 #[cfg(target_arch = "x86_64")]
 const SCHEDULING: Option<(i64, i64)> = Some((314, 315));
 #[cfg(any(target_arch = "aarch64", target_arch = "riscv64"))]
@@ -373,11 +376,12 @@ const SCHEDULING: Option<(i64, i64)> = None;
 /// Requests a time slice of `nanos` for the calling thread (Linux 6.12 and later). Returns None if the system doesn't
 /// grant it.
 ///
-/// A waking thread with a shorter slice gets a processor sooner. A thread whose policy isn't the default one is left
-/// unchanged.
+/// A waking thread with a shorter slice gets a processor sooner. A thread whose scheduling policy isn't the default one
+/// is left unchanged.
 pub(crate) fn ask_for_slices(nanos: u64) -> Option<()> {
     let (set, get) = SCHEDULING?;
-    // `struct sched_attr`: its size and the policy, flags, priorities, the slice, and three for other policies.
+    // The words of `struct sched_attr`: its size and the policy, flags, priorities, the slice, and three words for
+    // other policies.
     let mut attributes = [0u64; 7];
     // SAFETY: the attributes have 56 bytes.
     let got = unsafe { syscall(get, 0i32, attributes.as_mut_ptr(), 56u32, 0u32) };

@@ -1,7 +1,7 @@
-//! A task: its future, then its output, behind one pointer.
+//! A task: one allocation that contains the future, and later its output.
 //!
-//! The task is shared by the runtime, until the task has ended, and by its handles, until they are dropped. Whoever is
-//! the last of these frees the task.
+//! The runtime owns the task until the task has ended, and each handle owns it until the handle is dropped. The last of
+//! these owners frees the task.
 
 use crate::sync::atomic::{AtomicU32, AtomicU64, Ordering::*};
 use crate::sync::Mutex;
@@ -18,19 +18,20 @@ use std::task::{Context, Poll, Waker};
 
 /// The task has ended, and its output is stored.
 const COMPLETE: u32 = 1;
-/// Set if there is a `JoinHandle`.
+/// Set as long as the task's `JoinHandle` exists.
 const JOINED: u32 = 2;
-/// `join_waker` is set. Only the thread that ends the task may read it.
+/// The `JoinHandle` has stored its waker in `join_waker`. While this bit is set, only the thread that ends the task may
+/// read the waker.
 const WAITING: u32 = 4;
-/// The thread that ended the task no longer touches it.
+/// The thread that ended the task no longer accesses the task.
 const SETTLED: u32 = 8;
-/// A worker that runs the task next must end it.
+/// The task was aborted: the worker that runs it next must end it.
 const ABORTED: u32 = 16;
-/// There were abort handles before the task ended, so the thread that ends the task touches it until `SETTLED` is set.
+/// Abort handles existed as the task ended, so the thread that ends the task may access it until it has set `SETTLED`.
 const SHARED: u32 = 32;
-/// One abort handle: the bits of the state from this bit on count the abort handles.
+/// One abort handle: this bit and the bits above it count the abort handles.
 const ONE: u32 = 64;
-/// Set if there is a `JoinHandle` or an abort handle.
+/// Nonzero in a state if there is a `JoinHandle` or an abort handle.
 const HELD: u32 = JOINED | !(ONE - 1);
 
 /// The value with which a task panicked; see `JoinError::Panicked`.
@@ -43,17 +44,17 @@ const HELD: u32 = JOINED | !(ONE - 1);
 /// }
 /// ```
 pub struct Panic(Box<dyn Any + Send>);
-// SAFETY: a shared reference gives access only to the message, whose two types are `Sync`.
+// SAFETY: a shared reference gives access only to the message, whose two types (`&str` and `String`) are `Sync`.
 unsafe impl Sync for Panic {}
 
 impl Panic {
-    /// Returns the message, if the value is a string; see the example at `Panic`.
+    /// Returns the panic's message, if the payload is a string; see the example at `Panic`.
     #[must_use]
     pub fn message(&self) -> Option<&str> {
         self.0.downcast_ref::<&str>().copied().or(self.0.downcast_ref::<String>().map(|s| &**s))
     }
 
-    /// Returns the payload, for `std::panic::resume_unwind`; see `JoinError::into_panic`.
+    /// Returns the panic's payload, for `std::panic::resume_unwind`; see `JoinError::into_panic`.
     #[must_use]
     pub fn into_inner(self) -> Box<dyn Any + Send> {
         self.0
@@ -178,27 +179,28 @@ impl From<JoinError> for std::io::Error {
 struct VTable {
     /// Polls the future. Returns true if the future has ended; then its output is stored.
     poll: unsafe fn(*mut Header, &mut Context<'_>) -> bool,
-    /// Drops the future, and stores an error as its output.
+    /// Drops the future, and stores this error as the task's output.
     cancel: unsafe fn(*mut Header, JoinError),
     /// Moves the output to the given pointer.
     take_output: unsafe fn(*mut Header, *mut ()),
-    /// Drops the output, unless it was taken.
+    /// Drops the output, unless the handle has taken it.
     drop_output: unsafe fn(*mut Header),
     free: unsafe fn(*mut Header),
 }
 
 pub(crate) struct Header {
     state: AtomicU32,
-    /// The runtime's number. It is written before the first poll.
+    /// The number of the runtime that polls the task. The number is written before the first poll.
     table: AtomicU32,
-    /// The task's name in that runtime. It is written before the first poll.
+    /// The task's *name* in its runtime's core (its slot and generation), by which its wakers find it. The name is
+    /// written before the first poll.
     name: AtomicU64,
     vtable: &'static VTable,
     join_waker: UnsafeCell<Option<Waker>>,
     about: About,
 }
 
-/// A task's origin: where it was spawned, and its name if it has one.
+/// Describes a task: the line of code that spawned it, and its name if it has one.
 ///
 /// ```
 /// let task = arachne::Runtime::new(1).spawn_named("greeter", async {});
@@ -209,13 +211,14 @@ pub(crate) struct Header {
 #[derive(Clone, Copy, PartialEq, Eq, Debug)]
 #[non_exhaustive]
 pub struct About {
-    /// Where the task was spawned.
+    /// The line of code that spawned the task.
     pub spawned: &'static Location<'static>,
     /// The task's name, if it was given one.
     pub name: Option<&'static Label>,
 }
 
-/// A name for tasks. Equal names share one label, which is never freed: use a bounded number of names.
+/// A name that programs give to tasks, for reports. Equal names share one label, which is never freed, so a program
+/// should use a bounded number of names.
 ///
 /// ```
 /// assert!(std::ptr::eq(arachne::Label::of("sweeper"), arachne::Label::of("sweeper")));
@@ -226,7 +229,7 @@ pub struct Label(String);
 static LABELS: Mutex<Vec<&'static Label>> = Mutex::new(Vec::new());
 
 impl Label {
-    /// Returns the label of this text. Makes the label at the first call; see the example at `Label`.
+    /// Returns the label whose text is `text`. The first call with a text makes its label; see the example at `Label`.
     pub fn of(text: &str) -> &'static Label {
         let mut labels = LABELS.lock().unwrap();
         if let Some(label) = labels.iter().find(|label| label.0 == text) {
@@ -237,7 +240,7 @@ impl Label {
         label
     }
 
-    /// Returns the text.
+    /// Returns the label's text.
     ///
     /// ```
     /// assert_eq!(arachne::Label::of("sweeper").as_str(), "sweeper");
@@ -269,10 +272,11 @@ struct Task<F: Future> {
     stage: UnsafeCell<Stage<F>>,
 }
 
-/// The runtime's reference to a task, as the number that the core stores: made by `new`, consumed by its end.
+/// The runtime's pointer to a task, as the 64-bit number that the core stores: `new` makes it, and the task's end
+/// consumes it.
 pub(crate) type Raw = u64;
 
-/// Makes a task of a future. Returns the runtime's reference, and the handle on the task's output.
+/// Makes a task that runs `future`. Returns the runtime's pointer to the task, and the handle on the task's output.
 pub(crate) fn new<F>(future: F, about: About) -> (Raw, JoinHandle<F::Output>)
 where
     F: Future + Send + 'static,
@@ -299,10 +303,10 @@ where
     (at.as_ptr() as usize as Raw, JoinHandle { at, of: PhantomData })
 }
 
-/// Returns the future of a task that has not begun, and frees the task.
+/// Frees a task that was never polled, and returns its future.
 ///
 /// # Safety
-/// `raw` and the handle must be those that `new` returned for this future, and nobody else may have them.
+/// The caller must pass the `raw` and the handle that one call of `new` returned, and nobody else may use them.
 pub(crate) unsafe fn unmake<F: Future>(raw: Raw, handle: JoinHandle<F::Output>) -> F {
     std::mem::forget(handle);
     let task = Box::from_raw(at(raw).cast::<Task<F>>());
@@ -317,16 +321,16 @@ fn at(raw: Raw) -> *mut Header {
     raw as usize as *mut Header
 }
 
-/// Polls a task, or ends it if it was aborted. Returns true if the task has ended; in this case its handle was woken,
-/// and `raw` is consumed.
+/// Polls a task, or ends it if it was aborted. Returns true if the task has ended: then its handle was woken, and `raw`
+/// must not be used again.
 ///
 /// # Safety
-/// `raw` must be from `new` and not consumed, and the caller must hold the task.
+/// The caller must have `raw` from `new`, not yet consumed, and no other thread may poll or end the task meanwhile.
 #[inline]
 pub(crate) unsafe fn run(raw: Raw, table: usize, name: u64, cx: &mut Context<'_>) -> bool {
     let header = at(raw);
     if (*header).name.load(Relaxed) == NOBODY {
-        // The name must be written before the bit is read: `abort` sets the bit before it reads the name.
+        // The name must be written before the `ABORTED` bit is read: `abort` sets the bit before it reads the name.
         (*header).table.store(table as u32, Relaxed);
         (*header).name.store(name, SeqCst);
     }
@@ -339,20 +343,20 @@ pub(crate) unsafe fn run(raw: Raw, table: usize, name: u64, cx: &mut Context<'_>
     true
 }
 
-/// Cancels a task that has not ended.
+/// Cancels a task that has not ended, and consumes `raw`.
 ///
 /// # Safety
-/// `raw` must be as for `run`.
+/// The caller has the same duties for `raw` as in `run`.
 pub(crate) unsafe fn end(raw: Raw) {
     let header = at(raw);
     ((*header).vtable.cancel)(header, JoinError::Cancelled);
     complete(header);
 }
 
-/// Returns where the task was spawned, and its name.
+/// Returns the line that spawned the task, and the task's name.
 ///
 /// # Safety
-/// `raw` must be as for `run`.
+/// The caller has the same duties for `raw` as in `run`.
 #[inline]
 pub(crate) unsafe fn about(raw: Raw) -> About {
     (*at(raw)).about
@@ -376,16 +380,16 @@ unsafe fn complete(header: *mut Header) {
             ((*header).vtable.free)(header);
         }
     }
-    // If neither flag was set, the handle owns the task as soon as it sees COMPLETE, so the task must not be touched
-    // from here on.
+    // If neither `WAITING` nor `SHARED` was set, the handle owns the task as soon as it sees COMPLETE, so the task must
+    // not be accessed from here on.
 }
 
-/// Returns true if a task in this state is no longer touched by the thread that ended it.
+/// Returns true if the thread that ended a task with this `state` no longer accesses the task.
 fn is_settled(state: u32) -> bool {
     state & COMPLETE != 0 && (state & (WAITING | SHARED) == 0 || state & SETTLED != 0)
 }
 
-/// Marks the task to end when a worker runs it next, and wakes it.
+/// Marks the task as aborted, and wakes it, so that a worker takes it and ends it.
 fn abort(header: &Header) {
     header.state.fetch_or(ABORTED, SeqCst);
     let name = header.name.load(SeqCst);
@@ -416,7 +420,8 @@ unsafe fn cancel<F: Future>(header: *mut Header, why: JoinError) {
     lay((*task).stage.get(), Err(why));
 }
 
-/// Drops the future in place, and stores the output. If that drop panics, the panic replaces an output that was Ok.
+/// Drops the future where it lies, and stores the output in its stead. If the drop panics, that panic is stored instead
+/// of an output that was Ok.
 unsafe fn lay<F: Future>(stage: *mut Stage<F>, output: Result<F::Output, JoinError>) {
     let dropped = catch_unwind(AssertUnwindSafe(|| std::ptr::drop_in_place(stage)));
     let output = match (dropped, output) {
@@ -449,9 +454,9 @@ unsafe fn free<F: Future>(header: *mut Header) {
     let _ = catch_unwind(AssertUnwindSafe(|| drop(task)));
 }
 
-/// A handle on a task, and the future of its output. Dropping the handle leaves the task running.
+/// A handle on a task, which is also the future of the task's output. Dropping the handle leaves the task running.
 ///
-/// A handle must not be polled again after it was ready: that panics.
+/// Polling the handle again after it was ready panics.
 ///
 /// ```
 /// let runtime = arachne::Runtime::new(2);
@@ -464,7 +469,8 @@ pub struct JoinHandle<T> {
     at: NonNull<Header>,
     of: PhantomData<T>,
 }
-// SAFETY: the output is read and dropped on the thread that has the handle; all other access to the task is atomic.
+// SAFETY: the output is read and dropped only on the thread that has the handle, and all other access to the task is
+// atomic.
 unsafe impl<T: Send> Send for JoinHandle<T> {}
 // SAFETY: a shared handle gives only atomic access.
 unsafe impl<T: Send> Sync for JoinHandle<T> {}
@@ -505,7 +511,7 @@ impl<T> JoinHandle<T> {
         abort(self.header());
     }
 
-    /// Returns a handle that can abort the task, without its output; see the example at `AbortHandle`.
+    /// Returns a handle that can abort the task but not get its output; see the example at `AbortHandle`.
     #[must_use]
     pub fn abort_handle(&self) -> AbortHandle {
         let share = |state| (state & COMPLETE == 0).then_some((state | SHARED) + ONE);
@@ -517,7 +523,7 @@ impl<T> JoinHandle<T> {
         }
     }
 
-    /// Returns where the task was spawned, and its name; see the example at `About`.
+    /// Returns the line that spawned the task, and the task's name; see the example at `About`.
     #[must_use]
     pub fn about(&self) -> About {
         self.header().about
@@ -525,12 +531,12 @@ impl<T> JoinHandle<T> {
 }
 
 impl<T> JoinHandle<T> {
-    /// Returns true if the task has ended. If not, keeps `waker`, which is woken when the task ends.
+    /// Returns true if the task has ended. If not, stores `waker`, which the task's end will wake.
     pub(crate) fn is_there(&mut self, waker: &Waker) -> bool {
         let header = self.header();
         let mut state = header.state.load(Acquire);
         if state & (COMPLETE | WAITING) == WAITING {
-            // Takes the old waker back before it is replaced, unless the task ends first.
+            // Claims the old waker back before it is replaced, unless the task ends first.
             state = header.state.fetch_and(!WAITING, AcqRel);
             if state & COMPLETE != 0 {
                 header.state.fetch_or(WAITING, AcqRel);
@@ -562,7 +568,7 @@ impl<T> JoinHandle<T> {
         output
     }
 
-    /// Returns the output, if the task has ended.
+    /// Returns the output, or `None` if the task has not ended.
     pub(crate) fn output(mut self) -> Option<Result<T, JoinError>> {
         match self.is_finished().then(|| self.take())? {
             Poll::Ready(output) => Some(output),
@@ -586,7 +592,8 @@ impl<T> Drop for JoinHandle<T> {
     fn drop(&mut self) {
         let header = self.header();
         if header.state.load(Relaxed) & SHARED != 0 {
-            // If the task has ended, this handle drops the output; otherwise the thread that ends the task does.
+            // If the task has ended, this handle drops the output; otherwise the thread that ends the task will drop
+            // it.
             let leave = |state| (state & COMPLETE == 0).then_some(state & !JOINED);
             if header.state.fetch_update(AcqRel, Acquire, leave).is_ok() {
                 return;
@@ -594,16 +601,17 @@ impl<T> Drop for JoinHandle<T> {
             // SAFETY: the output is stored, and nobody else takes it.
             unsafe { (header.vtable.drop_output)(self.at.as_ptr()) };
         }
-        // If the task has not ended, or SETTLED isn't set, the thread that ends the task or an abort handle frees it.
+        // If the task has not ended, or SETTLED isn't set, the thread that ends the task or an abort handle will free
+        // it.
         let before = header.state.fetch_and(!JOINED, AcqRel);
         if before & HELD == JOINED && is_settled(before) {
-            // SAFETY: the thread that ended the task no longer touches it, and the handles are gone.
+            // SAFETY: the thread that ended the task no longer accesses it, and the handles are gone.
             unsafe { (header.vtable.free)(self.at.as_ptr()) };
         }
     }
 }
 
-/// A handle that can abort a task, without its output; from `JoinHandle::abort_handle` or `JoinSet::spawn`.
+/// A handle that can abort a task but not get its output; from `JoinHandle::abort_handle` or `JoinSet::spawn`.
 ///
 /// ```
 /// let runtime = arachne::Runtime::new(1);
@@ -642,7 +650,7 @@ impl AbortHandle {
 impl Clone for AbortHandle {
     fn clone(&self) -> AbortHandle {
         if let Some(header) = self.header() {
-            // As in `Arc`: there can be this many handles only if some are leaked.
+            // As in `Arc`: the count can get this high only if handles are leaked.
             if header.state.fetch_add(ONE, Relaxed) > u32::MAX / 2 {
                 std::process::abort();
             }
@@ -656,7 +664,7 @@ impl Drop for AbortHandle {
         if let (Some(at), Some(header)) = (self.0, self.header()) {
             let before = header.state.fetch_sub(ONE, AcqRel);
             if before & HELD == ONE && is_settled(before) {
-                // SAFETY: the thread that ended the task no longer touches it, and the handles are gone.
+                // SAFETY: the thread that ended the task no longer accesses it, and the handles are gone.
                 unsafe { (header.vtable.free)(at.as_ptr()) };
             }
         }

@@ -11,7 +11,7 @@ use std::pin::Pin;
 use std::task::{Context, Poll, Waker};
 use std::time::Duration;
 
-/// Nanoseconds of the system's monotonic clock.
+/// Returns the nanoseconds of the system's monotonic clock.
 pub(crate) use crate::sys::now;
 
 type Key = (u64, u64);
@@ -41,7 +41,7 @@ impl Timers {
         self.next.load(SeqCst)
     }
 
-    /// Adds a timer. Returns the timer's key, and true if this timer is the first that is due.
+    /// Adds a timer. Returns the timer's key, and true if this timer is now the first that is due.
     fn add(&self, at: u64, waker: Waker) -> (Key, bool) {
         let mut queue = self.queue.lock().unwrap();
         queue.made += 1;
@@ -97,7 +97,7 @@ impl Timers {
     }
 }
 
-/// A sleep's timer, and the name of the task whose waker the timer has; `NOBODY` if the waker isn't a task's.
+/// A sleep's timer, and the core's name of the task whose waker the timer has, or `NOBODY` if the waker isn't a task's.
 struct Waits {
     timers: &'static Timers,
     key: Key,
@@ -118,7 +118,7 @@ pub struct Sleep {
     waits: Option<Waits>,
 }
 
-/// Waits for at least `duration`. The resolution is a millisecond.
+/// Waits for at least `duration`. Timers have a resolution of a millisecond.
 ///
 /// ```
 /// use std::time::{Duration, Instant};
@@ -156,7 +156,7 @@ impl fmt::Debug for Sleep {
 }
 
 impl Sleep {
-    /// Sets a new time for the sleep, also if a task already waits for it.
+    /// Sets a new time for the sleep, even if a task already waits for it.
     ///
     /// ```
     /// use std::{pin::Pin, time::{Duration, Instant}};
@@ -278,7 +278,7 @@ impl<F: Future> Future for Timeout<F> {
     }
 }
 
-/// Returns the timers that futures of this thread use: those of its worker, or those of all threads that are no
+/// Returns the timers that futures on this thread use: those of its worker, or those of all threads that are no
 /// workers.
 pub(crate) fn of_this_thread() -> Option<&'static Timers> {
     let shared = here()?;
@@ -286,7 +286,7 @@ pub(crate) fn of_this_thread() -> Option<&'static Timers> {
     Some(me.map_or(&shared.visitors, |me| &shared.workers[me].0.timers))
 }
 
-/// Returns for how many milliseconds a worker that fires the timers of `workers` may sleep; -1 is for ever.
+/// Returns for how many milliseconds a worker that fires the timers of `workers` may sleep, or -1 for ever.
 pub(crate) fn rest(shared: &Shared, workers: impl Iterator<Item = usize>) -> i32 {
     let next = workers.map(|worker| shared.next_timer(worker)).min().unwrap_or(u64::MAX);
     if next == u64::MAX {

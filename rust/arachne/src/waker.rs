@@ -1,4 +1,5 @@
-//! Wakers of tasks: the waker's only word is the task's name, and each runtime has a table of functions.
+//! Wakers of tasks: a waker's data pointer is only the task's name (its slot and generation), and each runtime has a
+//! table of functions (a vtable).
 //!
 //! So cloning and dropping a waker costs nothing, and the waker of a task that has ended wakes nobody.
 
@@ -29,7 +30,8 @@ macro_rules! tables {
 static VTABLES: [RawWakerVTable; TABLES] =
     tables!(0 1 2 3 4 5 6 7 8 9 10 11 12 13 14 15 16 17 18 19 20 21 22 23 24 25 26 27 28 29 30 31);
 
-/// Returns the waker of a task. The waker needs no drop.
+/// Returns the waker of the task with the core's name `name`, of the runtime with number `table`. The waker need not be
+/// dropped.
 #[inline]
 pub(crate) fn waker_of(table: usize, name: u64) -> ManuallyDrop<Waker> {
     // SAFETY: the functions of VTABLES take any word.
@@ -43,13 +45,13 @@ pub(crate) fn is_of_running(waker: &Waker, worker: &Worker) -> bool {
     name != NOBODY && waker.will_wake(&waker_of(worker.shared.table, name))
 }
 
-/// Returns `of(worker)` if the thread is a worker that polls the task of this waker; otherwise false.
+/// Returns `of(worker)` if this thread is a worker that now polls the task of `waker`; otherwise false.
 #[inline]
 pub(crate) fn in_own_poll(waker: &Waker, of: impl FnOnce(&Worker) -> bool) -> bool {
     Worker::with(|worker| worker.map_or(false, |worker| is_of_running(waker, worker) && of(worker)))
 }
 
-/// Returns the name of the task of this waker, if the task belongs to this runtime.
+/// Returns the core's name of the task of `waker`, if that task belongs to the runtime with number `table`.
 #[inline]
 pub(crate) fn name_in(waker: &Waker, table: usize) -> Option<u64> {
     Worker::with(|worker| {
@@ -58,7 +60,7 @@ pub(crate) fn name_in(waker: &Waker, table: usize) -> Option<u64> {
     })
 }
 
-/// Wakes the task of this name, unless it has ended.
+/// Wakes the task with the core's name `name`, of the runtime with number `table`, unless it has ended.
 pub(crate) fn wake_name(table: usize, name: u64) {
     let shared = match shared_of(table) {
         Some(shared) => shared,
@@ -67,7 +69,7 @@ pub(crate) fn wake_name(table: usize, name: u64) {
     Worker::with(|worker| match worker {
         Some(worker) if worker.shared.table == table => {
             if worker.current.get() == name {
-                // The task is being polled by this worker, which makes it ready again once the poll returns.
+                // The task is being polled by this worker, which will make it ready again after the poll.
                 worker.woken.set(true);
                 return;
             }

@@ -10,7 +10,7 @@ use crate::timer::now;
 use crate::waker::{waker_of, NOBODY};
 use std::time::Duration;
 
-/// The nanoseconds for which the watcher stands in for stuck workers before it searches for others.
+/// The nanoseconds for which the watcher stands in for workers that are stuck in a poll, before it searches for others.
 const TURN: u64 = 2_000_000;
 
 struct Seen {
@@ -26,7 +26,7 @@ pub(crate) fn run(shared: &'static Shared, hands: Hands, longer: Duration, log: 
     let longer = longer.as_nanos() as u64;
     let mut seen: Vec<Seen> =
         shared.workers.iter().map(|_| Seen { polls: 0, name: NOBODY, since: 0, told: false }).collect();
-    // The workers in a long poll, as bits. The watcher takes over their blocks and timers.
+    // A bit mask of the workers in a long poll. The watcher takes over their blocks (task slots) and timers.
     let mut stuck = 0;
     while !shared.stop.load(SeqCst) {
         if stuck == 0 {
@@ -36,7 +36,8 @@ pub(crate) fn run(shared: &'static Shared, hands: Hands, longer: Duration, log: 
         stuck = 0;
         for (worker, seen) in seen.iter_mut().enumerate() {
             let age = age_of_poll(shared, worker, seen, now);
-            // Help begins well before the poll is reported: after about three looks that found the worker in this poll.
+            // The watcher begins to help well before it reports the poll: after about three checks that found the
+            // worker in this poll.
             if age > longer / 12 {
                 stuck |= 1 << worker;
             }
@@ -53,7 +54,7 @@ pub(crate) fn run(shared: &'static Shared, hands: Hands, longer: Duration, log: 
     shared.root.lock().unwrap().join(hands);
 }
 
-/// Returns for how long the worker has been seen in its current poll, in nanoseconds; 0 if it is in no poll.
+/// Returns for how many nanoseconds the watcher has seen the worker in its current poll; 0 if it is in no poll.
 fn age_of_poll(shared: &Shared, worker: usize, seen: &mut Seen, now: u64) -> u64 {
     let counts = &shared.workers[worker].0;
     let (polls, name) = (counts.polls.load(Relaxed), counts.running.load(Relaxed));
@@ -73,10 +74,11 @@ fn tell(shared: &Shared, worker: usize, age: u64, log: bool) {
     }
 }
 
-/// Stands in for stuck workers: polls the epoll, fires their timers, and wakes another worker for their ready jobs.
+/// Stands in for workers that are stuck in a poll: polls the epoll, fires their timers, and wakes another worker for
+/// their ready jobs.
 ///
-/// If all workers are stuck, the watcher runs these jobs itself. Returns once no worker is stuck any more, or after
-/// `TURN`.
+/// If all workers are stuck, the watcher runs these jobs itself. Returns when no worker is stuck any more, or after
+/// `TURN` nanoseconds.
 fn rescue(shared: &'static Shared, hands: &Hands, stuck: u64) {
     let polls: Vec<u64> = shared.workers.iter().map(|w| w.0.polls.load(Relaxed)).collect();
     let all = u64::MAX >> (64 - shared.active.0.load(Relaxed));
@@ -110,7 +112,7 @@ fn rescue(shared: &'static Shared, hands: &Hands, stuck: u64) {
     }
 }
 
-/// Runs up to 64 ready jobs of a worker's blocks. Returns the number of jobs that ran.
+/// Runs up to 64 ready jobs of the blocks (the task slots) of one worker. Returns the number of jobs that ran.
 fn run_some(shared: &'static Shared, hands: &Hands, worker: usize) -> usize {
     let mut ran = 0;
     for &shard in shared.workers[worker].0.used_shards() {

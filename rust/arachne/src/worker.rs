@@ -1,30 +1,34 @@
-//! A worker's loop: runs ready jobs, polls the epoll and its timers, steals from other workers, and parks.
+//! A worker's loop: it runs ready jobs (tasks, as the core stores them), polls the epoll and its timers, steals from
+//! other workers, and parks.
 //!
 //! The core decides which worker gets a job and whether a worker may park. This module decides where a worker searches
 //! next, and which sleeping worker to wake.
 //!
-//! **Next.** A job that another job makes ready or spawns runs next on the same worker, up to `NEXTS` in a row. A job
-//! that would run next and is displaced by another becomes ready in its block. A job that yields, or would be beyond
-//! `NEXTS`, goes into the worker's local queue (its *line*).
+//! **Next.** A job that the running job spawns or makes ready runs next on the same worker, up to `NEXTS` in a row. If
+//! another such job displaces it before it runs, it becomes ready in its block (a group of 64 task slots), from which
+//! any worker can take it. A job that yields, or that would exceed `NEXTS`, goes into the worker's *line*, its local
+//! queue.
 //!
-//! **Order.** Then the worker sweeps its blocks with ready jobs: of each block it runs every job that was ready when
-//! the block's turn came, each of them once. At the end of a round all jobs in the worker's local queue run, in order.
+//! **Order.** After that the worker sweeps its blocks with ready jobs: it runs each job that was ready as the sweep of
+//! its block began, once. At the end of a round over its blocks, the worker runs all jobs in its local queue, in order.
 //! So a job that is ready again and again makes no other job wait for more than a round.
 //!
-//! **Looking out.** After `LOOK_OUT` polls of tasks, or by time if polls are long, a worker checks its timers, the
-//! epoll, and the workers that make no progress. From the ready words and the local queues of each such worker it takes
-//! up to two jobs. A check by time polls the epoll only if no other worker has polled it lately. If polls are long
-//! (fewer than `FEW` fit into `LOOK_TIME`), another worker counts as making no progress while it is in one poll. So
-//! that its own jobs run too, the worker then takes more jobs only after those that it has stolen and one of its own
-//! have run. It takes none while it runs its local queue, unless the other worker has been in its poll for `LONG_POLL`.
-//! At every `LONG`th check in a row that finds the same worker without progress, it fires that worker's timers too.
+//! **Checks.** After `LOOK_OUT` polls of tasks, or after some time if polls are long, a worker checks its timers, the
+//! epoll, and which other workers make no progress. It takes up to two jobs from each worker that makes no progress,
+//! out of that worker's blocks and local queues. If a check is due because time has passed, it includes the epoll only
+//! if no other worker has polled the epoll lately. If polls are long (fewer than `FEW` fit into `LOOK_TIME`), another
+//! worker counts as making no progress for as long as it is in one poll. To run its own jobs too, the checking worker
+//! then takes more jobs only after it has run those that it has stolen and one of its own. While it runs the jobs of
+//! its line, it takes none, unless the other worker has been in its poll for `LONG_POLL`. When `LONG` checks in a row
+//! have found the same worker without progress, the checking worker fires that worker's timers too.
 //!
-//! **Helping.** Any free worker can take any ready job, also from another worker's local queues: first the job that
-//! would run first. An idle worker takes half of another worker's ready jobs or, at last, half of the jobs in that
-//! worker's local queues behind the next one. It takes a single job only if that worker sleeps or makes no progress.
-//! Stolen jobs run before all that is ready on the worker that stole them, and may be stolen again. A worker sleeps
-//! only if no other worker has two or more jobs that it could take over. While a worker is idle, the others keep only
-//! as many jobs in their local queues as run in about `LOOK_TIME`, and wake the idle worker for more.
+//! **Stealing.** Any worker without work can take any ready job, also from another worker's local queues: first the job
+//! that would run first. An idle worker takes half of another worker's ready jobs or, if it finds none, half of the
+//! jobs in that worker's local queues behind the next one. If there is only one such job, it takes the job only if that
+//! worker sleeps or makes no progress. Stolen jobs run before all jobs that are ready on the worker that stole them,
+//! and may be stolen again. A worker sleeps only if no other worker has two or more jobs that it could take over. While
+//! any worker is idle, the others keep only as many jobs in their local queues as run in about `LOOK_TIME`, and wake
+//! the idle worker for more.
 
 use crate::core::{place_of, Hands, Job, Rested, Spawned, BLOCK, SHARD};
 use crate::cores::Judge;
@@ -43,78 +47,82 @@ pub(crate) use sleepers::Ends;
 /// The longest chain of jobs that run one after the other because each was made ready by the one before.
 const NEXTS: u32 = 128;
 
-/// After `LOOK_OUT` polls of tasks or about `LOOK_TIME` nanoseconds a worker checks the epoll, its timers and other
-/// workers, even if it has jobs to run. By time it skips the epoll if another worker has polled it within `LOOK_TIME`.
+/// After `LOOK_OUT` polls, or `LOOK_TIME` nanoseconds, a worker checks the epoll, its timers and other workers, even if
+/// it has jobs to run. If the check is due because of the time, it skips the epoll if another worker has polled it
+/// within `LOOK_TIME`.
 const LOOK_OUT: u32 = 64;
 pub(crate) const LOOK_TIME: u64 = 100_000;
-/// The time between two checks of the epoll and the timers by the only active worker: nobody else could run the jobs
-/// that it finds. By time such a worker polls the epoll only after `LONELY_LOOK`, since the jobs that it finds run
-/// behind those in its local queues.
+/// Nanoseconds between two checks of the epoll and the timers by the only active worker: nobody else could run the jobs
+/// that they make ready. If such a check is due because of the time, it polls the epoll only every `LONELY_LOOK`
+/// nanoseconds: the jobs that it finds run behind those in the local queues.
 const LONELY_TIME: u64 = 500_000;
 const LONELY_LOOK: u64 = 2_000_000;
-/// The worker that applies the core policy reads its clock after this many polls.
+/// The worker that applies the core policy reads its clock once per this many polls.
 const JUDGED: u32 = 8;
 /// After this many checks in a row that found another worker without progress, a worker fires that worker's timers.
 const LONG: u32 = 8;
-/// Nanoseconds in one poll after which a busy worker also takes the job that would run next on the stuck worker.
+/// Nanoseconds in one poll, after which a busy worker also takes the job that would run next on the worker in that
+/// poll.
 const LONG_POLL: u64 = 1_000_000;
-/// A worker clears its empty blocks' bits in the summary after it has found this many empty blocks that the summary
-/// still shows.
+/// After a sweep has found this many empty blocks (of task slots) whose bits in the summary word are still set, the
+/// worker clears those bits.
 const STALE: u32 = 16;
 /// The most jobs in a worker's local queues that come from one poll of the epoll or from another worker. While any
 /// worker is idle, the most jobs there in all.
 const FEW: usize = 8;
-/// The most jobs in a worker's line (a local queue): those that yielded or ended a chain (`KEPT`), or, for the only
-/// worker, of any kind (`HAND`).
+/// The most jobs in a worker's line (its local queue): `KEPT` that yielded or ended a chain or, if there is only one
+/// worker, `HAND` of any kind.
 const KEPT: usize = 16;
 pub(crate) const HAND: usize = 48;
-/// If a worker finds this many events and timers more than there is room for in its local queues, it wakes another to
+/// If a worker finds this many more events and timers than its local queues have room for, it wakes another worker to
 /// help.
 const MANY: usize = 4;
 
-/// The core policy counts at most this many ready jobs of a worker.
+/// The core policy counts at most this many ready jobs per worker.
 const CROWD: u32 = 128;
 
-/// A worker's position in its rounds, and the progress that it has seen of the other workers.
+/// A worker's position in its rounds, and the progress that it has seen other workers make.
 pub(crate) struct Turn {
-    /// The number of stolen jobs left to run. Other workers may have taken some of these jobs.
+    /// The number of stolen jobs that are left to run. Other workers may have taken some of these jobs.
     first: usize,
-    /// The number of jobs of the line (a local queue) to run before the next sweep. Other workers may have taken some
+    /// The number of jobs of the line (the local queue) to run before the next sweep. Other workers may have taken some
     /// of these jobs.
     line_left: usize,
-    /// The block that is being swept.
+    /// The block (of 64 task slots) that is being swept.
     block: usize,
-    /// The places of `block` that were ready when the sweep began and were not swept yet, as bits.
+    /// The slots of `block` that had ready jobs when its sweep began and were not swept yet, as a bit mask.
     wanted: u64,
-    /// The number of the block to sweep next.
+    /// The index of the block (of 64 task slots) to sweep next.
     next: usize,
-    /// The number of empty blocks that a sweep has found, though the summary still shows them.
+    /// The number of empty blocks that sweeps have found although the summary word (a bit for each block with ready
+    /// jobs) still shows them.
     stale: u32,
     chain: u32,
     /// The number of tasks polled since this worker last checked the epoll and the other workers, or was idle.
     polls: u32,
-    /// The number of polls that take about `LOOK_TIME`.
+    /// An estimate of how many polls take `LOOK_TIME` together.
     most: u32,
-    /// True if each call of `look_out` counts the ready jobs for the policy, and checks if the arbiter wants the core
-    /// back.
+    /// True if each call of `look_out` also counts the ready jobs for the policy, and checks if the arbiter wants the
+    /// core back.
     counts: bool,
-    /// For each other worker, the number of polls that it had made when this worker last checked it.
+    /// For each other worker, the number of polls that it had made when this worker last checked whether it makes
+    /// progress.
     seen: Vec<u64>,
-    /// For each other worker, the number of checks in a row that found it without progress, modulo `LONG`.
+    /// For each other worker, the number of checks in a row that found no new poll of it, modulo `LONG`.
     stood: Vec<u32>,
-    /// For each worker, the time since which it has made no progress.
+    /// For each worker, the time since which this worker has seen no new poll of it.
     since: Vec<u64>,
     /// For each other worker, the number of polls that it had made when this worker last checked it before a sleep.
     met: Vec<u64>,
-    /// The time of the last of these checks.
+    /// The time of this worker's last check of the others before a sleep.
     looked: u64,
     /// Milliseconds between this worker's checks of the others while it sleeps.
     rests: i32,
-    /// The number of polls of all workers at the last of these checks.
+    /// The number of polls that all workers together had made when `rests` was last set.
     watched: u64,
     /// True if the last call of `look_at_others` left the worker with stolen jobs to run.
     helps: bool,
-    /// True if the worker woke from a sleep by itself, and has neither run a job nor called `goes_on` since.
+    /// True if the worker woke from a sleep unasked, and has neither run a job nor called `goes_on` since then.
     unsaid: bool,
 }
 
@@ -143,7 +151,8 @@ impl Turn {
         }
     }
 
-    /// Estimates how many polls take `LOOK_TIME`, from the polls since the last call. Starts the next measurement.
+    /// Estimates how many polls take `LOOK_TIME`, from the polls since this function was last called. Starts the next
+    /// measurement at `now`.
     fn pace(&mut self, context: &Context, now: u64) {
         if self.polls != 0 {
             let fitting = self.polls as u64 * LOOK_TIME / now.saturating_sub(context.looked.get()).max(1);
@@ -153,16 +162,16 @@ impl Turn {
         context.looked.set(now);
     }
 
-    /// Returns true if it is time to check the epoll, the timers and the other workers. Must only be called if polls
-    /// are so long that the clock is worth reading.
+    /// Returns true if enough time has passed to check the epoll, the timers and the other workers again. Reads the
+    /// clock, so it is only worth calling if polls are long.
     #[inline]
     fn is_over(&self, context: &Context, alone: bool) -> bool {
         let time = if alone { LONELY_TIME } else { LOOK_TIME };
         now().saturating_sub(context.looked.get()) >= time
     }
 
-    /// Returns how many jobs this worker keeps in its local queues while another worker is idle: those that run before
-    /// it checks the other workers again.
+    /// Returns how many jobs this worker keeps in its local queues while another worker is idle. These are as many as
+    /// it will run before its next check of the other workers.
     #[inline]
     fn few(&self) -> usize {
         FEW.min(self.most as usize)
@@ -172,9 +181,10 @@ impl Turn {
 impl Shared {
     // --------------------------------------------------------------------------------------- whom to wake
 
-    /// Wakes a worker for a job that has become ready in its block.
+    /// Wakes a worker for a job that has become ready in its block (a group of 64 slots).
     ///
-    /// If `unpark`, wakes the worker whose block it is; otherwise any sleeping worker, to help, unless `quiet`.
+    /// If `unpark` is true, wakes the worker that owns the block; otherwise, unless `quiet` is true, wakes any sleeping
+    /// worker, to help.
     #[inline]
     pub(crate) fn published(&self, name: u64, unpark: bool, quiet: bool) {
         if unpark {
@@ -184,15 +194,15 @@ impl Shared {
         }
     }
 
-    /// Makes a job that this worker holds ready, so that any worker can take it.
+    /// Puts a job that this worker holds back into its block (of task slots) as ready, so that any worker can take it.
     #[inline]
     pub(crate) fn make_ready(&self, context: &Context, job: &Job) {
         let unpark = context.hands.rest_ready(job);
         self.published(job.name, unpark, false);
     }
 
-    /// Sets the job that runs next on this worker. Makes a job that was next before ready, so that any worker can take
-    /// it.
+    /// Makes `job` the job that runs next on this worker. A job that was to run next before becomes ready, so that any
+    /// worker can take it.
     #[inline]
     pub(crate) fn set_next(&self, context: &Context, job: Job) {
         if !context.worker.hand.next.put(job) {
@@ -206,11 +216,12 @@ impl Shared {
         if let Some(waits) = context.worker.hand.next.take(context.alone) {
             self.make_ready(context, &waits);
         }
-        // The slot is empty now: the job was taken either by this call or by another worker.
+        // The `next` slot is empty now: either this call or another worker has taken its job.
         context.worker.hand.next.put(job);
     }
 
-    /// Makes all jobs in a worker's local queues ready. Wakes for each job only the worker whose block it belongs to.
+    /// Makes all jobs in the local queues of the worker `other` ready, so that any worker can take them. For each job,
+    /// wakes only the worker that owns the block (the task slots) of the job.
     pub(crate) fn relieve(&self, hands: &Hands, other: usize) {
         while let Some(job) = self.workers[other].0.hand.take(true) {
             hands.gets(&job, other);
@@ -218,23 +229,24 @@ impl Shared {
         }
     }
 
-    /// Wakes a worker, if it sleeps. Returns true if this call woke it.
+    /// Wakes the worker `worker`, if it sleeps. Returns true if this call woke it.
     fn rouse(&self, worker: usize) -> bool {
         let bit = 1 << worker;
         if self.sleepers.0.load(SeqCst) & bit == 0 || self.sleepers.0.fetch_and(!bit, SeqCst) & bit == 0 {
             return false;
         }
-        // Counted as searching before it wakes, so that no second worker is woken until this one has looked.
+        // The worker counts as searching before it wakes, so that no second worker is woken until this one has
+        // searched.
         self.searching.0.fetch_add(1, SeqCst);
         self.ring(worker);
         true
     }
 
-    /// Ends a worker's current sleep, or its next one.
+    /// Ends the current sleep of `worker`, or its next one.
     ///
-    /// The worker may start to wait in the epoll after `waits` was read by this call, and then doesn't notice the bell.
-    /// The worker still sees what the caller did before this call, since it registers as the one in the epoll before it
-    /// checks for work.
+    /// If the worker begins to wait in the epoll after this call has read `waits`, it doesn't notice its bell (its
+    /// condition variable). The worker still finds work that the caller has published before this call, since it
+    /// registers as the worker in the epoll before its last check for work.
     pub(crate) fn ring(&self, worker: usize) {
         if self.waits.0.load(SeqCst) == worker {
             self.reactor.notify();
@@ -243,8 +255,8 @@ impl Shared {
         }
     }
 
-    /// Wakes a sleeping worker, unless a worker is already searching. If possible, wakes neither the worker in the
-    /// epoll nor its deputy.
+    /// Wakes a sleeping worker, unless some worker is already searching for work. If possible, it is neither the worker
+    /// that waits in the epoll nor the *deputy*, which polls the epoll in that worker's stead.
     #[inline]
     pub(crate) fn rouse_any(&self) {
         let sleepers = self.sleepers.0.load(SeqCst);
@@ -257,10 +269,11 @@ impl Shared {
         }
     }
 
-    /// Ends a search by a worker that stays awake. If that worker was the last to search, wakes another worker for work
-    /// that may be left.
+    /// Ends this worker's search for work; the worker stays awake. If no other worker is still searching, wakes another
+    /// worker for work that may be left.
     ///
-    /// While the worker searched, no other worker was woken for new work, so the decrement must come before the check.
+    /// While this worker searched, no other worker was woken for new work, so `searching` must be decreased before the
+    /// check for work that is left.
     fn stop_looking(&self, hands: &Hands) {
         if self.searching.0.fetch_sub(1, SeqCst) != 1 {
             return;
@@ -275,7 +288,7 @@ impl Shared {
         }
     }
 
-    /// Marks this worker as awake, after a sleep or an attempt to sleep. Returns true if another worker woke it.
+    /// Marks this worker as awake again, after a sleep or an attempt to sleep. Returns true if another worker woke it.
     fn awake(&self, context: &Context) -> bool {
         let bit = 1 << context.me;
         let roused = self.sleepers.0.load(SeqCst) & bit == 0 || self.sleepers.0.fetch_and(!bit, SeqCst) & bit == 0;
@@ -285,7 +298,7 @@ impl Shared {
         roused
     }
 
-    /// Returns true if no worker waits in the epoll, and no worker is the deputy.
+    /// Returns true if no worker waits in the epoll, and none is the deputy, which polls it in that worker's stead.
     fn is_unattended(&self) -> bool {
         self.waits.0.load(SeqCst) == NO_ONE && self.deputy.0.load(SeqCst) == NO_ONE
     }
@@ -300,12 +313,13 @@ impl Shared {
         self.queued.0.load(SeqCst) != 0 && !self.clogged.load(SeqCst)
     }
 
-    /// Returns the number of jobs that seem ready in a worker's blocks. The count stops at eight.
+    /// Returns the number of jobs that seem ready in the blocks (the task slots) of `worker`. The count stops at eight.
     pub(crate) fn ready(&self, hands: &Hands, worker: usize) -> u32 {
         self.ready_up_to(hands, worker, 8)
     }
 
-    /// Returns the number of jobs at a worker's places that seem ready. The count stops at `most`.
+    /// Returns the number of jobs that seem ready in the blocks (the task slots) of `worker`. The count stops at
+    /// `most`.
     fn ready_up_to(&self, hands: &Hands, worker: usize, most: u32) -> u32 {
         let mut count = 0;
         for &shard in self.workers[worker].0.used_shards() {
@@ -321,7 +335,7 @@ impl Shared {
 
     // --------------------------------------------------------------------------------------- one task
 
-    /// Polls the task of a job that this worker holds. Then ends the job, or puts it back as ready or blocked.
+    /// Polls the task of `job`, which this worker holds. Afterwards ends the job, or puts it back as ready or blocked.
     #[inline]
     fn run(&self, context: &Context, turn: &mut Turn, job: Job) {
         let name = job.name;
@@ -349,13 +363,13 @@ impl Shared {
         self.rest(context, job);
     }
 
-    /// Puts back a job that has not ended. The job is blocked or, if it was woken, goes behind all that is ready on
-    /// this worker.
+    /// Puts back `job`, whose poll is over and which has not ended. The job becomes blocked or, if it was woken during
+    /// the poll, goes behind all jobs that are ready on this worker.
     #[inline]
     fn rest(&self, context: &Context, job: Job) {
         let name = job.name;
         if !context.woken.get() {
-            // Before the job is blocked: the end of the runtime finds blocked jobs by these names.
+            // Written before the job is blocked, since the runtime's end finds blocked jobs by these names.
             let kept = &self.names[job.place()];
             if kept.load(Relaxed) != name {
                 kept.store(name, Relaxed);
@@ -373,8 +387,8 @@ impl Shared {
         self.set_behind(context, job, self.kept());
     }
 
-    /// Ends a job. The job's place must be free before `roomy` and `clogged` are read: `spawn_at` hides a block before
-    /// it tries the block again, and `begin_queued` sets `clogged` before its second try.
+    /// Ends a job, and frees its slot. The slot must be free before `roomy` and `clogged` are read: `spawn_at` clears a
+    /// block's bit in `roomy` before it tries the block again, and `begin_queued` sets `clogged` before its second try.
     #[inline]
     fn finish(&self, context: &Context, job: &Job) {
         context.hands.finish(job);
@@ -385,7 +399,7 @@ impl Shared {
         }
     }
 
-    /// Marks a block as one that may have a free place.
+    /// Marks a block (of 64 task slots) as one that may have a free slot.
     #[inline]
     pub(crate) fn show_room(&self, block: usize) {
         let (word, bit) = (&self.roomy[block / SHARD].0, 1 << (block % SHARD));
@@ -396,7 +410,8 @@ impl Shared {
 
     // --------------------------------------------------------------------------------------- what is next
 
-    /// Takes the next job to run. Checks the epoll, timers and other workers first if it is time for that.
+    /// Takes the job that this worker runs next. If a check is due, first checks the epoll, the timers and other
+    /// workers.
     #[inline]
     fn pick(&'static self, context: &Context, turn: &mut Turn) -> Option<Job> {
         let is_over = |turn: &Turn| turn.most < LOOK_OUT && turn.polls >= 1 && turn.is_over(context, self.is_alone());
@@ -410,8 +425,8 @@ impl Shared {
         self.pick_next(context, turn).or_else(|| self.pick_ready(context, turn))
     }
 
-    /// Takes the job that the last job made ready, unless the chain is too long: then the job goes into the line, the
-    /// local queue.
+    /// Takes the job that the last job made ready; if too many such jobs ran in a row, puts it into the line (the local
+    /// queue) instead.
     #[inline]
     fn pick_next(&self, context: &Context, turn: &mut Turn) -> Option<Job> {
         if let Some(job) = context.worker.hand.next.take(context.alone) {
@@ -426,8 +441,8 @@ impl Shared {
         None
     }
 
-    /// Puts a job behind all that is ready on this worker. The job goes into the line (a local queue), or becomes ready
-    /// in its block if `most` jobs are in line already.
+    /// Puts a job behind all jobs that are ready on this worker. The job goes into the line (the local queue) or, if
+    /// `most` jobs are there already, becomes ready in its block (its task slot).
     #[inline]
     pub(crate) fn set_behind(&self, context: &Context, job: Job, most: usize) {
         if !context.worker.hand.line.put(job, most) {
@@ -435,8 +450,8 @@ impl Shared {
         }
     }
 
-    /// Returns how many jobs that yielded or ended a chain may be in the line (a local queue): one while any worker is
-    /// idle.
+    /// Returns how many jobs that yielded or ended a chain may be in the line (the local queue): only one while any
+    /// worker is idle.
     #[inline]
     fn kept(&self) -> usize {
         match self.all_busy() {
@@ -483,8 +498,8 @@ impl Shared {
         }
     }
 
-    /// Takes the next ready job of this worker's blocks, in turn. At the end of a round takes the jobs of the line (a
-    /// local queue) first.
+    /// Takes the next ready job of this worker's blocks (of task slots), which are swept in turn. At the end of a round
+    /// over the blocks, takes the jobs of the line (the local queue) first.
     #[inline]
     fn sweep(&self, context: &Context, turn: &mut Turn) -> Option<Job> {
         loop {
@@ -510,10 +525,10 @@ impl Shared {
         }
     }
 
-    /// Finds a worker's first block with ready jobs, from block number `from` on.
+    /// Finds the first block (of 64 task slots) with ready jobs of the worker `owner`, from block index `from` on.
     ///
-    /// Returns the number of the block after it, the block, and its places with a ready job, as bits. Adds to `stale`
-    /// the empty blocks that the summary still shows.
+    /// Returns the index of the block after it, the block itself, and the slots with ready jobs, as a bit mask. Adds to
+    /// `stale` the number of empty blocks that the summary word (a bit for each block with ready jobs) still shows.
     #[inline]
     fn find_block(&self, hands: &Hands, owner: usize, from: usize, stale: &mut u32) -> Option<(usize, usize, u64)> {
         let first = from / SHARD;
@@ -536,15 +551,15 @@ impl Shared {
         None
     }
 
-    /// Puts a queued task into a place of this worker, or of another worker, and holds the task, so that it runs here,
-    /// if possible. Returns None if there is no free place.
+    /// Puts the first queued task into a free slot of this worker, or else of another worker. Returns `None` if no slot
+    /// is free; otherwise the job if this worker now holds it, and `Some(None)` if another worker will run it.
     fn begin_queued(&'static self, context: &Context) -> Option<Option<Job>> {
         let raw = self.pop_queued()?;
         if let Some(job) = self.place(context, raw) {
             return Some(job);
         }
-        // The flag must be set before the second try: a place that is freed later clears it, and a place freed before
-        // is found.
+        // The flag must be set before the second try: whoever frees a slot later clears the flag, and a slot that was
+        // freed earlier is found.
         self.clogged.store(true, SeqCst);
         if let Some(job) = self.place(context, raw) {
             self.clogged.store(false, SeqCst);
@@ -582,7 +597,7 @@ impl Shared {
 
     // --------------------------------------------------------------------------------------- others
 
-    /// Returns the workers without a core whose jobs and timers worker `me` runs.
+    /// Returns the workers without a core whose jobs and timers the worker `me` looks after.
     fn lodgers(&self, me: usize) -> impl Iterator<Item = usize> {
         let active = self.active.0.load(SeqCst);
         (active..self.workers.len()).filter(move |&other| other % active == me)
@@ -595,8 +610,9 @@ impl Shared {
         if context.worker.hand.line.len() > turn.few() && !self.all_busy() {
             self.rouse_any();
         }
-        // The jobs of this look must not run before those that are ready on this worker, nor, if polls are long, before
-        // those in line. The only active worker takes them anyway, since it runs all jobs in that order.
+        // The jobs that this check finds must not run before those that are ready on this worker nor, if polls are
+        // long, before those in its line. The only active worker takes them anyway, since it runs all jobs in that
+        // order.
         let (alone, lasts) = (self.is_alone(), turn.few() < FEW);
         let first = |turn: &Turn| turn.wanted == 0 && !self.mine(context);
         let takes = alone || (context.worker.hand.line.is_empty() || !lasts) && first(turn);
@@ -619,11 +635,11 @@ impl Shared {
         !turn.counts || !self.is_asked_back(context.me)
     }
 
-    /// Takes jobs of workers that make no progress, and fires their timers.
+    /// Takes jobs from workers that make no progress (no new poll since the last check), and fires their timers.
     fn look_at_others(&self, context: &Context, turn: &mut Turn) {
-        // If polls are long, a worker within a poll counts as making no progress. More is taken from that worker only
-        // after the jobs taken before and one of this worker's own have run, and this worker's line too unless the poll
-        // is very long.
+        // If polls are long, a worker within a poll counts as making no progress. More jobs are taken from that worker
+        // only after the jobs taken before and one of this worker's own have run, and after this worker's line too
+        // unless the poll is very long.
         let (active, long_polls) = (self.active.0.load(Relaxed), turn.few() < FEW);
         for other in 0..self.workers.len() {
             let worker = &self.workers[other].0;
@@ -651,8 +667,8 @@ impl Shared {
             if !gets_on && !sleeps && may_help {
                 self.take_out(context, turn, other, 2, lasts);
             }
-            // A sleeping worker's blocks are looked at only now and then: a job that becomes ready there wakes some
-            // worker.
+            // A sleeping worker's blocks are checked only now and then: when a job becomes ready there, some worker is
+            // woken anyway.
             if (long || !sleeps) && may_help && self.ready(&context.hands, other) != 0 {
                 self.help(context, turn, other, 2);
             }
@@ -660,8 +676,8 @@ impl Shared {
         turn.helps = turn.first != 0;
     }
 
-    /// Takes up to `most` ready jobs of one of the blocks of the worker `other`. The jobs run next on this worker.
-    /// Returns true if it took any.
+    /// Takes up to `most` ready jobs from one block (64 task slots) of the worker `other`. The jobs run next on this
+    /// worker. Returns true if it took any.
     fn help(&self, context: &Context, turn: &mut Turn, other: usize, most: usize) -> bool {
         let (hands, stale) = (&context.hands, &mut 0);
         let start = context.random() as usize % (self.workers[other].0.used_shards().len() * SHARD);
@@ -672,8 +688,8 @@ impl Shared {
         self.has_taken(context, turn, got)
     }
 
-    /// Takes up to `most` jobs out of the local queues of the worker `other`. The jobs run next on this worker. With
-    /// `next`, also takes the job that would run next on the other worker. Returns true if it took any.
+    /// Takes up to `most` jobs from the local queues of the worker `other`. The jobs run next on this worker. If `next`
+    /// is true, also takes the job that would run next on the other worker. Returns true if it took any.
     fn take_out(&self, context: &Context, turn: &mut Turn, other: usize, most: usize, next: bool) -> bool {
         let most = most.min(FIRST - context.worker.hand.first.len());
         let jobs = (0..most).map_while(|_| self.workers[other].0.hand.take(next));
@@ -685,7 +701,7 @@ impl Shared {
         self.has_taken(context, turn, got)
     }
 
-    /// Puts a stolen job before all that is ready on this worker.
+    /// Puts a stolen job before all jobs that are ready on this worker.
     fn set_first(&self, context: &Context, job: Job) {
         if !context.worker.hand.first.put(job, FIRST) {
             self.make_ready(context, &job);
@@ -700,17 +716,17 @@ impl Shared {
         got != 0
     }
 
-    /// Returns how many tasks that events wake may go into this worker's local queues.
+    /// Returns how many more jobs may go into this worker's local queues when events wake their tasks.
     fn room(&self, context: &Context, turn: &Turn) -> usize {
         let most = if self.is_alone() { HAND } else { turn.few() };
         most.saturating_sub(context.worker.hand.line.len())
     }
 
-    /// Returns how many events to ask the epoll for: as many as have room in this worker's local queues.
+    /// Returns how many events to ask the epoll for, which is as many as this worker's local queues have room for.
     ///
-    /// The other events stay with the kernel, in their order, for the next worker that polls the epoll. If this worker
-    /// took them too, their tasks would wait when it loses its processor, and would run before the jobs in line. A
-    /// worker with no room asks for a few events, whose tasks other workers can take.
+    /// The other events stay in the kernel, in their order, for the next worker that polls the epoll. If this worker
+    /// took them too, their tasks would be stuck whenever it loses its processor, and would run before the jobs in its
+    /// line. A worker without room asks for a few events, whose tasks other workers can take.
     fn asks(&self, room: usize) -> usize {
         match room {
             0 if self.is_alone() => EVENTS,
@@ -724,14 +740,14 @@ impl Shared {
         self.active.0.load(Relaxed) == 1
     }
 
-    /// Polls the epoll and fires the timers whose time has come. Returns the number of events and timers.
+    /// Polls the epoll, and fires the timers that are due. Returns the number of events and timers together.
     fn look_at_events(&self, context: &Context, room: usize) -> usize {
         let found = if self.reactor.is_used() { self.reactor.look(self.asks(room)) } else { Found::NOTHING };
         self.hear(context, &found, room)
     }
 
-    /// Wakes the tasks of these events, and fires the timers whose time has come. Returns the number of events and
-    /// timers.
+    /// Wakes the tasks of the events `found`, and fires the timers that are due. Returns the number of events and
+    /// timers together.
     ///
     /// The first `room` of these tasks go into this worker's local queues, without waking another worker.
     fn hear(&self, context: &Context, found: &Found, room: usize) -> usize {
@@ -749,8 +765,8 @@ impl Shared {
         heard
     }
 
-    /// Fires the timers of a worker that makes no progress, without waking other workers. Returns the number of timers
-    /// fired.
+    /// Fires the due timers of the worker `other`, which is in a long poll or has no processor, without waking other
+    /// workers. Returns the number of timers fired.
     fn fire_quietly(&self, context: &Context, other: usize) -> usize {
         context.keeps.set(false);
         let fired = self.fire(other);
@@ -758,7 +774,7 @@ impl Shared {
         fired
     }
 
-    /// Fires the timers of the worker `owner` whose time has come. Returns the number of timers fired.
+    /// Fires the due timers of the worker `owner`. Returns the number of timers fired.
     pub(crate) fn fire(&self, owner: usize) -> usize {
         if self.next_timer(owner) == u64::MAX {
             return 0;
@@ -779,11 +795,11 @@ impl Shared {
         }
     }
 
-    /// Steals from another worker: half of its ready jobs or, with `last`, half of the jobs in its local queues behind
+    /// Steals half of another worker's ready jobs or, if `last` is true, half of the jobs in its local queues behind
     /// the next one.
     ///
-    /// Steals a worker's single job only if that worker sleeps or makes no progress. Returns true if any job was
-    /// stolen.
+    /// If that worker has only one job to steal, takes it only if that worker sleeps or has made no new poll since the
+    /// last check. Returns true if any job was stolen.
     fn steal(&self, context: &Context, turn: &mut Turn, last: bool) -> bool {
         let count = self.workers.len();
         let offset = context.random() as usize % count;
@@ -841,7 +857,8 @@ impl Shared {
         self.lay_down(context, &mut turn);
     }
 
-    /// Polls the epoll, unless another worker waits in it, and fires timers. Returns the number of events and timers.
+    /// Polls the epoll, unless another worker waits in it, and fires the timers that are due. Returns the number of
+    /// events and timers together.
     fn look_when_idle(&self, context: &Context, turn: &mut Turn) -> usize {
         let room = self.room(context, turn);
         if self.waits.0.load(Relaxed) != NO_ONE {
@@ -849,22 +866,22 @@ impl Shared {
         }
         let heard = self.look_at_events(context, room);
         if heard != 0 && self.is_alone() {
-            // This worker's local queues may be full now: a check by time before these jobs have run would find no
-            // room.
+            // This worker's local queues may be full now, so a check by time would find no room before these jobs have
+            // run.
             turn.pace(context, now());
             self.looked.0.store(context.looked.get(), Relaxed);
         }
         heard
     }
 
-    /// Takes ready jobs of the workers without a core for which this worker stands in. Returns true if any job was
-    /// taken.
+    /// Takes ready jobs of the workers without a core that this worker stands in for (whose jobs it runs). Returns true
+    /// if any job was taken.
     fn help_lodgers(&self, context: &Context, turn: &mut Turn) -> bool {
         self.lodgers(context.me)
             .any(|other| self.ready(&context.hands, other) != 0 && self.help(context, turn, other, FEW))
     }
 
-    /// Makes all jobs in this worker's local queues ready.
+    /// Makes all jobs in this worker's local queues ready, so that any worker can take them.
     pub(crate) fn lay_down(&self, context: &Context, turn: &mut Turn) {
         while let Some(job) = context.worker.hand.take(true) {
             let unpark = context.hands.rest_ready(&job);

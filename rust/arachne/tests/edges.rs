@@ -1,4 +1,5 @@
-//! Futures, tasks and runtimes that are dropped, aborted or ended early: nothing leaks, and nobody waits for ever.
+//! Futures, tasks and runtimes that are dropped, aborted or ended early: nothing leaks, and no task or thread waits for
+//! ever.
 use arachne::{
     block_on, channel, net, sleep, spawn, spawn_blocking, stopping, timeout, yield_now, Builder, JoinError, Lock,
     Runtime, Semaphore, Signal,
@@ -44,8 +45,8 @@ impl Drop for OnDrop {
     }
 }
 
-/// Polls a future with a counted waker, makes the future ready, and polls until it is. After that the waker must have
-/// been freed.
+/// Polls a future with a counted waker, makes the future ready by `let_it`, and polls it until it is ready. After that
+/// the waker must have been freed.
 fn frees_its_waker(runtime: &Runtime, what: &str, future: impl Future, let_it: impl FnOnce()) {
     let (mut future, counted, start) = (Box::pin(future), Arc::new(Nobody), Instant::now());
     let mut poll = || {
@@ -57,7 +58,7 @@ fn frees_its_waker(runtime: &Runtime, what: &str, future: impl Future, let_it: i
     while poll() {
         thread::sleep(MS);
     }
-    // The thread that wakes may still use the waker.
+    // The thread that wakes the task may still use the waker.
     while Arc::strong_count(&counted) != 1 {
         assert!(start.elapsed() < LONG, "{what} keeps its waker");
         thread::sleep(MS);
@@ -97,7 +98,8 @@ fn wakers_of_others_are_freed() {
     frees_its_waker(&runtime, "a handle", task, || gate.add_permits(1));
 }
 
-/// If a future is dropped after it got its turn and before it saw that, the next future in line gets the turn.
+/// If a future is dropped after it was given its turn and before it noticed, the next future in the queue gets the
+/// turn.
 #[test]
 fn a_turn_that_was_given_is_handed_on_at_drop() {
     let (sender, receiver) = channel(1);
@@ -162,7 +164,7 @@ fn what_is_aborted_before_it_begins_never_runs() {
             thread::yield_now();
         }
     };
-    // The only worker, or the only thread of the pool, is busy until the task or work was aborted.
+    // The only worker, or the only thread of the blocking pool, is busy until the task or work was aborted.
     for blocking in [false, true] {
         (runs.store(false, SeqCst), gate.store(false, SeqCst));
         let (first, began) = (busy.clone(), Arc::new(AtomicBool::new(false)));
@@ -198,7 +200,7 @@ fn a_timer_wakes_once() {
         is_due = is_due || Pin::new(&mut sleeps).poll(cx).is_ready();
         Poll::<()>::Pending
     }));
-    // One after the other, so that a busy machine doesn't make a single wake of several.
+    // One after the other, so that a busy machine doesn't merge several wakes into one.
     (0..8).for_each(|_| block_on(runtime.spawn(sleep(4 * MS))).unwrap());
     assert!(polls.load(SeqCst) <= 2, "{} polls", polls.load(SeqCst));
     task.abort();
@@ -209,7 +211,8 @@ fn a_sleep_wakes_whoever_polled_it_last() {
     let runtime = Runtime::new(2);
     let (sender, receiver) = channel(1);
     let (back, comes) = channel(1);
-    // In one task, twice with its waker; then in another, which takes it on to this thread and back to a third.
+    // One task polls the sleep twice, with its own waker. A second task polls it and hands it to this thread, which
+    // polls it and moves it to a third task.
     runtime.spawn(async move {
         let mut sleeps = sleep(150 * MS);
         for _ in 0..2 {
@@ -228,7 +231,7 @@ fn a_sleep_wakes_whoever_polled_it_last() {
     runtime.block_on(arachne::poll_fn(|cx| Poll::Ready(Pin::new(&mut sleeps).poll(cx).is_ready())));
     let third = runtime.spawn(async move { sleeps.await });
     block_on(runtime.spawn(arachne::timeout(LONG, third))).unwrap().unwrap().unwrap();
-    // Two tasks, one after the other, without a poll of any other task between.
+    // The sleep moves from one task to another, and no other task is polled in between.
     let (sender, receiver) = channel(1);
     let first = runtime.spawn(async move {
         let mut sleeps = sleep(100 * MS);
@@ -258,7 +261,7 @@ fn the_end_waits_for_work_that_blocks() {
     assert_eq!(runtime.shutdown_within(LONG).aborted, 0);
     assert_eq!(done.load(SeqCst), 5);
     all.into_iter().for_each(|task| assert!(block_on(task).is_ok()));
-    // With no time, work that has not begun is cancelled, and so is work that is asked for from then on.
+    // If no time is left, work that has not begun is cancelled, and so is work that is requested later.
     let runtime = Builder::new(1).blocking_threads(1).build().unwrap();
     let (dropped, began) = (Arc::new(AtomicUsize::new(0)), Arc::new(AtomicBool::new(false)));
     let (seen, begins, kept) = (dropped.clone(), began.clone(), OnDrop(dropped));
@@ -378,8 +381,7 @@ fn who_waits_for_the_end_may_change() {
     assert_eq!(woken, [0, 0, 1]);
 }
 
-/// A wake reaches the sleeping worker, in whichever worker's block the task is, if the other worker is in an endless
-/// poll.
+/// A wake reaches the sleeping worker if the other worker is in an endless poll, whichever worker owns the task's slot.
 #[test]
 fn a_sleeper_is_woken_beside_a_busy_worker() {
     let runtime = Runtime::new(2);
@@ -461,7 +463,7 @@ fn a_panic_leaks_nothing_and_is_told() {
     assert_eq!(dropped.load(SeqCst), 2);
 }
 
-/// If no place is free, `try_spawn` returns the future, and doesn't put the task into the queue.
+/// If no task slot is free, `try_spawn` returns the future, and doesn't put the task into the queue.
 #[test]
 fn what_has_no_place_comes_back() {
     let runtime = Builder::new(1).places(1).build().unwrap();
@@ -495,7 +497,7 @@ fn what_has_no_place_at_the_end_is_cancelled() {
     tasks.into_iter().for_each(|task| assert!(matches!(block_on(task), Err(JoinError::Cancelled))));
 }
 
-/// Tasks that the watcher ran first, in place of a worker that is in a long poll, are found at the end.
+/// The runtime's end finds tasks that the watcher was the first to run, for a worker in a long poll.
 #[test]
 fn what_the_watcher_ran_ends_with_the_runtime() {
     let runtime = Builder::new(1).watch_polls(5 * MS, false).build().unwrap();
@@ -520,7 +522,8 @@ fn what_the_watcher_ran_ends_with_the_runtime() {
     waiting.into_iter().for_each(|task| assert!(matches!(block_on(task), Err(JoinError::Cancelled))));
 }
 
-/// A task that waits for a socket of a runtime that ends gets an error, in another runtime or in its blocking work.
+/// A task that waits for a socket of a runtime that ends gets an error, if it runs in another runtime or in blocking
+/// work.
 #[test]
 fn a_socket_of_an_ended_runtime_keeps_nobody_waiting() {
     let (ends, runtime) = (Runtime::new(1), Runtime::new(2));
@@ -545,7 +548,7 @@ fn a_socket_of_an_ended_runtime_keeps_nobody_waiting() {
     }
 }
 
-/// A sleep that began in a runtime which has ended goes on in another runtime, whichever polls it.
+/// A sleep that began in a runtime which has ended continues in whichever runtime polls it.
 #[test]
 fn a_sleep_outlives_its_runtime() {
     let (ends, runtime) = (Runtime::new(1), Runtime::new(2));
@@ -573,7 +576,7 @@ fn a_socket_of_an_ended_runtime_waits_in_no_later_one() {
     assert_eq!(message(got.map(drop)), "the runtime of this socket has ended");
     let got = later.block_on(timeout(LONG, signal.recv())).unwrap();
     assert_eq!(message(got), "the runtime of this socket has ended");
-    // Sockets that are made anew wait in the new runtime.
+    // A socket that is made anew waits in the new runtime.
     let socket = net::UdpSocket::from_std(socket.into_std().unwrap()).unwrap();
     assert!(later.block_on(timeout(MS, socket.recv_from(&mut [0; 8]))).is_err());
     let signal = Signal::heard(10).unwrap();

@@ -2,7 +2,7 @@
 use std::collections::BTreeMap;
 use std::path::PathBuf;
 
-/// The header that came with the archive, or the repository's.
+/// Returns the header beside the archive, or else the repository's.
 fn header() -> Option<String> {
     let beside = std::env::var("ARACHNE_LIBS").ok().map(|folder| PathBuf::from(folder).join("arachne_exec.h"));
     // In the folder of scripts/release, and in the repository.

@@ -1,4 +1,4 @@
-//! Each part of the crate: abort, time, channel, semaphore, limits, the end, blocking work, observation.
+//! Each part of the crate: abort, time, channel, semaphore, limits, the runtime's end, blocking work, observation.
 use arachne::{
     block_on, channel, net, sleep, spawn, spawn_background, spawn_blocking, spawn_named, stopping, timeout, yield_now,
     Builder, Doing, Elapsed, Hooks, JoinError, Limit, Lock, Policy, Runtime, Semaphore, SendError, Signal,
@@ -46,7 +46,7 @@ fn an_aborted_task_is_dropped_and_says_so() {
             })
         })
         .collect();
-    // At this number of polls half of the tasks wait.
+    // After this number of polls, half of the tasks wait.
     while runtime.stats().polls < 250 {
         thread::yield_now();
     }
@@ -107,7 +107,7 @@ fn sleeps_end_in_order_and_not_early() {
         })
         .collect();
     tasks.into_iter().for_each(|task| block_on(task).unwrap());
-    // From outside, by block_on.
+    // From outside of the runtime, by block_on.
     let start = Instant::now();
     runtime.block_on(sleep(5 * MS));
     assert!(start.elapsed() >= 5 * MS);
@@ -122,7 +122,7 @@ fn a_timeout_gives_the_output_or_elapsed() {
     assert_eq!(runtime.block_on(timeout(5 * MS, std::future::pending::<()>())), Err(Elapsed));
     let task = runtime.spawn(async { timeout(5 * MS, sleep(LONG)).await });
     assert_eq!(block_on(task).unwrap(), Err(Elapsed));
-    // As an error of a read or write that took too long.
+    // As the error of a read or write that took too long.
     let late = async { std::io::Result::Ok(timeout(MS, std::future::pending::<()>()).await?) };
     assert_eq!(runtime.block_on(late).unwrap_err().kind(), std::io::ErrorKind::TimedOut);
 }
@@ -170,7 +170,7 @@ fn a_channel_tells_of_a_missing_end() {
     let (sender, receiver) = channel(1);
     assert_eq!(sender.try_send(1), Ok(()));
     assert_eq!(sender.try_send(2), Err(SendError::Full(2)));
-    // A send that is dropped while it waits is not made, and a send that waits behind it is.
+    // A send that is dropped while it waits sends nothing, and the send that waits behind it succeeds.
     let mut first = sender.send(3);
     let mut second = sender.send(4);
     assert!(poll_once(&mut first).is_pending() && poll_once(&mut second).is_pending());
@@ -371,7 +371,7 @@ fn what_has_come_when_the_end_begins_is_read() {
             spawn(async move {
                 let (mut end, mut buffer) = (stopping(), [0; 16]);
                 loop {
-                    // Half of them look whether the end has begun before they look at the socket.
+                    // Half of them check for the runtime's end before they check the socket.
                     let first = arachne::poll_fn(|cx| match std::pin::Pin::new(&mut end).poll(cx) {
                         Poll::Ready(()) => Poll::Ready(Ok(0)),
                         Poll::Pending => stream.poll_read(cx, &mut buffer),
@@ -396,7 +396,7 @@ fn what_has_come_when_the_end_begins_is_read() {
     let streams: Vec<_> = (0..COUNT).map(|_| std::net::TcpStream::connect(to).unwrap()).collect();
     streams.iter().for_each(|stream| ask(stream, 1));
     streams.iter().for_each(|stream| assert_eq!(answer(stream).unwrap(), 1));
-    // The only worker looks at no socket until the end has begun, and then reads what has arrived meanwhile.
+    // The only worker checks no socket until the end has begun, and then reads the data that have arrived meanwhile.
     let near = std::net::TcpListener::bind("127.0.0.1:0").unwrap();
     let far = std::net::TcpStream::connect(near.local_addr().unwrap()).unwrap();
     let near = net::TcpStream::from_std(near.accept().unwrap().0).unwrap();
@@ -454,7 +454,7 @@ fn the_end_waits_for_nothing_in_the_background() {
     assert!(start.elapsed() < LONG);
     assert_eq!((ended.load(SeqCst), dropped.load(SeqCst)), (1, 2));
     assert!(matches!(block_on(first), Err(JoinError::Cancelled)));
-    // A task that isn't in the background is still counted.
+    // A task that isn't in the background still counts.
     let runtime = Runtime::new(2);
     runtime.spawn_background(std::future::pending::<()>());
     runtime.spawn(std::future::pending::<()>());
@@ -472,7 +472,7 @@ fn a_signal_is_heard() {
     assert!(signal.wait());
 }
 
-/// A fault whose signal were caught would be raised again and again.
+/// If a program could catch the signal of a fault, the fault would be raised again and again.
 #[test]
 fn signals_of_faults_are_refused() {
     let error = |number| Signal::heard(number).unwrap_err().raw_os_error();
@@ -524,7 +524,7 @@ fn an_observed_runtime_lists_its_tasks() {
     while runtime.tasks().iter().filter(|task| waits(task)).count() < 5 {
         thread::sleep(MS);
     }
-    // That signal would end this process otherwise.
+    // Without the call, that signal would end this process.
     runtime.list_tasks_at(10).unwrap();
     raise("USR1");
     for task in runtime.tasks() {
@@ -616,10 +616,10 @@ fn cores_are_given_back_and_asked_for() {
     busy.into_iter().for_each(|task| block_on(task).unwrap());
 }
 
-/// Beside tasks that never rest, ready tasks are polled, events of the epoll are seen, and timers fire.
+/// While other tasks yield for ever, ready tasks are polled, events of the epoll are seen, and timers fire.
 #[test]
 fn tasks_that_yield_for_ever_hold_nobody_up() {
-    // With only one worker, nobody looks at its epoll in its place.
+    // With only one worker, no other worker can check its epoll.
     [1, 2].into_iter().for_each(echo_beside_yields);
 }
 
@@ -659,7 +659,8 @@ fn echo_beside_yields(cores: usize) {
     busy.into_iter().for_each(|task| block_on(task).unwrap());
 }
 
-/// Many more tasks than blocks are ready again and again: no task runs twice as often as another.
+/// Many more tasks than there are blocks (of task slots) become ready again and again: no task runs twice as often as
+/// another.
 #[test]
 fn tasks_that_yield_for_ever_run_equally_often() {
     for (cores, count) in [(1, 20), (1, 1000), (1, 5000)] {
@@ -686,8 +687,8 @@ fn tasks_that_yield_for_ever_run_equally_often() {
     }
 }
 
-/// While all workers are busy, one worker keeps many tasks in its local queues. Once another worker is idle, the first
-/// makes most of these tasks ready.
+/// While all workers are busy, one worker keeps many tasks in its local queues. When another worker becomes idle, the
+/// first makes most of these tasks ready.
 #[test]
 fn what_is_in_hand_is_for_whoever_has_nothing_to_do() {
     let runtime = Runtime::new(2);
@@ -708,7 +709,7 @@ fn what_is_in_hand_is_for_whoever_has_nothing_to_do() {
             yield_now().await;
             ends.store(true, SeqCst);
             seen.lock().unwrap().push(thread::current().id());
-            // Some polls end, so that their worker sees that the other has nothing to do.
+            // Some polls end, so that their worker sees that the other is idle.
             thread::sleep(30 * MS);
             let (begin, others) = (Instant::now(), || {
                 let seen = seen.lock().unwrap();
@@ -730,7 +731,8 @@ fn what_is_in_hand_is_for_whoever_has_nothing_to_do() {
     block_on(other).unwrap();
 }
 
-/// A socket that always has more data doesn't keep its worker, neither a new socket nor one that was waited for before.
+/// A socket that always has more data doesn't keep its worker busy for ever, whether it is new or was waited for
+/// before.
 #[test]
 fn a_socket_that_always_has_more_holds_nobody_up() {
     for waits in [false, true] {
@@ -788,7 +790,7 @@ fn what_always_has_more_ends_at_the_deadline() {
     assert!(begin.elapsed() < LONG / 2);
 }
 
-/// All data that have arrived before the end begins are read, also if that takes longer than a poll may read.
+/// All data that have arrived before the end begins are read, even if that takes longer than a poll may read.
 #[test]
 fn what_was_put_off_is_read_before_the_end() {
     const LEN: usize = 40_000;
@@ -856,7 +858,7 @@ fn what_is_read_within_block_on_in_a_task_is_not_put_off() {
     assert_eq!(block_on(task).unwrap(), 50);
 }
 
-/// The tasks of the sockets run in the order of the events, also if there are more tasks than fit into a worker's local
+/// The tasks of the sockets run in the order of the events, even if there are more tasks than fit into a worker's local
 /// queues.
 #[test]
 fn sockets_are_heard_in_the_order_in_which_they_were_told_of() {
@@ -882,7 +884,7 @@ fn sockets_are_heard_in_the_order_in_which_they_were_told_of() {
                 thread::sleep(MS / 4);
             }
         };
-        // The event that each socket can be written to was seen, and the worker sleeps.
+        // The worker has seen the event that each socket is writable, and sleeps.
         until(&|| {
             waiting.load(SeqCst) == count && {
                 let parks = runtime.stats().parks;
@@ -912,7 +914,7 @@ fn a_burst_of_connections_waits_to_be_accepted() {
     let runtime = Runtime::new(2);
     let listener = net::TcpListener::bind("127.0.0.1:0").unwrap();
     let to = listener.local_addr().unwrap();
-    // Nobody accepts yet: a client for whom there is no room in the backlog would not be connected at all.
+    // Nobody accepts yet: a client for whom the backlog has no room would not be connected at all.
     let connect = |_| std::net::TcpStream::connect_timeout(&to, 10_000 * MS).expect("there is no room for it");
     let begun: Vec<_> = (0..count).map(connect).collect();
     let accepts = runtime.spawn(async move {
@@ -943,7 +945,7 @@ fn each_kernel_thread_is_started_before_its_first_task() {
     assert!(tasks.into_iter().all(|task| block_on(task).unwrap() == 1));
     drop(runtime);
     assert_eq!(count.swap(0, SeqCst), 3);
-    // The watcher polls too, if no worker is free.
+    // The watcher polls tasks too, if no worker is free.
     let runtime = Builder::new(1).watch_polls(5 * MS, false).on_worker_start(starts).build().unwrap();
     let (runs, ends) = (Arc::new(AtomicBool::new(false)), Arc::new(AtomicBool::new(false)));
     let (told, end) = (runs.clone(), ends.clone());
@@ -986,7 +988,7 @@ fn a_panic_is_an_error_and_can_go_on() {
     let error = block_on(panics()).unwrap_err();
     assert!(!error.is_cancelled() && format!("{error:?}, {error}") == "Panicked(..), the task panicked");
     assert_eq!(*error.into_panic().downcast::<u32>().unwrap(), 7);
-    // A task that was aborted has no panic to go on with.
+    // A task that was aborted has no panic to resume.
     let waits = runtime.spawn(std::future::pending::<u8>());
     waits.abort();
     let error = block_on(boxed(waits)).unwrap_err().downcast::<JoinError>().unwrap();
@@ -1002,7 +1004,7 @@ fn a_panic_is_an_error_and_can_go_on() {
 fn other_descriptors_are_awaited() {
     use std::os::unix::net::UnixStream;
     let runtime = Runtime::new(2);
-    // A megabyte through a socket of Unix that has room for less, there and back.
+    // A megabyte, there and back, through a Unix socket whose buffer is smaller.
     let (near, far) = UnixStream::pair().unwrap();
     let bytes: Vec<u8> = (0..1_000_000u32).map(|i| (i % 251) as u8).collect();
     let echoes = runtime.spawn(async move {

@@ -1,4 +1,4 @@
-//! Ready tasks behind a long poll: a free worker runs them, wherever they are.
+//! Ready tasks behind a long poll: a free worker runs them, in whichever local queue or task slot they are.
 use arachne::{block_on, net, sleep, spawn, yield_now, Builder, JoinHandle, Policy, Runtime, Semaphore};
 use std::io::{Read, Write};
 use std::os::unix::net::UnixStream;
@@ -11,7 +11,7 @@ const MS: Duration = Duration::from_millis(1);
 /// The length of the blocking poll, unless all tasks have begun before its end. No thread waits that long for a
 /// processor.
 const POLL: Duration = Duration::from_secs(2);
-/// The time within which each task begins if processors are free, even if the free workers sleep as the tasks become
+/// The time within which each task begins if processors are free, even if the free workers sleep when the tasks become
 /// ready.
 const SOON: Duration = Duration::from_millis(5);
 /// A time that is longer than any delay on a busy machine.
@@ -27,7 +27,7 @@ fn until(what: &str, most: Duration, done: impl Fn() -> bool) {
     }
 }
 
-/// The record of one repetition: the number of tasks that are ready behind a blocking one, since when, and when they
+/// The record of one repetition: how many tasks are ready behind a blocking one, since when, and when each of them
 /// began.
 #[derive(Clone)]
 struct Seen(Arc<Marks>);
@@ -45,8 +45,8 @@ impl Seen {
         Seen(Arc::new(Marks { behind, ..Marks::default() }))
     }
 
-    /// The first task that calls this blocks its worker, until all others have begun or `POLL` has passed; the others
-    /// begin.
+    /// If this is the first call, blocks the worker until all other tasks have begun or `POLL` has passed; later calls
+    /// record that a task begins.
     fn begins(&self) {
         let now = Instant::now();
         if !self.0.blocks.swap(true, SeqCst) {
@@ -64,7 +64,8 @@ impl Seen {
         self.0.began.lock().unwrap().len() == self.0.behind
     }
 
-    /// Waits until all tasks have begun, which must be before the poll ends. Returns the delay of the last one.
+    /// Waits until all tasks have begun, and fails if the blocking poll ends before that. Returns the delay of the last
+    /// task to begin.
     fn last(&self) -> Duration {
         until("what is behind a poll", LONG, || self.have_begun());
         let last = *self.0.began.lock().unwrap().iter().max().unwrap();
@@ -102,8 +103,8 @@ impl Busy {
     }
 }
 
-/// A thread that repeatedly sleeps for a millisecond. It records when it was last woken late, since no processor was
-/// free.
+/// A thread that repeatedly sleeps for a millisecond. The thread records when it last woke late, because no processor
+/// was free.
 struct Calm(Arc<AtomicBool>, thread::JoinHandle<Option<Instant>>);
 
 impl Calm {
@@ -129,7 +130,8 @@ impl Calm {
 }
 
 /// Repeats a test. Each time all tasks behind the poll must begin before the poll ends. In half of the repetitions in
-/// which the machine is calm, the tasks must begin soon; this is checked if at least six are calm.
+/// which the machine is calm (has free processors), the tasks must begin soon; this is checked if at least six are
+/// calm.
 fn rounds(soon: Duration, behind: usize, round: impl Fn(&Runtime, &Seen, Duration)) {
     let runtime = Runtime::new(CORES);
     let (mut calm, mut late) = (0, Vec::new());
@@ -148,10 +150,10 @@ fn rounds(soon: Duration, behind: usize, round: impl Fn(&Runtime, &Seen, Duratio
     assert!(calm < 6 || late.len() * 2 <= calm, "in {calm} calm rounds late: {late:?}");
 }
 
-/// The tasks have yielded while all workers were busy.
+/// The ready tasks have yielded while all workers were busy.
 #[test]
 fn what_has_yielded_is_run() {
-    // A worker that becomes free looks at those tasks before it sleeps.
+    // A worker that becomes free checks for those tasks before it sleeps.
     rounds(MS, BEHIND, |runtime, seen, pause| {
         thread::sleep(pause);
         let others = Busy::keep(runtime, CORES - 1);
@@ -177,7 +179,7 @@ fn what_has_yielded_is_run() {
     });
 }
 
-/// One task is the next to run, and the others became ready before it.
+/// One of the ready tasks is the next to run, and the others became ready before it.
 #[test]
 fn what_is_next_is_run() {
     for asleep in [true, false] {
@@ -268,7 +270,7 @@ fn what_was_told_of_is_run_by_who_sleeps() {
     });
 }
 
-/// Other workers have taken the tasks from a stuck worker, and the first task that they run blocks.
+/// Other workers have stolen the tasks from a stuck worker, and the first task that they run blocks.
 #[test]
 fn what_was_taken_of_a_worker_that_does_not_get_on_is_run() {
     for asleep in [true, false] {
@@ -296,8 +298,8 @@ fn what_was_taken_of_a_worker_that_does_not_get_on_is_run() {
     }
 }
 
-/// A busy worker takes the tasks behind a long poll too, last the one that was to run next. There are two workers; one
-/// is never idle.
+/// A busy worker also takes the tasks behind a long poll, and last the one that was to run next. There are two workers;
+/// one is never idle.
 #[test]
 fn what_is_behind_is_run_by_one_that_is_busy() {
     let runtime = Runtime::new(2);
@@ -338,7 +340,7 @@ fn what_is_behind_is_run_by_one_that_is_busy() {
     }
 }
 
-/// Tasks that yield are stolen out of local queues all the time, and each is polled exactly as often as it yields.
+/// Tasks that yield are stolen from local queues all the time, and yet each is polled exactly as often as it yields.
 #[test]
 fn a_job_is_taken_once() {
     let runtime = Runtime::new(4);
@@ -365,7 +367,7 @@ fn a_job_is_taken_once() {
     }
 }
 
-/// A runtime of one worker, and its watcher.
+/// With one worker in a runtime, its watcher runs the ready tasks.
 #[test]
 fn the_watcher_runs_what_is_behind() {
     let runtime = Builder::new(1).watch_polls(10 * MS, false).build().unwrap();
@@ -389,8 +391,8 @@ fn the_watcher_runs_what_is_behind() {
     }
 }
 
-/// The only active worker is in a poll, and the one that stands in for it too: the watcher runs the jobs in the blocks
-/// of the third, and fires its timers.
+/// The watcher runs the ready jobs of the third worker, and fires that worker's timers. The only active worker is in a
+/// poll, and so is the one that stands in for the third.
 #[test]
 fn the_watcher_looks_after_a_core_that_was_given_back() {
     let runtime = Builder::new(3).policy(Policy::default()).watch_polls(10 * MS, false).build().unwrap();
@@ -398,7 +400,7 @@ fn the_watcher_looks_after_a_core_that_was_given_back() {
     let waits = |at| {
         let (gate, ran) = (gate.clone(), ran.clone());
         runtime.spawn(async move {
-            // So all workers begin some.
+            // The pause lets all workers begin some of the tasks.
             thread::sleep(MS);
             match at % 2 {
                 0 => sleep(3000 * MS).await,
@@ -407,7 +409,7 @@ fn the_watcher_looks_after_a_core_that_was_given_back() {
             ran.fetch_add(1, SeqCst);
         })
     };
-    // Of each worker's places.
+    // Some of these tasks are in task slots of each worker.
     let mut tasks: Vec<_> = (0..48).map(waits).collect();
     until("a core that is given back", LONG, || runtime.stats().active == 1);
     for name in ["arachne-0", "arachne-1"] {
@@ -427,8 +429,8 @@ fn the_watcher_looks_after_a_core_that_was_given_back() {
     tasks.into_iter().for_each(|task| block_on(task).unwrap());
 }
 
-/// The only worker with a core is in a poll: the other one, whose core was given back, runs what is ready, sees the
-/// events of sockets, and fires timers.
+/// A worker whose core was given back runs the ready tasks, sees the events of sockets, and fires timers. The only
+/// worker with a core is in a poll meanwhile.
 #[test]
 fn a_worker_without_a_core_covers_for_the_only_one_with_one() {
     let runtime = Builder::new(2).policy(Policy::default()).build().unwrap();
@@ -455,7 +457,7 @@ fn a_worker_without_a_core_covers_for_the_only_one_with_one() {
                     socket()
                 }),
             ];
-            // So each of them waits, unless another worker runs it.
+            // The yield lets each of these tasks begin to wait, unless another worker runs it.
             yield_now().await;
             far.write_all(b"x").unwrap();
             until("what waits behind a poll", LONG, || ran.load(SeqCst) == 3);

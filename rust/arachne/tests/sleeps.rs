@@ -1,4 +1,5 @@
-//! Sleeping workers and their wakes: one waits in the epoll, one is its deputy, and the others wait to be woken.
+//! Sleeping workers and their wakes: one waits in the epoll, one (the deputy) polls it now and then, and the others
+//! wait to be woken.
 use arachne::{block_on, net, sleep, spawn, spawn_balanced, yield_now, Builder, Runtime, Semaphore};
 use std::io::{Read, Write};
 use std::net::SocketAddr;
@@ -11,7 +12,7 @@ const MS: Duration = Duration::from_millis(1);
 /// A time that is longer than any delay on a busy machine.
 const LONG: Duration = Duration::from_secs(120);
 
-/// A server that echoes each byte. At a `b` the task counts itself, and blocks its worker until the flag is set.
+/// A server that echoes each byte. At a `b`, the task increments `blocked`, and blocks its worker until `ends` is set.
 fn echo(runtime: &Runtime, ends: &Arc<AtomicBool>, blocked: &Arc<AtomicUsize>) -> SocketAddr {
     let listener = net::TcpListener::bind("127.0.0.1:0").unwrap();
     let at = listener.local_addr().unwrap();
@@ -60,8 +61,8 @@ fn until(done: impl Fn() -> bool) {
     }
 }
 
-/// The worker that waited in the epoll is in an endless poll, and then all workers but one are. Without a watcher the
-/// events of all sockets are still seen, even of sockets that connect later.
+/// First the worker that waited in the epoll is in an endless poll, and then all workers but one are. Without a watcher
+/// the events of all sockets are still seen, even of sockets that connect later.
 #[test]
 fn sockets_are_seen_beside_polls_that_block() {
     for (cores, pause) in (2..5).flat_map(|cores| [(cores, MS / 4), (cores, 20 * MS)]) {
@@ -73,8 +74,8 @@ fn sockets_are_seen_beside_polls_that_block() {
             .map(|i| {
                 let mut stream = connect(at);
                 ask(&mut stream, 2);
-                // All workers sleep, so that the worker in the epoll gets this event; the deputy has slept for a short
-                // or a long time.
+                // All workers sleep, so the worker in the epoll gets this event; the deputy has slept for a short or a
+                // long time.
                 thread::sleep(pause);
                 stream.write_all(b"b").unwrap();
                 until(|| blocked.load(SeqCst) == i);
@@ -112,7 +113,8 @@ fn more_is_told_at_once_than_one_worker_takes() {
     }
 }
 
-/// A worker that polls the epoll now and then takes no wake from the worker that waits in the epoll.
+/// A worker that only polls the epoll now and then never consumes the wake that is meant for the worker that waits in
+/// it.
 #[test]
 fn a_wake_of_who_waits_is_left_to_it() {
     let runtime = Runtime::new(2);
@@ -135,7 +137,8 @@ fn a_wake_of_who_waits_is_left_to_it() {
             thread::sleep(MS / 8);
             block_on(runtime.spawn(async {})).unwrap();
         }
-        // Half of the tasks are at places of the other worker, which is woken while this one looks, and soon blocks.
+        // Half of the tasks are in slots of the other worker, which is woken while this worker checks the epoll, and
+        // which soon blocks.
         let begun: Vec<_> = (0..32).map(|_| runtime.spawn(async {})).collect();
         blocks.store(true, SeqCst);
         until(|| blocked.load(SeqCst));
@@ -165,8 +168,8 @@ fn blocks(flag: &AtomicBool) {
     }
 }
 
-/// While a worker is in a poll that waits for the jobs in its local queues, another worker runs these jobs, also the
-/// one that would run next. The others sleep when that poll begins, or fall asleep later.
+/// While a worker is in a poll that waits for the jobs in its local queues, another worker runs these jobs, even the
+/// one that would run next. The other workers sleep when that poll begins, or fall asleep later.
 #[test]
 fn what_is_in_hand_is_run_beside_a_poll_that_blocks() {
     for (cores, pause) in (2..5).flat_map(|cores| [(cores, MS / 4), (cores, 20 * MS)]) {
@@ -174,7 +177,8 @@ fn what_is_in_hand_is_run_beside_a_poll_that_blocks() {
         for asleep in [true, false] {
             thread::sleep(pause);
             let begin = Arc::new(AtomicBool::new(asleep));
-            // Otherwise the other workers are in polls while the hand is filled, and idle soon after.
+            // Otherwise the other workers are in polls while the first worker's local queues are filled, and become
+            // idle soon after.
             for _ in 1..if asleep { 1 } else { cores } {
                 let (begin, beginning) = (begin.clone(), Arc::new(AtomicBool::new(false)));
                 let begun = beginning.clone();
@@ -185,7 +189,7 @@ fn what_is_in_hand_is_run_beside_a_poll_that_blocks() {
                 blocks(&beginning);
             }
             let task = runtime.spawn(async move {
-                // This task yields, and stays in the worker's hand while what it spawned before blocks.
+                // This task yields, and stays in the worker's local queue while the task that it spawned before blocks.
                 let yielded: Vec<_> =
                     (0..if asleep { 1 } else { 5 }).map(|_| Arc::new(AtomicBool::new(false))).collect();
                 let tasks = yielded.iter().cloned().map(|flag| async move {
@@ -202,7 +206,7 @@ fn what_is_in_hand_is_run_beside_a_poll_that_blocks() {
                 for task in tasks {
                     task.await.unwrap();
                 }
-                // Tasks that a poll makes ready, also once the poll is known to take long.
+                // Tasks that the poll makes ready, even after the poll is known to take long.
                 for _ in 0..3 {
                     let ran = Arc::new(AtomicBool::new(false));
                     let runs = ran.clone();
@@ -241,7 +245,7 @@ fn timers_are_seen_beside_a_poll_that_blocks() {
     }
 }
 
-/// Returns how often the threads of these `/proc` folders have slept.
+/// Returns how often the threads of these `/proc` folders have gone to sleep.
 fn sleeps(threads: &[String]) -> u64 {
     let of = |thread: &String| {
         let text = std::fs::read_to_string(format!("/proc/{thread}/status")).unwrap();
@@ -251,7 +255,7 @@ fn sleeps(threads: &[String]) -> u64 {
     threads.iter().map(of).sum()
 }
 
-/// Calls `about` on each worker, and returns the results.
+/// Calls `about` on each worker once, and returns the results.
 fn at_each_worker<T: Send + 'static>(runtime: &Runtime, cores: usize, about: fn() -> T) -> Vec<T> {
     let all: Arc<Mutex<Vec<T>>> = Arc::default();
     let each = all.clone();
@@ -260,7 +264,7 @@ fn at_each_worker<T: Send + 'static>(runtime: &Runtime, cores: usize, about: fn(
             let all = each.clone();
             spawn_balanced(async move {
                 all.lock().unwrap().push(about());
-                // Until each worker has one of these tasks, so that each task has a worker of its own.
+                // Waits until each worker has one of these tasks, so that each task has a worker of its own.
                 until(|| all.lock().unwrap().len() == cores);
             });
         }
@@ -282,7 +286,7 @@ fn an_idle_runtime_sleeps_on() {
     let (before, parks) = (sleeps(&threads), runtime.stats().parks);
     thread::sleep(400 * MS);
     let (after, parked) = (sleeps(&threads), runtime.stats().parks);
-    // A worker looks after the others after 1, 2, 4 .. milliseconds; these looks are over by now.
+    // A worker checks the others after 1, 2, 4 .. milliseconds; these checks are over by now.
     assert!(after - before < 40 && parked - parks < 10, "{} sleeps, {} parks", after - before, parked - parks);
     ask(&mut stream, 2);
 }

@@ -1,4 +1,5 @@
-//! Stress tests: stale wakers, lost wakes, leaks, an end at any time, the lock. ARACHNE_STRESS multiplies the rounds.
+//! Stress tests: stale wakers, lost wakes, leaks, an end at any time, the lock. The environment variable ARACHNE_STRESS
+//! multiplies the number of rounds.
 use arachne::{block_on, net, poll_fn, spawn, spawn_balanced, yield_now, Builder, JoinError, Lock, Policy, Runtime};
 use std::future::Future;
 use std::pin::Pin;
@@ -22,7 +23,7 @@ impl Rng {
     }
 }
 
-/// Wakers of ended tasks wake no later task at the same place: the later tasks' polls are counted.
+/// Wakers of ended tasks wake no later task in the same slot: the later tasks' polls are counted.
 #[test]
 fn stale_wakers_wake_nobody() {
     let rt = Runtime::new(3);
@@ -105,7 +106,8 @@ impl Mailbox {
     }
 }
 
-/// Threads and tasks send to random tasks, while other threads wake these for nothing. Each message arrives.
+/// Threads and tasks send messages to random tasks, while other threads wake these tasks without a message. Each
+/// message is received.
 #[test]
 fn no_wake_is_lost() {
     let rt = Runtime::new(4);
@@ -202,7 +204,7 @@ impl Drop for Alive {
     }
 }
 
-/// Panics, dropped handles, joins by other tasks, and a runtime that is dropped meanwhile: nothing is left.
+/// After panics, dropped handles, joins by other tasks, and a runtime that is dropped meanwhile, nothing is left.
 #[test]
 fn nothing_leaks() {
     for round in 0..rounds(15) {
@@ -240,7 +242,7 @@ fn nothing_leaks() {
                 let mut ended = 0;
                 for task in half {
                     let mut task = task;
-                    // Only one poll: tasks that wait for ever are dropped.
+                    // Polled only once, since some of these tasks wait for ever.
                     if poll_fn(|cx| Poll::Ready(Pin::new(&mut task).poll(cx).is_ready())).await {
                         ended += 1;
                     }
@@ -308,7 +310,7 @@ fn the_end_finds_each_task() {
     }
 }
 
-/// More tasks wait at once than one block, or one shard, has places.
+/// More tasks wait at once than one block (64 slots), or one shard (64 blocks), has slots.
 #[test]
 fn many_wait() {
     let rt = Runtime::new(2);
@@ -378,7 +380,7 @@ fn the_lock_excludes() {
             })
         })
         .collect();
-    // Also from outside of the runtime.
+    // The lock also works from outside of the runtime.
     let outside = lock.clone();
     let thread = thread::spawn(move || {
         for _ in 0..each {

@@ -24,7 +24,7 @@ impl Drop for OnDrop {
     }
 }
 
-/// A count of drops, and a value that counts its drop.
+/// Returns a count of drops, and a value whose drop increments the count.
 fn counted() -> (Arc<AtomicUsize>, OnDrop) {
     let dropped = Arc::new(AtomicUsize::new(0));
     (dropped.clone(), OnDrop(dropped))
@@ -64,7 +64,7 @@ fn an_abort_handle_ends_its_task_and_may_outlive_it() {
 #[test]
 fn an_abort_handle_keeps_no_output() {
     let runtime = Runtime::new(2);
-    // The task ends before the handle on its output is dropped, and after.
+    // The task ends before the handle on its output is dropped, and then after it.
     for first in [true, false] {
         let ((dropped, output), gate) = (counted(), Arc::new(Semaphore::new(0)));
         let opens = gate.clone();
@@ -221,7 +221,7 @@ fn a_closed_semaphore_gives_nothing() {
 fn a_sleep_that_is_reset_wakes_at_its_new_time() {
     let runtime = Runtime::new(2);
     runtime.block_on(async {
-        // The sleep is reset to an earlier time, to a later time, and again after its time.
+        // The sleep is reset to an earlier time, to a later time, and once more after it has ended.
         let (begin, mut nap) = (Instant::now(), sleep(LONG));
         assert!(timeout(MS, &mut nap).await.is_err());
         Pin::new(&mut nap).reset(Instant::now() + 2 * MS);
@@ -254,7 +254,7 @@ fn an_interval_ticks_by_its_period() {
             assert_eq!(ticks.tick().await, first + n * 4 * MS);
             assert!(begin.elapsed() >= n * 4 * MS);
         }
-        // A future of a tick that is dropped loses no tick.
+        // Dropping the future of a tick loses no tick.
         let next = timeout(Duration::ZERO, ticks.tick()).await.err().map(|_| first + 16 * MS);
         assert_eq!(ticks.tick().await, next.unwrap_or(first + 20 * MS));
         ticks.reset();
@@ -280,7 +280,7 @@ fn an_interval_may_have_any_period() {
     });
 }
 
-/// Futures that have a name may be moved between polls, so that `poll_fn` can poll several without `pin!`.
+/// Futures of named types may be moved between polls, so `poll_fn` can poll several without `pin!`.
 #[test]
 fn futures_with_a_name_may_be_moved() {
     fn moved<T: Unpin>() {}
@@ -397,7 +397,7 @@ fn a_connection_is_looked_at_and_goes_to_std_and_back() {
     assert!(near.nodelay().unwrap());
     let (near, mut far) = runtime.block_on(async {
         let mut buffer = [0; 8];
-        // The socket is known to the reactor after this poll.
+        // After this poll the socket is registered in the reactor.
         assert!(timeout(MS, near.peek(&mut buffer)).await.is_err());
         let write = arachne::spawn_blocking(move || far.write_all(b"hello").map(|()| far));
         assert!(near.peek(&mut buffer).await.unwrap() > 0);
@@ -405,7 +405,8 @@ fn a_connection_is_looked_at_and_goes_to_std_and_back() {
         assert_eq!(&buffer[..5], b"hello");
         (near, write.await.unwrap().unwrap())
     });
-    // After `into_std` the socket doesn't block, and isn't in the epoll. Then it belongs to another runtime.
+    // After `into_std` the socket doesn't wait when it has no data, and isn't in the epoll. After that, the socket
+    // belongs to another runtime.
     let mut near = near.into_std().unwrap();
     assert_eq!(near.read(&mut [0; 1]).unwrap_err().kind(), std::io::ErrorKind::WouldBlock);
     near.set_nonblocking(false).unwrap();
@@ -540,7 +541,7 @@ fn datagrams_come_and_go() {
     assert_eq!(UdpSocket::from_std(far).unwrap().local_addr().unwrap(), to);
 }
 
-/// Two tasks wait, and one of them gives up: its wait takes no wake from the other task.
+/// Two tasks wait for a socket, and one of them gives up: this takes no wake from the other task.
 #[test]
 fn a_wait_that_is_given_up_leaves_the_others_their_socket() {
     let runtime = Runtime::new(2);
@@ -576,7 +577,7 @@ fn several_accept_at_one_listener() {
     assert_eq!(accepted, 6);
 }
 
-/// Each of two readers sees the end, and each of two writers goes on once there is room.
+/// Each of two readers sees the connection's end, and each of two writers continues once there is room.
 #[test]
 fn several_read_and_write_one_stream() {
     let runtime = Runtime::new(2);
@@ -613,7 +614,7 @@ fn a_task_waits_for_a_signal_and_for_the_end() {
     let task = runtime.spawn(async move { hears.recv().await });
     raise();
     runtime.block_on(task).unwrap().unwrap();
-    // A thread hears the next signal, and a signal that came before is heard at once.
+    // A thread receives the next signal, and a signal that came before is received at once.
     raise();
     assert!(signal.wait());
     raise();
@@ -639,7 +640,7 @@ fn tasks_and_handles_spawn_in_each_way() {
         while waiting.len() < 4096 {
             match arachne::try_spawn(pending::<()>()) {
                 Ok(task) => waiting.push(task),
-                // The place of the previous task is free a moment after its output is there.
+                // The slot of the previous task becomes free a moment after the task's output is available.
                 Err(_) => arachne::sleep(Duration::from_millis(1)).await,
             }
         }
@@ -662,7 +663,7 @@ fn a_host_is_looked_up_beside_the_workers() {
     assert!(runtime.block_on(arachne::net::lookup_host("no such host:80")).is_err());
 }
 
-/// A descriptor that epoll can't watch is noticed only when a task has to wait for it.
+/// If epoll can't watch a descriptor, this is noticed only when a task has to wait for it.
 #[test]
 fn a_descriptor_that_cannot_be_watched_fails_at_its_first_wait() {
     let file = arachne::net::Async::new(std::fs::File::open("/proc/self/exe").unwrap()).unwrap();

@@ -22,28 +22,28 @@ use turns::Turns;
 
 /// The time for which a client may keep more cores than it is allowed.
 const PATIENCE: Duration = Duration::from_millis(10);
-/// The time between two checks for threads that have ended, and for other threads on a granted core.
+/// The time between two checks for threads that have ended, and for other threads that run on a granted core.
 const LOOKS: Duration = Duration::from_secs(1);
 /// The most threads that the daemon checks before it decides again.
 const AT_ONCE: usize = 8;
-/// The most readers of the status that the daemon answers in one pass of its loop.
+/// The most processes that the daemon sends its status to in one pass of its loop.
 const READERS: usize = 8;
 
 struct Thread {
     id: u32,
-    /// When the thread began, which distinguishes it from a later thread of the same number.
+    /// The time at which the thread began, which distinguishes it from a later thread with the same number.
     began: u64,
     connection: u64,
     core: Option<usize>,
 }
 
 struct Core {
-    /// The processors of the core, which nobody else uses while the core is granted. The owner's thread runs on the
-    /// first processor.
+    /// The processors of the core; while the core is granted, nobody else may use them. The owner's thread runs on the
+    /// first of them.
     cpus: Vec<usize>,
-    /// The client that has the core, and the place of its thread.
+    /// The client that has the core, and the number of the thread that runs there among the client's threads.
     owner: Option<(u32, u32)>,
-    /// When the owner changed last.
+    /// The time at which the owner last changed.
     since: Instant,
 }
 
@@ -59,28 +59,28 @@ struct Client {
     least: u32,
     asked: u32,
     allowed: u32,
-    /// The number of cores that were given to the client.
+    /// The number of times that the client was given a core.
     given: u64,
-    /// The number of cores that were taken from the client by force.
+    /// The number of times that a core was taken from the client by force.
     forced: u64,
-    /// The time by which the client must have given back the cores that were asked back.
+    /// The time by which the client must have given back the cores that the daemon wants back, if there are any.
     until: Option<Instant>,
-    /// The last turn (a move of a core from one client to another) in which the client got a core, gave one, or had no
-    /// thread for one.
+    /// The number of the last turn (a move of a core from one client to another) in which the client got a core, gave
+    /// one, or had no thread for one.
     turned: u64,
-    /// The number of times that the threads of the client's process must still be moved to `rest` (the processors of
-    /// threads without a core). The threads are moved twice, since a thread that begins meanwhile begins in the set of
-    /// its parent.
+    /// The number of times that the daemon must still move the threads of the client's process to `rest` (the
+    /// processors of threads without a core). The threads are moved twice, because a thread that begins during a move
+    /// begins on the processors of its parent.
     arrives: u32,
-    /// The thread at each of the client's places.
+    /// The client's threads, by their numbers in the client's order.
     threads: BTreeMap<u32, Thread>,
 }
 
-/// The threads that the daemon must still check, to move them off the granted cores.
+/// The threads that the daemon must still check, in order to move them off the granted cores.
 struct Look {
     threads: Threads,
-    /// True if all these threads are moved to `rest` (the processors of threads without a core). If false, only those
-    /// that are on a granted core are moved off it.
+    /// True if the daemon moves all these threads to `rest` (the processors of threads without a core). If false, it
+    /// moves only those that are on a granted core.
     all: bool,
 }
 
@@ -98,11 +98,11 @@ pub struct Arbiter {
     host: Host,
     /// The processors on which threads without a core run.
     rest: Vec<usize>,
-    /// The processors on which threads run that are no client's any more.
+    /// The processors for threads that no longer belong to a client.
     all: Vec<usize>,
-    /// The connections by number, in the order in which they came.
+    /// The connections, by numbers that grow in the order in which the connections were made.
     connections: BTreeMap<u64, Connection>,
-    /// The number of connections that have ever been.
+    /// The number of connections accepted so far.
     connected: u64,
     /// The clients, by the number of their control connection.
     clients: BTreeMap<u32, Client>,
@@ -114,7 +114,7 @@ pub struct Arbiter {
 }
 
 impl Arbiter {
-    /// Returns an arbiter without clients. Fails if memory is refused, or if there are too many cores.
+    /// Returns an arbiter without clients. Fails if memory is refused, or if `options` has too many cores.
     pub fn new(options: &Options, means: Means, clients: UnixListener, readers: UnixListener) -> io::Result<Arbiter> {
         let mut kept = options.cores();
         let cores = kept.split_off(options.keep);
@@ -142,7 +142,7 @@ impl Arbiter {
         })
     }
 
-    /// Serves until this process is asked to end, and gives all threads all processors again.
+    /// Serves clients until this process is asked to end, and then lets all threads run on all processors again.
     pub fn run(&mut self) {
         while !sys::ENDS.load(SeqCst) {
             self.hear(self.time_left());
@@ -192,7 +192,7 @@ impl Arbiter {
             while let Some(given) = self.state.give() {
                 all_moved &= self.place(given);
             }
-            // A client that can't be moved, or doesn't read, is dropped, and a turn ends once: so this loop ends.
+            // This loop ends: a client that doesn't read or can't be moved is dropped, and a turn ends only once.
             if !self.end_turn() && all_moved && self.connections.values().all(|it| !it.gone) {
                 self.means.carry_out();
                 return self.update_rest();
@@ -200,8 +200,9 @@ impl Arbiter {
         }
     }
 
-    /// Publishes how many cores a client is allowed, and takes the cores that it has beyond that. A core of a thread
-    /// that floats (never waits) is taken at once, other cores only if the client is late.
+    /// Publishes how many cores a client is allowed, and takes back the cores that it has beyond that number. A core of
+    /// a thread that floats (never waits) is taken at once, and other cores only if the client is late to give them
+    /// back.
     fn take_from(&mut self, id: u32) {
         let share = self.share(id);
         let client = self.clients.get_mut(&id).unwrap();
@@ -233,7 +234,7 @@ impl Arbiter {
         }
     }
 
-    /// Returns how many cores a client is allowed, and how many it has.
+    /// Returns the number of cores that a client is allowed, and the number that it has.
     fn share(&mut self, id: u32) -> Share {
         self.clients.get(&id).map_or(Share { allowed: 0, held: 0 }, |client| self.state.share(client.number))
     }
@@ -280,8 +281,8 @@ impl Arbiter {
 
     // ------------------------------------------------------------------------------------------ moves
 
-    /// Moves a thread to its core. Returns false if the thread can't be moved; then it is no thread of its client any
-    /// more.
+    /// Moves a thread to its core. Returns false if the thread can't be moved; then the thread no longer belongs to its
+    /// client.
     fn place(&mut self, given: Move) -> bool {
         let id = match self.clients.iter().find(|(_, client)| client.number == given.client) {
             Some((&id, _)) => id,
@@ -295,7 +296,7 @@ impl Arbiter {
         thread.core = Some(core);
         (self.cores[core].owner, self.cores[core].since) = (Some((id, place)), Instant::now());
         if !self.set_on_core(core) {
-            // The thread has ended, or may not be moved.
+            // The thread has ended, or the daemon may not move it.
             self.drop_thread(id, place);
             return false;
         }
@@ -323,8 +324,9 @@ impl Arbiter {
         }
     }
 
-    /// Moves the owner's thread to its core, or to `rest` while the machine's host takes the core's processor. Returns
-    /// false if the thread can't be moved.
+    /// Moves the owner's thread to its core. While the host of this virtual machine takes the core's processor, the
+    /// thread is moved to `rest` (the processors of threads without a core) instead. Returns false if the thread can't
+    /// be moved.
     fn set_on_core(&mut self, core: usize) -> bool {
         let owner = self.cores[core].owner.and_then(|(id, place)| {
             let client = self.clients.get(&id)?;
@@ -357,7 +359,8 @@ impl Arbiter {
         }
     }
 
-    /// Sends a message. A client that doesn't read, so that its socket is full, is dropped by the next `bury`.
+    /// Sends a message of four numbers on the connection `name`. A client that doesn't read, so that its socket's
+    /// buffer is full, is dropped by the next `bury`.
     fn send(&mut self, name: u64, words: [u32; 4]) {
         if let Some(connection) = self.connections.get_mut(&name) {
             let sent = connection.stream.write(&bytes_of(words));
@@ -367,8 +370,8 @@ impl Arbiter {
 
     // ------------------------------------------------------------------------------------------ looks
 
-    /// Checks some threads of clients' processes: moves those of a client that has just connected to `rest`, and others
-    /// off granted cores.
+    /// Checks some threads of clients' processes: moves those of a newly connected client to `rest`, and others off
+    /// granted cores.
     fn look_at_threads(&mut self) {
         let cpus: Vec<usize> = self.cores.iter().map(|core| core.cpus[0]).collect();
         let threads = self.clients.values().flat_map(|client| client.threads.values());
@@ -390,8 +393,8 @@ impl Arbiter {
         }
     }
 
-    /// Returns the threads to check next: those of a client that has connected, or each second those that clients'
-    /// threads may have started. Each second also drops threads that have ended.
+    /// Returns the threads to check next: those of a newly connected client, or once a second those that clients'
+    /// threads may have started. Once a second, also drops threads that have ended.
     fn next_look(&mut self, cpus: &[usize]) -> Option<Look> {
         if let Some(client) = self.clients.values_mut().find(|client| client.arrives != 0) {
             client.arrives -= 1;
@@ -410,7 +413,8 @@ impl Arbiter {
         Some(Look { threads: self.means.strangers(cpus, processes), all: false })
     }
 
-    /// Moves the threads off a processor that the machine's host has taken, or back once the host has returned it.
+    /// Moves threads off a processor that the host of this virtual machine has taken, or back after the host has
+    /// returned it.
     fn look_at_host(&mut self) {
         let changed = self.host.look();
         if changed.is_empty() {
@@ -455,13 +459,13 @@ impl Arbiter {
 }
 
 impl Thread {
-    /// Returns true if the thread of this entry has not ended, so that its number is not that of another thread.
+    /// Returns true if this thread has not ended, so that its number doesn't belong to another thread.
     fn is_of(&self, process: u32) -> bool {
         threads::began(process, self.id) == Some(self.began)
     }
 }
 
-/// Returns the seconds since 1970, by which lines of several processes' logs are compared.
+/// Returns the seconds since 1970, with which lines of several processes' logs can be compared.
 fn clock() -> f64 {
     std::time::SystemTime::now().duration_since(std::time::SystemTime::UNIX_EPOCH).unwrap().as_secs_f64()
 }

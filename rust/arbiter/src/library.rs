@@ -40,7 +40,7 @@ const HELLO: u32 = 3;
 const JOIN: u32 = 4;
 const WAIT: u32 = 5;
 const ASK: u32 = 6;
-/// The first of the codes for bytes that are no message.
+/// The first of the codes that mean that the bytes are no message.
 const SHORT: u32 = 7;
 const TAKEN: u32 = 14;
 const PLACED: u32 = 15;
@@ -71,7 +71,7 @@ pub enum Message {
     Ask { cores: u32 },
 }
 
-/// Reads the message at the beginning of `bytes`. The error says why there is none.
+/// Reads the message at the beginning of `bytes`. The error says why the bytes are no message.
 pub fn read(bytes: &[u8]) -> Result<Message, &'static str> {
     // SAFETY: the length is the slice's, which lives through the call.
     let it = unsafe { arachne_message_read(bytes.as_ptr(), bytes.len()) };
@@ -87,7 +87,7 @@ pub fn read(bytes: &[u8]) -> Result<Message, &'static str> {
     }
 }
 
-/// A core that a thread of a client is moved to or from.
+/// A core, and the thread of a client that is moved to the core or off it.
 #[derive(Clone, Copy, PartialEq, Eq, Debug)]
 pub struct Move {
     pub client: usize,
@@ -105,11 +105,13 @@ impl Move {
     }
 }
 
-/// The clients, their threads, and who has which core. Clients' numbers and threads' places are 0 to 63.
+/// The proved library's state: the clients, their threads, and who has which core. A client's number, and a thread's
+/// number in its client's order, are from 0 to 63.
 pub struct State(Handle);
 
 impl State {
-    /// Returns a state without clients, of at most 1,024 cores. Returns None if there are more, or memory is refused.
+    /// Returns a state without clients, of at most 1,024 cores. Returns None if `cores` is greater, or if memory is
+    /// refused.
     pub fn new(cores: usize) -> Option<State> {
         let mut state = State(Handle { opaque: std::ptr::null_mut() });
         // SAFETY: the handle is empty, and lives through the call.
@@ -117,7 +119,7 @@ impl State {
         (code == DONE).then_some(state)
     }
 
-    /// Adds a client. Like the other calls with a `bool` result, returns false and changes nothing if this is not
+    /// Adds a client. Like the other methods with a `bool` result, returns false and changes nothing if this is not
     /// allowed now.
     pub fn hello(&mut self, client: usize, priority: u8, reserved: u32, most: u32) -> bool {
         // SAFETY: nobody else uses the handle, as `&mut` says.
@@ -155,13 +157,14 @@ impl State {
         let _ = unsafe { arachne_arbiter_decide(&mut self.0) };
     }
 
-    /// Takes a core of a client that has more than it is allowed: of a thread that floats, or of any if `late`.
+    /// Takes a core from a client that has more than it is allowed: the core of a thread that floats (never waits) or,
+    /// if `late` is true, of any thread.
     pub fn take_back(&mut self, client: usize, late: bool) -> Option<Move> {
         // SAFETY: nobody else uses the handle, as `&mut` says.
         Move::of(unsafe { arachne_arbiter_take_back(&mut self.0, client, late) })
     }
 
-    /// Gives a free core to a client that has less than it is allowed.
+    /// Gives a free core to a client that has fewer cores than it is allowed.
     pub fn give(&mut self) -> Option<Move> {
         // SAFETY: nobody else uses the handle, as `&mut` says.
         Move::of(unsafe { arachne_arbiter_give(&mut self.0) })

@@ -55,7 +55,7 @@ fn main() {
     }))
 }
 
-/// Runs the daemon as a child of this process, which lets all threads run on all processors again if the child dies.
+/// Runs the daemon as a child of this process, which lets all threads run on all processors again if the daemon dies.
 fn guard(options: &Options) {
     sys::hear_ends();
     if std::env::var_os("ARBITER_SERVES").is_some() {
@@ -87,7 +87,7 @@ fn guard(options: &Options) {
 
 fn serve(options: &Options) -> io::Result<()> {
     sys::end_with_parent();
-    // A daemon that died has left its socket; a daemon that answers is alive.
+    // The socket may have been left by a daemon that died; if a daemon answers, it is alive.
     if UnixStream::connect(&options.socket).is_ok() {
         return Err(io::Error::new(ErrorKind::AddrInUse, "there is one already"));
     }

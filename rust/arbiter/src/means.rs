@@ -1,4 +1,4 @@
-//! Keeps a core for one kernel thread and other threads off it, by cpusets or by affinity.
+//! Keeps a core for one kernel thread, and other threads off the core, by cpusets or by affinity.
 
 use crate::sys;
 use crate::threads::{family, threads_of, Threads};
@@ -7,21 +7,21 @@ use std::io;
 use std::path::{Path, PathBuf};
 
 pub enum Means {
-    /// Cpusets of version 1, in a folder of the arbiter's: `rest`, and a `cpuN` for each processor.
+    /// By cpusets of version 1, in a folder of the arbiter's: the set `rest`, and a set `cpuN` for each processor.
     Cpusets(Sets),
-    /// The affinity of clients' threads, and the control groups (version 2) of other processes, whose processors are
-    /// restricted. Without a group other processes run on any processor.
+    /// By the affinity of clients' threads; these control groups (version 2) restrict the processors of other
+    /// processes. Without a group, other processes run on any processor.
     Affinity(Vec<PathBuf>),
 }
 
-/// The folder of an arbiter's cpusets, and the moves that are still to be made there.
+/// The folder of an arbiter's cpusets, and the moves of threads that are still to be made there.
 ///
-/// Linux may let a move to another set wait for a grace period, some 10 ms. So a thread is first moved to its core by
+/// Linux may delay a move to another set for a grace period, some 10 ms. So a thread is first moved to its core by
 /// affinity, while the core's processor is still in `rest` (the processors of threads without a core). The thread is
 /// moved into the core's set only after the client was notified.
 pub struct Sets {
     top: PathBuf,
-    /// All processors that an affinity can name. A thread whose affinity names fewer would be kept on these even in
+    /// All processors that an affinity can name. A thread whose affinity names fewer would stay on those even in
     /// another set.
     all: Vec<usize>,
     /// Threads, each with the name of the set that it is moved to.
@@ -29,7 +29,7 @@ pub struct Sets {
 }
 
 impl Sets {
-    /// Moves a thread to a set, and lets it run on all processors of that set.
+    /// Moves a thread to the cpuset `set`, and lets it run on all processors of that set.
     fn put(&mut self, thread: u32, set: &str) -> io::Result<()> {
         self.later.retain(|(it, _)| *it != thread);
         let moved = write(self.top.join(set).join("tasks"), thread);
@@ -76,8 +76,8 @@ fn numbers(file: PathBuf) -> Vec<u32> {
 }
 
 impl Means {
-    /// If `parent` is given, makes cpusets below it: one for each of `cpus`, and one for the rest. Otherwise restricts
-    /// each control group in `groups` to `cpus`, by its `cpuset.cpus`.
+    /// If `parent` is given, makes cpusets below it: one for each of `cpus`, and one (`rest`) for the other processors.
+    /// Otherwise restricts each control group in `groups` to `cpus`, by its `cpuset.cpus`.
     ///
     /// If an arbiter was killed and has left cpusets below `parent`, first moves their threads back and removes them.
     pub fn new(parent: Option<&Path>, groups: &[PathBuf], cpus: &[usize]) -> io::Result<Means> {
@@ -85,7 +85,7 @@ impl Means {
             Some(parent) => parent,
             None => {
                 for group in groups {
-                    // If this file can't be written, the next line fails unless the file was written before.
+                    // If this write fails, the next line fails too, unless the file was written before.
                     let _ = write(group.join("../cgroup.subtree_control"), "+cpuset");
                     write(group.join("cpuset.cpus"), list(cpus))?;
                 }
@@ -108,8 +108,7 @@ impl Means {
         Ok(Means::Cpusets(Sets { top, all: (0..sys::PROCESSORS).collect(), later: Vec::new() }))
     }
 
-    /// Moves each process in the parent's own set to the set `rest`, and returns the number of processes that were
-    /// moved.
+    /// Moves each process in the parent's own cpuset to the set `rest`, and returns the number of these processes.
     pub fn sweep(&self) -> usize {
         match self {
             Means::Cpusets(Sets { top, .. }) => {
@@ -128,8 +127,8 @@ impl Means {
         }
     }
 
-    /// Moves one thread of a client's process to the set `rest`. (To move a whole process at once, Linux would wait for
-    /// all processors.)
+    /// Moves one thread of a client's process to the cpuset `rest`. (To move a whole process at once, Linux would wait
+    /// for all processors.)
     pub fn admit(&self, thread: u32) {
         if let Means::Cpusets(Sets { top, .. }) = self {
             let _ = write(top.join("rest/tasks"), thread);
@@ -144,7 +143,7 @@ impl Means {
     }
 
     /// Moves a thread to the core `cpu`. With cpusets, only `carry_out` moves the thread into the core's set; until
-    /// then the core's processor is also in `rest`.
+    /// then, `rest` also has the core's processor.
     pub fn place(&mut self, thread: u32, cpu: usize, rest: &mut Vec<usize>) -> io::Result<()> {
         match self {
             Means::Cpusets(sets) => sets.place(thread, cpu, rest),
@@ -152,7 +151,8 @@ impl Means {
         }
     }
 
-    /// Moves a thread to the set `rest`. With cpusets, a thread that sleeps is moved only by `carry_out`.
+    /// Moves a thread that has no core to the set `rest`. With cpusets, a thread that sleeps is moved only by
+    /// `carry_out`.
     pub fn unplace(&mut self, thread: u32, sleeps: bool, rest: &[usize]) -> io::Result<()> {
         match self {
             Means::Cpusets(sets) if sleeps => sets.later.push((thread, "rest".into())),
@@ -182,8 +182,8 @@ impl Means {
         }
     }
 
-    /// Returns the threads that may run on clients' cores without being registered: a thread begins with the cpuset and
-    /// affinity of the one that began it.
+    /// Returns the threads that may run on clients' cores without being registered: a new thread has the cpuset and
+    /// affinity of the thread that started it.
     pub fn strangers(&self, cpus: &[usize], processes: Vec<u32>) -> Threads {
         let begun = processes.into_iter().flat_map(family);
         match self {
@@ -195,7 +195,7 @@ impl Means {
         }
     }
 
-    /// Moves a thread that belongs to no client off its core.
+    /// Moves a thread that belongs to no client off a client's core.
     pub fn free(&mut self, thread: u32, all: &[usize]) {
         let _ = match self {
             Means::Cpusets(sets) => sets.put(thread, "rest"),
@@ -211,7 +211,7 @@ pub fn release_groups(groups: &[PathBuf]) {
 
 /// Moves the threads in an arbiter's cpusets below `parent` back into `parent`, and removes the cpusets.
 ///
-/// Linux frees a set some time after its last thread has ended, so this is tried for five seconds.
+/// Linux frees a set only some time after its last thread has ended, so this function retries for five seconds.
 pub fn restore(parent: &Path) {
     let top = parent.join("arbiter");
     for _ in 0..500 {

@@ -51,7 +51,8 @@ impl Options {
                 _ => return None,
             }
         }
-        // Not the processors that this process may use: an arbiter before may have left this process in its set `rest`.
+        // Not the processors that this process may use: an earlier arbiter may have left this process in its set
+        // `rest`.
         if let (Some(folder), false) = (&options.cpuset, listed) {
             options.cpus = topology::read_list(fs::read_to_string(folder.join("cpuset.cpus")).ok()?.trim())?;
         }

@@ -1,28 +1,28 @@
-//! Messages of 16 bytes, four numbers of 32 bits each, the lowest byte first. The proved library reads the messages of
-//! clients.
+//! The messages of the protocol: 16 bytes each, four numbers of 32 bits, the lowest byte first. The proved library
+//! reads the messages of clients.
 
 pub const VERSION: u32 = 1;
 pub const SIZE: usize = 16;
 
-/// From a client, first on its control connection: version, priority, least and most cores (`least << 16 | most`).
+/// A client's first message on its control connection: version, priority, least and most cores (`least << 16 | most`).
 pub const HELLO: u32 = 1;
-/// The first message on a connection of a kernel thread: the client's number, the thread's number, and its place in the
-/// client's order (`place << 1 | floats`). A thread that floats never waits: the arbiter moves it to a core and away
-/// from it while it runs.
+/// The first message on the connection of a kernel thread. Its numbers are the client's number, the thread's id, and
+/// the thread's number in the client's order (`place << 1 | floats`). A thread that floats never waits: the arbiter
+/// moves it to a core and away from it while it runs.
 pub const JOIN: u32 = 2;
 /// A message on a thread's connection: the thread gives its core back, if it has one, and waits for another core.
 pub const WAIT: u32 = 3;
 /// A message on the control connection: the number of cores that the client wants.
 pub const ASK: u32 = 4;
 
-/// The answer to a client, with the descriptor of its page: the client's number, the number of cores, and 1 if the
-/// arbiter uses cpusets.
+/// The daemon's answer to HELLO, sent with the descriptor of the client's page. Its numbers are the client's number,
+/// the number of cores that the daemon grants, and 1 if the arbiter uses cpusets.
 pub const WELCOME: u32 = 5;
-/// A message to a thread that waits: the processor that it has now.
+/// A message to a thread that waits for a core: the processor that the thread has now.
 pub const GRANT: u32 = 6;
-/// A message on the control connection: the number of cores that the client may have, if that is less than before.
+/// A message on the control connection: how many cores the client may have, if that is fewer than before.
 pub const ALLOWED: u32 = 7;
-/// The last message on a connection that the arbiter closes because it refused a message on this connection.
+/// The last message on a connection that the arbiter closes, because it has refused a message there.
 pub const REFUSED: u32 = 8;
 
 /// Returns the bytes of a message.

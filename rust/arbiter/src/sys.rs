@@ -63,13 +63,13 @@ const PAGE: usize = 4096;
 /// The most processors that an affinity can name.
 pub const PROCESSORS: usize = 1024;
 
-/// Waits for at most `timeout` milliseconds until one of these descriptors is readable, or a signal comes.
+/// Waits for at most `timeout` milliseconds until one of the descriptors `fds` is readable, or a signal comes.
 pub fn wait(fds: &mut [Polled], timeout: i32) {
     // SAFETY: the length is the slice's, which lives through the call.
     unsafe { poll(fds.as_mut_ptr(), fds.len() as u64, timeout) };
 }
 
-/// Returns the process and the user at the other end, as they were when the other end connected.
+/// Returns the process id and the user id of the other end, as they were when that end connected.
 pub fn peer(stream: &UnixStream) -> io::Result<(u32, u32)> {
     let (mut peer, mut len) = ([0u32; 3], 12u32);
     // SAFETY: the length is that of three numbers of 32 bits, which live through the call.
@@ -93,7 +93,7 @@ pub fn send_with(stream: &UnixStream, bytes: &[u8], fd: RawFd) -> io::Result<()>
     }
 }
 
-/// A page that a client reads. The daemon only writes the page, so it doesn't matter if a client changes it.
+/// A page of memory that a client reads. The daemon only writes the page, so it doesn't matter if a client changes it.
 pub struct Page {
     file: File,
     at: *mut u8,
@@ -140,7 +140,7 @@ impl Drop for Page {
     }
 }
 
-/// Keeps a thread on these processors.
+/// Keeps a thread on the processors `cpus`.
 pub fn set_affinity(thread: u32, cpus: &[usize]) -> io::Result<()> {
     let mut mask = [0u64; 16];
     cpus.iter().for_each(|cpu| mask[cpu / 64 % 16] |= 1 << (cpu % 64));
@@ -156,7 +156,7 @@ pub fn affinity() -> Vec<usize> {
     affinity_of(0)
 }
 
-/// Returns the processors that a thread may run on: none if the thread has ended. Thread 0 is the calling thread.
+/// Returns the processors that a thread may run on, or none if the thread has ended. Thread 0 is the calling thread.
 pub fn affinity_of(thread: u32) -> Vec<usize> {
     let mut mask = [0u64; 16];
     // SAFETY: the mask has 128 bytes, and lives through the call.
@@ -164,7 +164,7 @@ pub fn affinity_of(thread: u32) -> Vec<usize> {
     (0..PROCESSORS).filter(|cpu| mask[cpu / 64] >> (cpu % 64) & 1 == 1).collect()
 }
 
-/// Gives this process the lowest real-time priority, since clients wait for its decisions, which take microseconds.
+/// Gives this process the lowest real-time priority, because clients wait for its decisions, which take microseconds.
 /// Returns false if the system refuses that.
 pub fn go_first() -> bool {
     // SAFETY: the priority lives through the call.
@@ -177,7 +177,7 @@ pub fn user() -> u32 {
     unsafe { getuid() }
 }
 
-/// True once this process must end.
+/// True after this process was asked to end.
 pub static ENDS: AtomicBool = AtomicBool::new(false);
 
 extern "C" fn heard(_: i32) {
@@ -198,7 +198,8 @@ pub fn end_with_parent() {
     unsafe { prctl(1, 15, 0, 0, 0) };
 }
 
-/// Returns a descriptor that is readable once a process has ended, even if another process has its sockets.
+/// Returns a descriptor that becomes readable when a process has ended, even if another process still has that one's
+/// sockets open.
 pub fn watch_process(process: u32) -> io::Result<File> {
     // SAFETY: all arguments of `pidfd_open` are numbers.
     match unsafe { syscall(434, process as i32, 0u32) } {
@@ -208,7 +209,7 @@ pub fn watch_process(process: u32) -> io::Result<File> {
     }
 }
 
-/// Sends SIGTERM.
+/// Sends SIGTERM to a process.
 pub fn terminate(process: u32) {
     // SAFETY: all arguments are numbers.
     unsafe { kill(process as i32, 15) };

@@ -3,14 +3,14 @@
 use std::fs;
 use std::io::Read;
 
-/// The most threads of a process with a PID namespace of its own that the daemon searches for the one that joins.
+/// The most threads that the daemon searches for the one that joins, in a process with a PID namespace of its own.
 const IN_A_NAMESPACE: usize = 128;
-/// The most processes that `family` visits.
+/// The most processes that `family` looks at.
 const FAMILY: usize = 256;
-/// The most bytes to read of the list of processes that a thread has started.
+/// The most bytes to read from the kernel's list of the processes that a thread has started.
 const CHILDREN: usize = 4096;
 
-/// An iterator over thread ids, which reads /proc as it goes on, so that a step takes no longer if there are more
+/// An iterator over thread ids, which reads /proc step by step, so that a step takes no longer if there are more
 /// threads.
 pub type Threads = Box<dyn Iterator<Item = u32>>;
 
@@ -37,25 +37,25 @@ pub fn family(process: u32) -> Threads {
     Box::new(std::iter::from_fn(next))
 }
 
-/// Returns the processes that a thread has started: of many, the first ones.
+/// Returns the processes that a thread has started, or the first of them if there are many.
 fn begun_by(process: u32, thread: u32) -> Vec<u32> {
     let mut text = [0; CHILDREN];
     let file = fs::File::open(format!("/proc/{process}/task/{thread}/children"));
     let len = file.and_then(|mut file| file.read(&mut text)).unwrap_or(0);
-    // A space is behind each number: the last one may be a part of one.
+    // Each complete number is followed by a space; the last number may have been cut off.
     let text = String::from_utf8_lossy(&text[..len]);
     text.split_inclusive(' ').filter_map(|word| word.strip_suffix(' ')?.parse().ok()).collect()
 }
 
-/// Returns the time at which a thread was started, in hundredths of a second since the machine was; None if it has
-/// ended.
+/// Returns the time at which a thread was started, in hundredths of a second since the machine started; None if the
+/// thread has ended.
 pub fn began(process: u32, thread: u32) -> Option<u64> {
     let text = fs::read_to_string(format!("/proc/{process}/task/{thread}/stat")).ok()?;
-    // The thread's name is in brackets, and may have any letters.
+    // The thread's name is in brackets, and may contain any characters.
     text.rsplit_once(')')?.1.split_whitespace().nth(19)?.parse().ok()
 }
 
-/// Returns the id, as this process sees it, of the thread that its own process knows as `thread`: the two differ if
+/// Returns the id, as this process sees it, of the thread that its own process knows as `thread`. The two ids differ if
 /// that process is in a PID namespace of its own. Returns None if there is no such thread, or if the process is in no
 /// namespace below this one's.
 pub fn thread_of(process: u32, thread: u32) -> Option<u32> {
@@ -66,7 +66,7 @@ pub fn thread_of(process: u32, thread: u32) -> Option<u32> {
     threads_of(process).take(IN_A_NAMESPACE).find(|&it| is_it(it))
 }
 
-/// Returns a thread's id in each PID namespace in which it is, from this process's on.
+/// Returns a thread's ids in the PID namespaces that it is in, beginning with this process's namespace.
 fn names_of(process: u32, thread: u32) -> Option<Vec<u32>> {
     let text = fs::read_to_string(format!("/proc/{process}/task/{thread}/status")).ok()?;
     let line = text.lines().find_map(|line| line.strip_prefix("NSpid:")).unwrap_or("");

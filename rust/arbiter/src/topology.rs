@@ -4,8 +4,8 @@ use std::fs;
 use std::path::PathBuf;
 
 /// Returns the processors of each core; the cores are in the order of their first processors. A processor whose
-/// siblings the kernel doesn't list is a core by itself. ARBITER_TOPOLOGY names another folder than the kernel's, for
-/// tests.
+/// siblings the kernel doesn't list is a core by itself. For tests, the variable ARBITER_TOPOLOGY names a folder to
+/// read instead of the kernel's.
 pub fn by_core(cpus: &[usize]) -> Vec<Vec<usize>> {
     let folder = std::env::var_os("ARBITER_TOPOLOGY").unwrap_or_else(|| "/sys/devices/system/cpu".into());
     let mut cores: Vec<Vec<usize>> = Vec::new();

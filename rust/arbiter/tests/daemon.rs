@@ -1,5 +1,5 @@
-//! Tests of the daemon by its protocol, with affinity, or with cpusets in the folder ARBITER_CPUSET. The tests need two
-//! processors. They wait only for times that are promised, so they pass on a busy machine, too.
+//! Tests of the daemon through its protocol, with affinity, or with cpusets in the folder ARBITER_CPUSET. The tests
+//! need two processors. The tests rely only on delays that the daemon promises, so they pass on a busy machine, too.
 mod common;
 
 use arbiter::protocol::*;
@@ -17,7 +17,7 @@ use std::sync::mpsc;
 use std::thread;
 use std::time::{Duration, Instant};
 
-/// Returns true if the arbiter closes a connection, with a message that says so or without.
+/// Returns true if the arbiter closes the connection, with a message REFUSED or without.
 fn is_refused(stream: &mut UnixStream) -> bool {
     receive(stream).map_or(true, |message| message[0] == REFUSED && receive(stream).is_none())
 }
@@ -66,7 +66,7 @@ fn the_higher_priority_has_its_core_within_some_milliseconds_by_force() {
         assert!(took >= Duration::from_millis(9), "it took {took:?}");
         assert_eq!(receive(&mut low).unwrap()[..2], [ALLOWED, cores - 1]);
 
-        // A thread whose core was taken by force waits, and gets a core again once the other client has ended.
+        // A thread whose core was taken by force waits, and is granted a core again after the other client has ended.
         let last = threads.last_mut().unwrap();
         send(last, [WAIT, 0, 0, 0]);
         drop(high);
@@ -92,7 +92,8 @@ fn who_obeys_is_not_waited_for_and_who_floats_never_waits() {
     assert!(others.iter_mut().all(is_granted));
 }
 
-/// While the daemon is stopped, a client's last threads join, and the client asks for all cores.
+/// The daemon reads all messages that have arrived before it decides. While it is stopped, a client's last threads
+/// join, and the client asks for all cores.
 #[test]
 fn what_has_come_is_read_before_a_decision() {
     let daemon = Daemon::new("come");
@@ -131,7 +132,7 @@ fn processors() -> Vec<u32> {
     all.split(',').flat_map(|part| ends(part)[0]..=*ends(part).last().unwrap()).collect()
 }
 
-/// Starts a daemon that has one core, which goes from client to client each 40 ms.
+/// Starts a daemon with one core, which moves from client to client every 40 ms.
 fn with_one_core(name: &str) -> Daemon {
     let two = format!("{},{}", processors()[0], processors()[1]);
     Daemon::at(path_of(name), &["--cores", &two, "--turn", "40"])
@@ -189,7 +190,7 @@ fn a_reserved_core_does_not_go_round() {
     assert!(is_silent(&it.control) && is_silent(&thread));
 }
 
-/// The test's folder says, in place of the kernel's, that each two processors are hyperthreads of one core.
+/// The test's folder, used instead of the kernel's, says that every two processors are hyperthreads of one core.
 #[test]
 fn hyperthreads_of_one_core_are_granted_together() {
     let (cpus, folder) = (processors(), path_of("topology"));
@@ -217,7 +218,7 @@ fn hyperthreads_of_one_core_are_granted_together() {
             assert_eq!(cpu, cpus[2]);
             let text = status(&daemon);
             assert!(text.contains(&format!("processors {}: client {}", siblings(2), welcome[1])), "{text}");
-            // A client's thread without a core runs on none of its hyperthreads.
+            // A client's thread without a core runs on no hyperthread of the granted core.
             let (number, _end) = begin();
             let _other = daemon.join(welcome[1], number, 3, false);
             let rest = || processors_of(&number.to_string());
@@ -237,13 +238,13 @@ fn what_is_out_of_place_is_refused() {
         send(&mut stream, words);
         assert!(is_refused(&mut stream), "{words:?}");
     }
-    // A thread of another process, one that is known already, and a place that is taken.
+    // Refused are a thread of another process, a thread that is known already, and a number that is taken.
     let (mut control, welcome) = daemon.hello(0, 0);
     assert!(is_refused(&mut daemon.join(welcome[1], 1, 0, false)));
     let _known = daemon.join(welcome[1], number(), 3, false);
     assert!(is_refused(&mut daemon.join(welcome[1], number(), 4, false)));
     assert!(is_refused(&mut daemon.thread(welcome[1], 3, false)));
-    // A message in pieces is one, and half a message none.
+    // A message that arrives in pieces counts as one, and half a message as none.
     let mut half = daemon.connect();
     half.write_all(&[1, 0, 0]).unwrap();
     let ask = bytes_of([ASK, 1, 0, 0]);
@@ -258,7 +259,7 @@ fn there_are_limits_of_connections_and_of_clients() {
     let clients: Vec<_> = (0..64).map(|_| daemon.hello(7, 0)).collect();
     assert!(clients.iter().all(|(_, answer)| answer[0] == WELCOME));
     assert_eq!(daemon.hello(7, 0).1[0], REFUSED, "no number is left");
-    // A process may have 130 connections, and all together 300.
+    // A process may have 130 connections, and all processes together 300.
     let many = connect_often(&daemon);
     assert_eq!(open_of(&many), 130 - clients.len());
     let others = [130, 40].map(|left| {
@@ -280,7 +281,7 @@ fn there_are_limits_of_connections_and_of_clients() {
     });
 }
 
-/// Returns 200 connections, once the daemon has closed the last one.
+/// Returns 200 connections, after the daemon has closed the last one.
 fn connect_often(socket: &Socket) -> Vec<UnixStream> {
     let mut many: Vec<_> = (0..200).map(|_| socket.connect()).collect();
     assert!(receive(many.last_mut().unwrap()).is_none());
@@ -294,7 +295,7 @@ fn open_of(many: &[UnixStream]) -> usize {
 #[test]
 #[ignore = "the test before runs it twice, beside its own connections"]
 fn who_connects_often() {
-    // The first client is another process's.
+    // The first client belongs to another process.
     assert_eq!(receive(&mut given().join(1, number(), 0, false)).unwrap()[0], REFUSED);
     let many = connect_often(&given());
     println!("{} are open", open_of(&many));
@@ -313,7 +314,7 @@ fn a_page_is_only_read() {
     assert_eq!(page.read_at(&mut [1], 0).unwrap(), 1);
 }
 
-/// A process that has all cores.
+/// Starts a process that gets all cores, for a test that kills it.
 fn client_to_kill(daemon: &Daemon) -> Child {
     let mut client = other("a_client_to_kill", daemon).spawn().unwrap();
     let mut lines = BufReader::new(client.stdout.take().unwrap()).lines();
@@ -386,7 +387,7 @@ fn a_client_that_does_not_read_is_none_any_more() {
     let (number, _end) = begin();
     let floats = daemon.join(welcome[1], number, 0, true);
     let all = processors_of(&number.to_string());
-    // Each second request takes the core back, and is answered for that.
+    // Every second request takes the core back, and is answered for that reason.
     for nth in 0.. {
         let asks = nth % 2 == 0;
         if !is_silent(&floats) || control.write_all(&bytes_of([ASK, asks as u32, 0, 0])).is_err() {
@@ -457,7 +458,7 @@ fn a_thread_that_has_the_number_of_one_that_ended_is_not_moved() {
     // Once this client is answered, all messages that were sent before have been read.
     daemon.hello(5, 0);
     end();
-    // More than the hundredth of a second by which the kernel says when a thread began.
+    // Longer than the hundredth of a second to which the kernel rounds a thread's start time.
     thread::sleep(Duration::from_millis(50));
     let again = (0..100).find_map(|_| {
         fs::write("/proc/sys/kernel/ns_last_pid", (number - 1).to_string()).ok()?;
@@ -566,7 +567,7 @@ fn while_the_host_takes_a_processor_its_thread_runs_in_the_rest() {
     // Hundredths of a second of each processor: all, and those that the host has taken.
     let account = |all: u64, stolen: u64| {
         let line = |cpu| format!("cpu{cpu} {} 0 0 0 0 0 0 {stolen} 0 0\n", all - stolen);
-        // In one step, as the kernel's.
+        // The file changes in one step, like the kernel's.
         fs::write(path_of("next"), (0..1024).map(line).collect::<String>()).unwrap();
         fs::rename(path_of("next"), &stat).unwrap();
     };
@@ -607,7 +608,7 @@ fn groups_of_version_2_get_the_processors_of_the_rest() {
     let daemon = Daemon::at(path_of("rest"), &["--rest", group.to_str().unwrap()]);
     let has = |cpu: u32| processors().split(',').any(|it| it == cpu.to_string());
     let client = granted(&daemon, 5, 0);
-    // The client is told first. A file that is just being written is empty.
+    // The client is notified first. The file is empty for a moment while it is being written.
     becomes("it is kept from the group", || !processors().is_empty() && !has(client.cpu));
     drop(client.control);
     becomes("it is of the rest again", || has(client.cpu));

@@ -4,7 +4,7 @@ use std::collections::BTreeMap;
 const MADE: &str = include_str!("../../../examples/rust/arachne_grants/declared.rs");
 const WRITTEN: &str = include_str!("../src/library.rs");
 
-/// Types as the generated declarations name them, and as `library.rs` does.
+/// For each type, its name in the generated declarations and its name in `library.rs`.
 const NAMES: [(&str, &str); 4] = [
     ("ArachneArbiter", "Handle"),
     ("ArachneMessage", "RawMessage"),
@@ -12,7 +12,7 @@ const NAMES: [(&str, &str); 4] = [
     ("ArachneShare", "Share"),
 ];
 
-/// The lines of code, with one name for each type.
+/// Returns the lines of code in `text`, with one name for each type (see `NAMES`).
 fn lines(text: &str) -> Vec<String> {
     let code = text.lines().map(|line| line.trim().trim_start_matches("pub ")).filter(|line| !line.starts_with("//"));
     code.map(|line| NAMES.iter().fold(line.to_string(), |line, (made, written)| line.replace(made, written))).collect()
@@ -26,7 +26,7 @@ fn codes(text: &str) -> Vec<String> {
     lines(text).into_iter().filter(|line| line.starts_with("const ") && line.contains(": u32 = ")).collect()
 }
 
-/// The fields of each struct of C's layout, in order.
+/// Returns the fields of each struct in `text` that has C's layout, in order.
 fn fields(text: &str) -> BTreeMap<String, Vec<String>> {
     let lines = lines(text);
     let begins =

@@ -1,5 +1,5 @@
-//! Runtimes of rust/arachne as clients, which need two processors: by affinity, or by cpusets in the folder
-//! ARBITER_CPUSET.
+//! Runtimes of rust/arachne as the daemon's clients, by affinity, or by cpusets in the folder ARBITER_CPUSET; two
+//! processors are needed.
 mod common;
 
 use arachne::{Builder, Policy, Runtime};
@@ -14,7 +14,7 @@ use std::sync::Arc;
 use std::thread;
 use std::time::{Duration, Instant};
 
-/// Work for a runtime, while `goes_on` is true.
+/// Work for a runtime, which continues while `goes_on` is true.
 struct Load {
     polls: Arc<AtomicU64>,
     goes_on: Arc<AtomicBool>,
@@ -53,7 +53,7 @@ fn active(runtime: &Runtime) -> usize {
     runtime.stats().active
 }
 
-/// Returns the numbers of the threads of this process that are workers.
+/// Returns the thread ids of the workers of this process.
 fn workers() -> Vec<String> {
     let threads = fs::read_dir("/proc/self/task").unwrap().flatten().map(|it| it.file_name().into_string().unwrap());
     let name = |it: &String| fs::read_to_string(format!("/proc/self/task/{it}/comm")).unwrap_or_default();
@@ -105,7 +105,7 @@ fn a_runtime_goes_on_without_its_daemon_and_joins_the_next() {
             becomes("it goes on by itself", || !runtime.stats().arbiter && active(runtime) == cores);
             load.gets_on("it gets on without an arbiter");
         }
-        // But with cpusets somebody has to be left who removes them.
+        // With cpusets, the guardian must be alive to remove them.
         if !with_guardian || std::env::var_os("ARBITER_CPUSET").is_none() {
             becomes("its workers may run everywhere", || workers().iter().all(|it| processors_of(it) == all));
         }
@@ -117,7 +117,7 @@ fn a_runtime_goes_on_without_its_daemon_and_joins_the_next() {
     }
     drop((low, high));
     drop(daemon);
-    // A runtime of the same shape uses the state again: it knows nothing of the last runtime's arbiter.
+    // A runtime of the same shape uses the state again, and must know nothing of the last runtime's arbiter.
     let alone = Builder::new(cores).build().unwrap();
     assert_eq!(alone.block_on(alone.spawn(async { 42 })).unwrap(), 42);
     assert_eq!((active(&alone), alone.stats().arbiter), (cores, false));
@@ -146,7 +146,7 @@ extern "C" {
     fn pause() -> i32;
 }
 
-/// A runtime that forks once it has all cores. The child process has the runtime's connections and its page, and none
+/// A runtime that forks after it has all cores. The child process has the runtime's connections and its page, and none
 /// of its kernel threads.
 #[test]
 #[ignore = "the test before runs it, and kills it once it has all cores"]
@@ -154,7 +154,7 @@ fn a_runtime_to_kill() {
     let cores = cores();
     let (runtime, load) = busy(&given(), cores, 0);
     becomes("it has all", || runtime.stats().arbiter && active(&runtime) == cores);
-    // SAFETY: the child makes no call but this one.
+    // SAFETY: the child makes no other call than `pause`.
     let child = unsafe { fork() };
     while child == 0 {
         unsafe { pause() };
@@ -181,7 +181,8 @@ fn the_core_that_is_left_over_goes_round_within_a_priority() {
     }
 }
 
-/// The batch runtime gets the cores that are left by the runtime that asks according to its load.
+/// The batch runtime gets the cores that are left over by the server's runtime, which asks for cores according to its
+/// load.
 #[test]
 fn cores_follow_the_load_between_two_priorities() {
     let daemon = Daemon::new("policy");
@@ -193,7 +194,8 @@ fn cores_follow_the_load_between_two_priorities() {
         let left = cores - 1;
         becomes("the batch has what is left", || active(&server) == 1 && active(&batch) == left.max(1));
         of_batch.gets_on("the batch gets on");
-        // The policy judges by the average, so with this many tasks it asks for cores even if it gets little time.
+        // The policy judges by an average, so with this many tasks it asks for cores even if the runtime gets little
+        // time.
         let load = Load::of(&server, 100 * cores);
         becomes("the server has all", || active(&server) == cores && active(&batch) == 1);
         load.gets_on("the server gets on");
@@ -251,7 +253,8 @@ fn what_a_worker_begins_does_not_stay_on_its_core() {
     arachne::block_on(task).unwrap();
 }
 
-/// The second runtime begins while its process has only the processors of the set `rest`, as the first has all cores.
+/// The second runtime begins while its process may use only the processors of the set `rest`, because the first has all
+/// cores.
 #[test]
 fn a_runtime_that_begins_in_the_rest_is_not_kept_there() {
     let (daemon, cores) = (Daemon::new("rest"), cores());
@@ -273,7 +276,8 @@ fn a_runtime_that_begins_in_the_rest_is_not_kept_there() {
     arachne::block_on(task).unwrap();
 }
 
-/// Returns true if this thread may run on the processors of the process's first thread, which is no worker.
+/// Returns true if this thread may run on all processors on which the process's first thread, which is no worker, may
+/// run.
 fn is_free() -> bool {
     let link = fs::read_link("/proc/thread-self").unwrap();
     let me = link.file_name().unwrap().to_str().unwrap();
@@ -309,8 +313,8 @@ fn what_is_in_hand_is_run_though_the_core_was_asked_back() {
     }
 }
 
-/// The only worker with a core is in a poll. The other worker, which waits for a core, runs the task that the poll
-/// waits for.
+/// The only worker that has a core is in a poll that waits for another task. The other worker, which waits for a core,
+/// runs that task.
 #[test]
 fn what_is_behind_a_poll_is_run_by_who_waits_for_a_core() {
     let daemon = Daemon::new("covers");

@@ -1,4 +1,4 @@
-//! The part of a server of Redis's protocol that knows nothing of an executor: commands in, answers out.
+//! The part of a server of Redis's protocol that doesn't depend on an executor: it reads commands and makes answers.
 #![allow(clippy::result_unit_err, clippy::type_complexity)]
 
 use std::collections::hash_map::{DefaultHasher, HashMap};
@@ -15,7 +15,7 @@ impl Default for Store {
     }
 }
 
-/// Parses the number in the line at `at`. Returns the number with the index of the next line; None if the line is
+/// Parses the number in the line at `at`. Returns the number, and the index of the next line; None if the line is
 /// incomplete.
 fn number(bytes: &[u8], at: usize) -> Option<Result<(i64, usize), ()>> {
     let end = at + bytes.get(at..)?.windows(2).position(|w| w == b"\r\n")?;
@@ -23,7 +23,7 @@ fn number(bytes: &[u8], at: usize) -> Option<Result<(i64, usize), ()>> {
     Some(parsed.map(|n| (n, end + 2)).ok_or(()))
 }
 
-/// Returns the words of the first command, and its length; None if the command is incomplete.
+/// Returns the words of the first command, and the command's length; None if the command is incomplete.
 fn command(bytes: &[u8]) -> Option<Result<(Vec<&[u8]>, usize), ()>> {
     if bytes.is_empty() {
         return None;
@@ -103,8 +103,8 @@ impl Store {
         }
     }
 
-    /// Answers each complete command of `bytes`. Returns the number of bytes and of commands that were answered; fails
-    /// if the bytes are no commands.
+    /// Answers each complete command in `bytes`. Returns the number of bytes, and the number of commands, that were
+    /// answered; fails if the bytes are no commands.
     pub fn serve(&self, bytes: &[u8], out: &mut Vec<u8>) -> Result<(usize, u64), ()> {
         let (mut at, mut count) = (0, 0);
         while let Some(command) = command(&bytes[at..]) {
@@ -125,7 +125,7 @@ fn bulk(text: &[u8], out: &mut Vec<u8>) {
     out.extend(b"\r\n");
 }
 
-/// The bytes that a connection has read and not answered.
+/// The bytes that a connection has read and not yet answered.
 pub struct Buffer {
     pub bytes: Vec<u8>,
     pub len: usize,
@@ -151,12 +151,12 @@ impl Default for Buffer {
     }
 }
 
-/// Waits until the standard input ends, at which a server ends.
+/// Waits until the standard input ends, which is the request to end a server.
 pub fn wait_for_end() {
     let _ = std::io::Read::read_to_end(&mut std::io::stdin(), &mut Vec::new());
 }
 
-/// Parses a server's arguments: `CORES PORT [policy [SOCKET PRIORITY]]`, the last two for an arbiter.
+/// A server's arguments, `CORES PORT [policy [SOCKET PRIORITY]]`; the last two are for an arbiter.
 pub struct Arguments {
     pub cores: usize,
     pub port: u16,

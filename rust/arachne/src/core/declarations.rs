@@ -1,4 +1,5 @@
-// What `arachne_exec.h` declares, by hand. `tests/header.rs` compares names, codes, layouts and signatures with it.
+// The declarations of `arachne_exec.h`, written by hand in Rust. `tests/header.rs` compares their names, codes, layouts
+// and signatures with the header.
 use std::ffi::c_void;
 
 pub(crate) const ARACHNE_DONE: u32 = 0;

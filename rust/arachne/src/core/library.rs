@@ -1,21 +1,21 @@
 //! The proved core: each call is one of the functions of `libarachne_exec_c.a`, as `arachne_exec.h` declares them.
 //!
-//! The proofs hold for a program if these rules are kept. Each rule says what keeps it:
+//! The proofs apply to a program if these rules are kept. For each rule, the text behind the colon says how it is kept:
 //!
 //! - *A handle is null at first, only the library writes its pointer, and it is never copied*: `Handle` is made by
 //!   `Handle::empty`, moved and never cloned.
-//! - *One thread at a time uses a handle*: no call of the library calls back, and a type that has a handle is `Send`
-//!   and not `Sync`, except `Crew`. A worker that steals a job from another's local queues gets the job's handle with
-//!   it (`hand.rs`).
+//! - *One thread at a time uses a handle*: no call of the library calls back, and each type that contains a handle is
+//!   `Send` and not `Sync`, except `Crew`. A worker that steals a job from another's local queues gets the job's handle
+//!   along with it (`hand.rs`).
 //! - *Two handles in one call have one origin*: `Root` splits and joins only its own handles.
-//! - *Pointers are not null*: all are from references.
+//! - *Pointers are not null*: all are made from references.
 //! - *The declarations agree with the archive*: `tests/header.rs` compares each code, field and signature.
 //! - *A task's pointer is made, used and freed once*: `task.rs` keeps this rule.
 //! - *Tables outlive wakers*: a runtime's table is never freed. A later runtime of the same shape uses the table again,
-//!   and its generations go on.
+//!   and continues its generation counts.
 //! - *An unpark is obeyed*: a worker sleeps in the epoll, whose event stays raised until a waiter has seen it, or on
-//!   its condition variable (`Bell`), whose flag stays set. The worker to wake is looked up after the call that returns
-//!   `unpark`.
+//!   its condition variable (`Bell`), whose flag stays set. The worker to wake is looked up only after the call that
+//!   returns `unpark`.
 //! - *No panic crosses a call of the library*: panics of tasks are caught, and a panic of a worker's loop aborts.
 //! - *No call from a signal handler or after a fork*: this crate makes none; a program must use no waker there.
 //! - *`malloc`, `realloc` and `free` are of one allocator*: the C library's; a program that replaces one must replace
@@ -31,7 +31,7 @@ use crate::sync::{Arc, Mutex};
 use std::cell::{Cell, RefCell, UnsafeCell};
 use std::ptr;
 
-/// The declarations of the header `arachne_exec.h`, with which `tests/header.rs` compares them.
+/// The declarations of the header `arachne_exec.h`; `tests/header.rs` compares them with the header.
 #[path = "declarations.rs"]
 #[allow(non_camel_case_types, dead_code)]
 mod declarations;
@@ -39,7 +39,7 @@ use declarations::*;
 
 #[repr(transparent)]
 struct Handle(UnsafeCell<arachne_exec>);
-// SAFETY: by the header a handle may move to another thread, ordered by a thread's start or join, or by a lock.
+// SAFETY: the header allows a handle to move to another thread, if a thread's start or join or a lock orders the uses.
 unsafe impl Send for Handle {}
 
 impl Handle {
@@ -52,10 +52,10 @@ impl Handle {
         self.0.get()
     }
 
-    /// Returns another handle on the same executor.
+    /// Returns another handle of the same executor.
     fn split(&self) -> Option<Handle> {
         let other = Handle::empty();
-        // SAFETY: two handles; the second is null.
+        // SAFETY: two handles that only this thread uses now; the second is null.
         (unsafe { arachne_exec_split(self.at(), other.at()) } == ARACHNE_DONE).then_some(other)
     }
 }
@@ -67,21 +67,22 @@ impl Drop for Handle {
     }
 }
 
-/// A runtime's executor, from which threads get their seats.
+/// A runtime's executor, from which threads get their seats (handles of the core).
 pub(crate) struct Root(Handle);
 
-/// The most seats of a thread that other threads may use at a time, so that the thread keeps some for itself.
+/// The most seats (handles of the core) of one thread that other threads may use at a time; the thread keeps the others
+/// for itself.
 const AWAY: u64 = 24;
 
-/// The seats of threads that steal jobs from each other, `each` per thread.
+/// The seats (handles of the core) of all threads that steal jobs from each other, `each` per thread.
 struct Crew {
     seats: Box<[Handle]>,
     each: usize,
     members: Box<[Line<Member>]>,
 }
 
-/// The state of one thread's seats: the seats that other threads have given back, as bits, and the number that others
-/// use.
+/// How other threads use one thread's seats (handles of the core). `laid` is a bit mask of the seats that they have
+/// given back, and `away` is the number of seats that they use.
 #[derive(Default)]
 struct Member {
     laid: AtomicU64,
@@ -90,35 +91,38 @@ struct Member {
 
 // SAFETY: a seat's handle is used by one thread at a time. The first seat of each thread is always its own. Any other
 // seat is used by its owner, until another thread steals the seat's job, which orders the accesses. That thread uses
-// the seat until it lays the job down and sets the seat's bit in `laid`, by which the owner gets the seat back.
+// the seat until it puts the job back and sets the seat's bit in `laid`, by which the owner gets the seat back.
 unsafe impl Sync for Crew {}
 
-/// A thread's seats: one for each job that it may hold, and the first one for calls that take and put back no job.
+/// A thread's seats (handles of the core): one for each job that it may hold, and the first for calls that take and put
+/// back no job.
 pub(crate) struct Hands {
     crew: Arc<Crew>,
     me: usize,
-    /// The seats that hold no job, as bits.
+    /// The seats (handles of the core) that hold no job, as a bit mask.
     free: Cell<u64>,
-    /// For each seat, the index in a block at which its next take starts: the library keeps such an index per seat, not
-    /// per thread.
+    /// For each seat (a handle of the core), the slot in a block at which its next take starts its search. The library
+    /// keeps such an index per seat, not per thread.
     from: Vec<Cell<u32>>,
-    /// The seat that is used for sweeps (passes over all jobs of a block).
+    /// The seat (a handle of the core) that is used for sweeps, which are passes over all jobs of a block.
     sweeps: Cell<usize>,
 }
 
-/// The right to sleep as the worker of one worker number's shards.
+/// A thread's right to park as the worker of all shards with one number (the shard's index modulo 64).
 pub(crate) struct Parking(Handle);
 
 impl Root {
-    /// Makes an executor of `shards` shards, at most 256. Returns None if memory is refused.
+    /// Returns an executor of `shards` shards (of 64 blocks of 64 task slots), at most 256. Returns None if memory is
+    /// refused.
     pub(crate) fn new(shards: usize) -> Option<Root> {
         let handle = Handle::empty();
-        // SAFETY: a null handle.
+        // SAFETY: a handle that is null, as the call requires.
         let made = shards <= MOST_SHARDS && unsafe { arachne_exec_new(handle.at(), shards) } == ARACHNE_DONE;
         made.then(|| Root(handle))
     }
 
-    /// Makes the seats of `threads` threads, each of which may hold `most` jobs; `most` is less than 64.
+    /// Returns the seats (handles of the core) of `threads` threads, each of which may hold `most` jobs at a time;
+    /// `most` must be less than 64.
     pub(crate) fn crew(&mut self, threads: usize, most: usize) -> Option<Vec<Hands>> {
         let each = 1 + most;
         let seats = (0..threads * each).map(|_| self.0.split()).collect::<Option<Box<[_]>>>()?;
@@ -133,7 +137,8 @@ impl Root {
         Some((0..threads).map(hands).collect())
     }
 
-    /// Takes a thread's seats back, which must hold no job. The last thread of a crew joins all its handles.
+    /// Takes back a thread's seats (handles of the core), none of which may hold a job. The call for the last thread of
+    /// a crew joins the handles of the whole crew.
     pub(crate) fn join(&mut self, hands: Hands) {
         for seat in Arc::try_unwrap(hands.crew).map_or(Box::default(), |crew| crew.seats).iter() {
             // SAFETY: two handles of one origin.
@@ -142,29 +147,30 @@ impl Root {
         }
     }
 
-    /// Makes the right to park as the worker of this number. Returns None if memory is refused.
+    /// Returns the right to park as the worker of all shards whose index modulo 64 is `number`. Returns None if memory
+    /// is refused.
     pub(crate) fn parking(&mut self, number: usize) -> Option<Parking> {
         let seat = self.0.split()?;
-        // SAFETY: a handle.
+        // SAFETY: a handle that only this thread uses now.
         let registered = unsafe { arachne_exec_register(seat.at(), number as u32) } == ARACHNE_DONE;
         registered.then(|| Parking(seat))
     }
 }
 
 impl Parking {
-    /// Asks the core whether the worker may sleep. If the result is true, the worker's idle bit is set, and every
-    /// summary word was found empty after that.
+    /// Asks the core whether this worker may sleep. If the result is true, the worker's idle bit is set, so that
+    /// whoever makes a job ready wakes it, and all summary words were found empty after it was set.
     ///
-    /// The call is one of the core's `next`, which also clears the summary bits of empty blocks. If `next` takes a job,
-    /// makes the job ready again.
+    /// This is a call of the core's `next`, which also clears the summary bits of empty blocks. If `next` takes a job,
+    /// this function makes that job ready again, and returns false.
     pub(crate) fn park(&self) -> bool {
-        // SAFETY: a handle.
+        // SAFETY: a handle that only this thread uses now.
         let told = unsafe { arachne_exec_next(self.0.at()) };
         match told.code {
             ARACHNE_PARK => true,
             ARACHNE_AGAIN => false,
             ARACHNE_RUN => {
-                // SAFETY: a handle.
+                // SAFETY: as above.
                 let rested = unsafe { arachne_exec_rest_ready(self.0.at()) };
                 if rested.code != ARACHNE_READY {
                     broken("rest_ready", rested.code);
@@ -175,14 +181,14 @@ impl Parking {
         }
     }
 
-    /// Clears the idle bit of this worker number: its worker is awake.
+    /// Clears the idle bit of this worker number, which asks others to wake its worker, because the worker is awake.
     pub(crate) fn wake_up(&self) {
-        // SAFETY: a handle.
+        // SAFETY: a handle that only this thread uses now.
         unsafe { arachne_exec_wake_up(self.0.at()) };
     }
 }
 
-/// Returns the indices of a block from `from` to `to`, wrapping round, as bits.
+/// Returns a bit mask of the slots of a block from `from` through `to`, wrapping around after the last slot.
 #[inline]
 fn round(from: u32, to: u32) -> u64 {
     let (ahead, until) = (u64::MAX << from, u64::MAX >> (BLOCK as u32 - 1 - to));
@@ -193,7 +199,7 @@ fn round(from: u32, to: u32) -> u64 {
     }
 }
 
-/// Returns the thread that owns a seat, and the seat's index in that thread's seats.
+/// Returns the thread that owns `seat` (a handle of the core), and the seat's index among that thread's seats.
 #[inline]
 fn owner(seat: u16) -> (usize, usize) {
     (seat as usize >> 6, seat as usize & 63)
@@ -211,16 +217,17 @@ impl Hands {
         self.crew.seats[owner * self.crew.each + which].at()
     }
 
-    /// Returns the seat for calls that take and put back no job.
+    /// Returns the seat (the handle) that is reserved for calls that take and put back no job.
     #[inline]
     fn any(&self) -> *mut arachne_exec {
         self.crew.seats[self.me * self.crew.each].at()
     }
 
-    /// Records that this thread has stolen a job from another thread. The seat that holds the job comes with it.
+    /// Records that this thread has stolen `job` from another thread. This thread then uses the seat (the handle of the
+    /// core) that holds the job.
     ///
-    /// Returns false if other threads already use `AWAY` seats of the thread `of`, to which this seat belongs. The
-    /// caller must then make the job ready at once, which gives the seat back to its owner.
+    /// Returns false if other threads already use `AWAY` seats of the thread `of`, to which this seat belongs. In that
+    /// case the caller must make the job ready at once, which gives the seat back to its owner.
     pub(crate) fn gets(&self, job: &Job, of: usize) -> bool {
         let owner = owner(job.seat).0;
         let away = &self.crew.members[owner].0.away;
@@ -230,15 +237,16 @@ impl Hands {
         owner != of || away.fetch_add(1, Relaxed) < AWAY
     }
 
-    /// Puts a job into a place of the block. With `keep` this thread holds the job, otherwise it becomes ready.
+    /// Puts a new job into a free slot of the block `block`. If `keep` is true, this thread then holds the job;
+    /// otherwise the job is ready.
     #[inline]
     pub(crate) fn spawn(&self, block: usize, job: u64, keep: bool) -> Spawned {
         let own = if keep { self.last_free() } else { None };
         loop {
             let told = match own {
-                // SAFETY: a handle.
+                // SAFETY: a handle that only this thread uses now.
                 Some(seat) => unsafe { arachne_exec_spawn_here(self.seat(seat), block, job) },
-                // SAFETY: a handle.
+                // SAFETY: as above.
                 None => unsafe { arachne_exec_spawn(self.any(), block, job) },
             };
             match (told.code, own) {
@@ -262,19 +270,19 @@ impl Hands {
     #[inline]
     pub(crate) fn begin(&self, _job: &Job) {}
 
-    /// Takes one ready job of a block. None means that the block has no ready job, unless another thread takes a job at
-    /// the same time.
+    /// Takes one ready job of the block `block` (64 task slots). Returns None if the block has no ready job; it may
+    /// also do so while another thread takes a job.
     #[inline]
     pub(crate) fn take_any(&self, block: usize) -> Option<Job> {
         self.take(self.last_free()?, block)
     }
 
-    /// Takes the next job of a sweep over the places `wanted` of a block, as bits.
+    /// Takes the next job of a sweep over the slots of the block `block` whose bits are set in `wanted`.
     ///
-    /// A job that has become ready since the sweep of the block began may come before those at `wanted` places. A place
-    /// is wanted until the sweep has passed it, so that a job which is ready again and again keeps no other waiting. A
-    /// sweep takes all its jobs by one seat, unless that seat is in use: the library keeps for each seat where in a
-    /// block it searches next, so several seats would search the same places several times.
+    /// A job that has become ready since the sweep of the block began may come before the jobs of these slots. The
+    /// sweep clears a slot's bit when it passes the slot, so a job that is ready again and again keeps no other
+    /// waiting. A sweep takes all its jobs through one seat (handle), unless that seat is in use. The library keeps for
+    /// each seat at which slot it searches next, so several seats would search the same slots several times.
     #[inline]
     pub(crate) fn take_next(&self, block: usize, wanted: &mut u64) -> Option<Job> {
         let seat = self.sweeping()?;
@@ -286,7 +294,7 @@ impl Hands {
 
     #[inline]
     fn take(&self, seat: u16, block: usize) -> Option<Job> {
-        // SAFETY: a handle.
+        // SAFETY: a handle that only this thread uses now.
         let told = unsafe { arachne_exec_take(self.seat(seat), block) };
         if told.code == ARACHNE_RUN {
             let job = Job { name: told.name, job: told.job, seat };
@@ -300,27 +308,28 @@ impl Hands {
         None
     }
 
-    /// Returns the places of a block that have a ready job, as bits.
+    /// Returns a bit mask of the slots of the block `block` that have a ready job.
     #[inline]
     pub(crate) fn ready(&self, block: usize) -> u64 {
-        // SAFETY: a handle.
+        // SAFETY: a handle that only this thread uses now.
         unsafe { arachne_exec_ready(self.any(), block) }
     }
 
-    /// Returns the blocks of a shard that may have ready jobs, as bits.
+    /// Returns a bit mask of the blocks of the shard `shard` (64 blocks of task slots) that may have ready jobs.
     #[inline]
     pub(crate) fn shown(&self, shard: usize) -> u64 {
-        // SAFETY: a handle.
+        // SAFETY: a handle that only this thread uses now.
         unsafe { arachne_exec_shown(self.any(), shard) }
     }
 
-    /// Does nothing, and returns true: an empty block keeps its bit in the summary until `Parking::park` clears it.
+    /// Does nothing, and returns true: an empty block keeps its bit in the summary word until `Parking::park` clears
+    /// it.
     #[inline]
     pub(crate) fn hide(&self, _block: usize) -> bool {
         true
     }
 
-    /// Gives a seat, which holds no job, back to its owner.
+    /// Records that `seat` (a handle of the core) holds no job any more, which gives it back to its owner.
     #[inline]
     fn is_free(&self, seat: u16) {
         let (owner, which) = owner(seat);
@@ -332,7 +341,8 @@ impl Hands {
         member.away.fetch_sub(1, Relaxed);
     }
 
-    /// Returns the seats that hold no job. If there are none, collects those that other threads have given back.
+    /// Returns a bit mask of this thread's seats (handles of the core) that hold no job. If there are none, collects
+    /// the seats that other threads have given back.
     #[inline]
     fn free(&self) -> u64 {
         match self.free.get() {
@@ -341,7 +351,7 @@ impl Hands {
         }
     }
 
-    /// Takes the seat of the last sweep or, if that seat holds a job, the first free one.
+    /// Reserves the seat (handle) of the last sweep or, if that seat holds a job, the first free one.
     #[inline]
     fn sweeping(&self) -> Option<u16> {
         let free = self.free();
@@ -355,7 +365,7 @@ impl Hands {
         Some(self.own(self.sweeps.get()))
     }
 
-    /// Takes the last free seat, for a call that is no sweep.
+    /// Reserves the last free seat (handle), for a call that isn't part of a sweep.
     #[inline]
     fn last_free(&self) -> Option<u16> {
         let free = self.free();
@@ -369,10 +379,11 @@ impl Hands {
         (self.me << 6 | which) as u16
     }
 
-    /// Makes a job that this thread holds ready. Returns true if the caller must wake the worker of its shard.
+    /// Puts back a job that this thread holds, as ready. Returns true if the caller must wake the worker that owns the
+    /// job's slot.
     #[inline]
     pub(crate) fn rest_ready(&self, job: &Job) -> bool {
-        // SAFETY: a handle.
+        // SAFETY: a handle that only this thread uses now.
         let told = unsafe { arachne_exec_rest_ready(self.seat(job.seat)) };
         if told.code != ARACHNE_READY {
             broken("rest_ready", told.code);
@@ -381,10 +392,11 @@ impl Hands {
         told.unpark != ARACHNE_NOBODY
     }
 
-    /// Blocks a job that this thread holds until a wake, unless a wake has come since the job was taken.
+    /// Puts back a job that this thread holds, as blocked until a wake; if a wake has come since it was taken, as
+    /// ready.
     #[inline]
     pub(crate) fn rest_blocked(&self, job: &Job) -> Rested {
-        // SAFETY: a handle.
+        // SAFETY: a handle that only this thread uses now.
         let told = unsafe { arachne_exec_rest_blocked(self.seat(job.seat)) };
         self.is_free(job.seat);
         match told.code {
@@ -394,10 +406,10 @@ impl Hands {
         }
     }
 
-    /// Ends a job that this thread holds. The job's place is then free, and its name is never used again.
+    /// Ends a job that this thread holds. The job's slot is free afterwards, and its name is never used again.
     #[inline]
     pub(crate) fn finish(&self, job: &Job) {
-        // SAFETY: a handle.
+        // SAFETY: a handle that only this thread uses now.
         let code = unsafe { arachne_exec_finish(self.seat(job.seat)) };
         if code != ARACHNE_DONE {
             broken("finish", code);
@@ -405,15 +417,16 @@ impl Hands {
         self.is_free(job.seat);
     }
 
-    /// Wakes the job of this name. If the job waited and `keep` is true, takes it, so that this thread holds it.
+    /// Wakes the job with the name `name` (its slot and generation). If the job was blocked and `keep` is true, this
+    /// thread takes the job, and then holds it.
     #[inline]
     pub(crate) fn wake(&self, name: u64, keep: bool) -> Woken {
         let own = if keep { self.last_free() } else { None };
         loop {
             let told = match own {
-                // SAFETY: a handle.
+                // SAFETY: a handle that only this thread uses now.
                 Some(seat) => unsafe { arachne_exec_wake_here(self.seat(seat), name) },
-                // SAFETY: a handle.
+                // SAFETY: as above.
                 None => unsafe { arachne_exec_wake(self.any(), name) },
             };
             let woken = match told.code {
@@ -437,7 +450,7 @@ impl Hands {
 
 // ---------------------------------------------------------------------------------------------- locks
 
-/// The number of locks of a set. Sets are made as they are needed, and never freed.
+/// The number of locks that are made together, as a *set*. Sets are made when they are needed, and are never freed.
 const LOCKS: usize = 1024;
 
 struct LockHandle(UnsafeCell<arachne_locks>);
@@ -460,13 +473,13 @@ impl Drop for LockHandle {
 #[derive(Default)]
 struct Sets {
     roots: Vec<LockHandle>,
-    /// The unused locks, each with the index of its set and its number in the set.
+    /// The locks that are not in use, each with the index of its set and its number in the set.
     free: Vec<(usize, usize)>,
 }
 
 static SETS: Mutex<Option<Sets>> = Mutex::new(None);
 
-/// This thread's seats for locks, by set of locks.
+/// This thread's handles of the sets of locks, by the set's index.
 struct LockSeats(Vec<Option<LockHandle>>);
 
 thread_local! {
@@ -490,13 +503,13 @@ fn split_locks(set: usize) -> LockHandle {
     let sets = SETS.lock().unwrap_or_else(|e| e.into_inner());
     let other = LockHandle::empty();
     let root = &sets.as_ref().expect("a set").roots[set];
-    // SAFETY: two handles; the second is null.
+    // SAFETY: two handles that only this thread uses now; the second is null.
     let code = unsafe { arachne_locks_split(root.0.get(), other.0.get()) };
     assert_eq!(code, ARACHNE_DONE, "no memory for a lock's seat");
     other
 }
 
-/// Returns an odd number that no other call returns, for use as the name under which a lock is asked for.
+/// Returns an odd number that no other call returns, to be used as a waiter's name in a request for a lock.
 fn odd_number() -> u64 {
     static NEXT: AtomicU64 = AtomicU64::new(0);
     ASKED.with(|asked| {
@@ -512,7 +525,7 @@ fn odd_number() -> u64 {
 pub(crate) struct LockCore {
     set: usize,
     lock: usize,
-    /// True if the lock probably has a holder: then `try_ask` fails without a call of the core.
+    /// True if the lock probably has a holder; then `try_ask` fails without a call of the core.
     held: AtomicBool,
 }
 
@@ -522,7 +535,7 @@ impl Default for LockCore {
         let sets = sets.get_or_insert_with(Sets::default);
         if sets.free.is_empty() {
             let root = LockHandle::empty();
-            // SAFETY: a null handle.
+            // SAFETY: a handle that is null, as the call requires.
             let code = unsafe { arachne_locks_new(root.0.get(), LOCKS) };
             assert_eq!(code, ARACHNE_DONE, "no memory for a set of locks");
             let set = sets.roots.len();
@@ -536,7 +549,7 @@ impl Default for LockCore {
 
 impl Drop for LockCore {
     fn drop(&mut self) {
-        // If the lock's guard was leaked, the lock has a holder for ever and is not used again.
+        // If a guard of the lock was leaked, the lock has a holder for ever, and is not used again.
         self.held.store(false, Relaxed);
         if let Some(who) = self.try_ask() {
             self.free(who);
@@ -573,7 +586,8 @@ impl LockCore {
         }
     }
 
-    /// Takes the lock if it is free. Returns the name of the holder.
+    /// Takes the lock if it is free. Returns the name under which the caller holds it then, or None if the lock isn't
+    /// free.
     #[inline]
     pub(crate) fn try_ask(&self) -> Option<u64> {
         if self.held.load(Relaxed) {
@@ -589,7 +603,7 @@ impl LockCore {
     /// Asks for the lock under the name `who`, which no other waiter or holder has.
     #[inline]
     pub(crate) fn ask(&self, who: u64) -> Asked {
-        // SAFETY: a handle.
+        // SAFETY: a handle that only this thread uses now.
         let told = self.insist(|seat| unsafe { arachne_lock_ask(seat, self.lock, who) });
         self.held.store(true, Relaxed);
         match told.code {
@@ -600,10 +614,10 @@ impl LockCore {
         }
     }
 
-    /// Frees the lock of the holder `who`.
+    /// Frees the lock, which `who` holds.
     #[inline]
     pub(crate) fn free(&self, who: u64) -> Freed {
-        // SAFETY: a handle.
+        // SAFETY: a handle that only this thread uses now.
         let told = self.insist(|seat| unsafe { arachne_lock_free(seat, self.lock, who) });
         match told.code {
             ARACHNE_FREED => {
@@ -615,9 +629,9 @@ impl LockCore {
         }
     }
 
-    /// Removes a waiter from the queue. Returns false if the waiter was granted the lock meanwhile.
+    /// Removes the waiter `who` from the lock's queue. Returns false if the waiter was granted the lock meanwhile.
     pub(crate) fn withdraw(&self, who: u64) -> bool {
-        // SAFETY: a handle.
+        // SAFETY: a handle that only this thread uses now.
         let told = self.insist(|seat| unsafe { arachne_lock_withdraw(seat, self.lock, who) });
         match told.code {
             ARACHNE_LEFT => true,
@@ -629,14 +643,14 @@ impl LockCore {
 
 // ---------------------------------------------------------------------------------------------- the policy
 
-/// Decides when to ask for a core, and when to give one back.
+/// Decides when a runtime asks for a core, and when it gives one back.
 pub(crate) struct Estimator(arachne_estimator);
 
 impl Estimator {
     pub(crate) fn new(load: u64, hysteresis: u64, most: u64) -> Option<Estimator> {
         let mut estimator = arachne_estimator { up: 0, hysteresis: 0, max: 0, thresholds: [0; 64] };
         let right = most as usize <= NUMBERS;
-        // SAFETY: a pointer to an estimator's room.
+        // SAFETY: the pointer has room for an estimator.
         (right && unsafe { arachne_estimator_new(load, hysteresis, most, &mut estimator) })
             .then_some(Estimator(estimator))
     }

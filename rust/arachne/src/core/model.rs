@@ -1,9 +1,9 @@
 //! A stand-in for the proved library in Rust with atomics, for builds without the archive, for tests and for
 //! ThreadSanitizer.
 //!
-//! A job is ready if its bit in the ready word of its block is set; the thread that clears the bit has the job. A
-//! place's mark is four times its generation, plus 1 if its job was woken since it was taken, plus 2 if it is blocked.
-//! Each shard has a summary word, with a bit for each block that may have ready jobs.
+//! A job is ready if its bit in the ready word of its block is set; the thread that clears the bit has taken the job.
+//! The mark of a slot is four times its generation, plus 1 if its job was woken since it was taken, plus 2 if it is
+//! blocked. Each shard has a summary word, which has a bit for each block that may have ready jobs.
 
 use super::{
     place_of, Asked, Freed, Job, Line, Rested, Spawned, Woken, BLOCK, MOST_SHARDS, NUMBERS, PLACE_BITS, SHARD,
@@ -29,10 +29,10 @@ struct Table {
     summary: Box<[Line<AtomicU64>]>,
     idle: Line<AtomicU64>,
 }
-// SAFETY: only the seat that holds a place's job accesses the place's slot: the seat that cleared the place's bit in
-// the free or the ready word, or changed its mark from blocked. Those steps order the accesses.
+// SAFETY: only the holder of a slot's job accesses the job's number: the thread that cleared the slot's bit in the free
+// word or the ready word, or changed its mark from blocked. These atomic steps order the accesses.
 unsafe impl Sync for Table {}
-// SAFETY: as above; the numbers in the slots belong to no thread.
+// SAFETY: as above; the numbers of the jobs belong to no thread.
 unsafe impl Send for Table {}
 
 #[inline]
@@ -46,19 +46,20 @@ impl Table {
         &self.blocks[place / BLOCK].marks[place % BLOCK]
     }
 
-    /// Returns the slot (the field for the job's number) of a place.
+    /// Returns a pointer to the job number that is stored for the slot `place`.
     ///
     /// # Safety
-    /// The slot may only be accessed while the caller holds the job at the place.
+    /// The caller may access the number only while it holds the job of that slot.
     #[inline]
     unsafe fn slot(&self, place: usize) -> *mut u64 {
         self.blocks[place / BLOCK].slots[place % BLOCK].get()
     }
 
-    /// Makes the job of a place ready. Returns true if the caller must wake the worker of the place's shard.
+    /// Makes the job of the slot `place` ready. Returns true if the caller must wake the worker that owns the slot.
     ///
-    /// If the ready word had a bit already, the thread that set the word's first bit does the remaining steps. Their
-    /// order closes the race with `park`: set the ready bit, then the summary bit, then read the idle bit.
+    /// If the block's ready word had a bit already, the thread that set the word's first bit does the steps that
+    /// follow. Their order closes the race with `park`: set the ready bit, then the summary bit, then read the idle
+    /// bit.
     #[inline]
     fn publish(&self, place: usize) -> bool {
         let block = place / BLOCK;
@@ -74,7 +75,8 @@ impl Table {
         self.idle.0.load(SeqCst) & idle != 0 && self.idle.0.fetch_and(!idle, SeqCst) & idle != 0
     }
 
-    /// Clears the summary bit of an empty block. Returns false, with the bit set again, if a job has become ready.
+    /// Clears the bit of an empty block in the summary word, which shows the blocks with ready jobs. Returns false,
+    /// with the bit set again, if a job of the block has become ready.
     ///
     /// The ready word must be read after the bit is cleared: `publish` sets the summary bit only for the word's first
     /// job.
@@ -95,17 +97,17 @@ impl Table {
     }
 }
 
-/// A runtime's table, from which threads get their seats.
+/// A runtime's job table, from which threads get their access (`Hands`).
 pub(crate) struct Root(Arc<Table>);
 
-/// A thread's access to a table. The value may move to another thread, and is used by one thread at a time.
+/// A thread's access to the table of jobs. The value may move to another thread, and is used by one thread at a time.
 pub(crate) struct Hands {
     table: Arc<Table>,
     /// Makes `Hands` not `Sync`.
     _one_thread: Cell<()>,
 }
 
-/// The right to sleep as the worker of one worker number's shards.
+/// A thread's right to park as the worker of all shards with one number (the shard's index modulo 64).
 pub(crate) struct Parking {
     table: Arc<Table>,
     number: usize,
@@ -113,7 +115,7 @@ pub(crate) struct Parking {
 }
 
 impl Root {
-    /// Makes a table of `shards` shards. Returns None if `shards` is greater than 256.
+    /// Returns a table of `shards` shards (of 64 blocks of 64 slots). Returns None if `shards` is greater than 256.
     pub(crate) fn new(shards: usize) -> Option<Root> {
         if shards == 0 || shards > MOST_SHARDS {
             return None;
@@ -131,12 +133,12 @@ impl Root {
         })))
     }
 
-    /// Returns the access (`Hands`) of each of `threads` threads.
+    /// Returns one access (`Hands`) for each of `threads` threads.
     pub(crate) fn crew(&mut self, threads: usize, _most: usize) -> Option<Vec<Hands>> {
         Some((0..threads).map(|_| Hands { table: self.0.clone(), _one_thread: Cell::new(()) }).collect())
     }
 
-    /// Takes a thread's access back, which must hold no job.
+    /// Takes back a thread's access, with which it may hold no job.
     pub(crate) fn join(&mut self, hands: Hands) {
         debug_assert!(Arc::ptr_eq(&self.0, &hands.table));
     }
@@ -147,8 +149,8 @@ impl Root {
 }
 
 impl Parking {
-    /// Sets the idle bit of this worker number, and then reads all ready words of its shards. Returns true if all these
-    /// words were empty.
+    /// Sets the idle bit of this worker number, which asks others to wake its worker, and then reads all ready words of
+    /// the shards with this number. Returns true if all these words were empty.
     ///
     /// The order of the two steps matters: a thread that publishes a job sets its ready bit before it reads the idle
     /// bit.
@@ -169,14 +171,15 @@ impl Parking {
         true
     }
 
-    /// Clears the idle bit of this worker number: its worker is awake.
+    /// Clears the idle bit of this worker number, which asks others to wake its worker, because the worker is awake.
     pub(crate) fn wake_up(&self) {
         self.table.wake_up(self.number);
     }
 }
 
 impl Hands {
-    /// Puts a job into a place of the block. With `keep` this thread holds the job, otherwise it becomes ready.
+    /// Puts a new job into a free slot of the block `block`. If `keep` is true, this thread then holds the job;
+    /// otherwise the job is ready.
     #[inline]
     pub(crate) fn spawn(&self, block: usize, job: u64, keep: bool) -> Spawned {
         let free = &self.table.blocks[block].free.0;
@@ -196,7 +199,7 @@ impl Hands {
             if keep {
                 return Spawned::Kept(Job { name, job, seat: 0 });
             }
-            // SAFETY: the bit of the free word was cleared by this thread.
+            // SAFETY: this thread has cleared the slot's bit in the free word, so nobody else accesses the slot.
             unsafe { *self.table.slot(place) = job };
             return Spawned::Ready { name, unpark: self.table.publish(place) };
         }
@@ -208,7 +211,7 @@ impl Hands {
         true
     }
 
-    /// Begins to run a job that this thread holds, and clears the record of a wake: the poll that follows answers
+    /// Begins to run a job that this thread holds, and clears its mark of a wake: the poll that follows serves all
     /// earlier wakes.
     #[inline]
     pub(crate) fn begin(&self, job: &Job) {
@@ -219,14 +222,14 @@ impl Hands {
         }
     }
 
-    /// Takes one ready job of a block. None means that the block has no ready job, unless another thread takes a job at
-    /// the same time.
+    /// Takes one ready job of the block `block` (64 slots). Returns None if the block has no ready job; it may also do
+    /// so while another thread takes a job.
     pub(crate) fn take_any(&self, block: usize) -> Option<Job> {
         let mut any = self.ready(block);
         self.take_next(block, &mut any)
     }
 
-    /// Takes the next job of a sweep over the places `wanted` of a block, as bits.
+    /// Takes the next job of a sweep over the slots of the block `block` whose bits are set in `wanted`.
     #[inline]
     pub(crate) fn take_next(&self, block: usize, wanted: &mut u64) -> Option<Job> {
         let ready = &self.table.blocks[block].ready.0;
@@ -243,32 +246,33 @@ impl Hands {
             if seen & WOKEN != 0 {
                 mark.store(seen & !WOKEN, SeqCst);
             }
-            // SAFETY: the bit of the ready word was cleared by this thread.
+            // SAFETY: this thread has cleared the slot's bit in the ready word, so it holds the job.
             return Some(Job { name: name_of(place, seen >> 2), job: unsafe { *self.table.slot(place) }, seat: 0 });
         }
         None
     }
 
-    /// Returns the places of a block that have a ready job, as bits.
+    /// Returns a bit mask of the slots of the block `block` that have a ready job.
     #[inline]
     pub(crate) fn ready(&self, block: usize) -> u64 {
         self.table.blocks[block].ready.0.load(Relaxed)
     }
 
-    /// Returns the blocks of a shard that may have ready jobs, as bits.
+    /// Returns a bit mask of the blocks of the shard `shard` (64 blocks) that may have ready jobs.
     #[inline]
     pub(crate) fn shown(&self, shard: usize) -> u64 {
         self.table.summary[shard].0.load(SeqCst)
     }
 
-    /// Clears the summary bit of an empty block, unless it has got jobs meanwhile. Always returns false in this form of
-    /// the core.
+    /// Clears an empty block's bit in the summary word (of blocks with ready jobs), unless a job of the block has
+    /// become ready meanwhile. Always returns false in this form of the core.
     pub(crate) fn hide(&self, block: usize) -> bool {
         self.table.hide(block);
         false
     }
 
-    /// Makes a job that this thread holds ready. Returns true if the caller must wake the worker of the job's shard.
+    /// Puts back a job that this thread holds, as ready. Returns true if the caller must wake the worker that owns the
+    /// job's slot.
     #[inline]
     pub(crate) fn rest_ready(&self, job: &Job) -> bool {
         // SAFETY: this thread holds the job.
@@ -276,7 +280,8 @@ impl Hands {
         self.table.publish(job.place())
     }
 
-    /// Blocks a job that this thread holds until a wake, unless a wake has come since the job was taken or begun.
+    /// Puts back a job that this thread holds, as blocked until a wake. If a wake has come since the job was taken or
+    /// begun, this thread still holds the job.
     #[inline]
     pub(crate) fn rest_blocked(&self, job: &Job) -> Rested {
         let mark = self.table.mark(job.place());
@@ -291,7 +296,8 @@ impl Hands {
         Rested::InHand
     }
 
-    /// Ends a job that this thread holds. The job's place is then free, and its name is never used again.
+    /// Ends a job that this thread holds. Afterwards the job's slot is free, unless its generations are used up; the
+    /// job's name is never used again.
     #[inline]
     pub(crate) fn finish(&self, job: &Job) {
         let next = (job.name >> PLACE_BITS) + 1;
@@ -301,7 +307,8 @@ impl Hands {
         }
     }
 
-    /// Wakes the job of this name. If the job waited and `keep` is true, takes it, so that this thread holds it.
+    /// Wakes the job with the name `name` (its slot and generation). If the job was blocked and `keep` is true, this
+    /// thread takes the job, and then holds it.
     #[inline]
     pub(crate) fn wake(&self, name: u64, keep: bool) -> Woken {
         let (place, generation) = (place_of(name), name >> PLACE_BITS);
@@ -335,7 +342,7 @@ const FREE: u8 = 0;
 const HELD: u8 = 1;
 const QUEUED: u8 = 2;
 
-/// A lock of the core, without its value: its holder, and the queue of waiters.
+/// A lock of the core, without its value: it knows the holder, and the queue of waiters.
 #[derive(Default)]
 pub(crate) struct LockCore {
     /// `FREE`; `HELD`, with nobody waiting; or `QUEUED`: held, with waiters in `line`.
@@ -344,7 +351,8 @@ pub(crate) struct LockCore {
 }
 
 impl LockCore {
-    /// Takes the lock if it is free. Returns the name of the holder.
+    /// Takes the lock if it is free. Returns the name under which the caller holds it then, or None if the lock isn't
+    /// free.
     #[inline]
     pub(crate) fn try_ask(&self) -> Option<u64> {
         self.state.compare_exchange(FREE, HELD, SeqCst, SeqCst).is_ok().then_some(1)
@@ -379,7 +387,7 @@ impl LockCore {
         next.map_or(Freed::Free, Freed::HandedOn)
     }
 
-    /// Removes a waiter from the queue. Returns false if the waiter was granted the lock meanwhile.
+    /// Removes the waiter `who` from the lock's queue. Returns false if the waiter was granted the lock meanwhile.
     pub(crate) fn withdraw(&self, who: u64) -> bool {
         let mut line = self.line.lock().unwrap();
         let found = line.iter().position(|&w| w == who);
@@ -402,12 +410,13 @@ impl LockCore {
     }
 }
 
-/// A stand-in for the proved estimator. Like that one it keeps the use at which each core was added, but nothing else.
+/// A stand-in for the proved estimator of the core policy. Like that one, it remembers the use at which each core was
+/// added, but nothing else.
 pub(crate) struct Estimator {
     load: u64,
     hysteresis: u64,
     most: u64,
-    /// For each number of cores, the use (in thousandths of a core) at which this number was last asked for.
+    /// For each number of cores, the use (in thousandths of a core) at which the policy last asked for this number.
     used: Vec<u64>,
 }
 

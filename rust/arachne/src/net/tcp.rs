@@ -28,8 +28,8 @@ pub struct TcpListener(pub(super) Source<std::net::TcpListener>);
 impl TcpListener {
     /// Listens at the first of these addresses that is free. Unlike tokio's `bind`, this one isn't `async`.
     ///
-    /// The listener's backlog is 4,096, or the system's `somaxconn` if that is less. A listener of `from_std` keeps its
-    /// backlog.
+    /// The listener's backlog (of connections not yet accepted) is 4,096, or the system's `somaxconn` if that is less.
+    /// A listener of `from_std` keeps its backlog.
     ///
     /// ```
     /// let listener = arachne::net::TcpListener::bind("127.0.0.1:0").unwrap();
@@ -46,17 +46,17 @@ impl TcpListener {
         self.0.socket.local_addr()
     }
 
-    /// Waits for a connection. Returns the connection with the other side's address.
+    /// Waits for a new connection. Returns the connection with the other side's address.
     ///
-    /// Fails once the runtime's end has begun and all connections that had arrived are accepted; [`crate::is_stopping`]
-    /// returns true then. See the example at `TcpListener`.
+    /// Fails if the runtime's end has begun and all connections that had arrived by then are accepted;
+    /// [`crate::is_stopping`] returns true then. See the example at `TcpListener`.
     pub async fn accept(&self) -> io::Result<(TcpStream, SocketAddr)> {
         let (stream, from) = accept(&self.0, |listener| listener.accept()).await?;
         Ok((TcpStream::from_std(stream)?, from))
     }
 }
 
-/// A TCP connection. Reads and writes take `&self`: one task may read while another writes.
+/// A TCP connection. Reads and writes take `&self`, so one task may read while another writes.
 ///
 /// ```no_run
 /// use std::sync::Arc;
@@ -71,7 +71,7 @@ impl TcpListener {
 pub struct TcpStream(pub(super) Source<std::net::TcpStream>);
 
 impl TcpStream {
-    /// Connects to the first of these addresses that accepts.
+    /// Connects to the first of these addresses that accepts the connection.
     ///
     /// A host name is looked up on the calling thread, which is blocked meanwhile; in a task use `lookup_host` first.
     ///
@@ -155,7 +155,7 @@ impl TcpStream {
     /// # }
     /// ```
     pub async fn peek(&self, buffer: &mut [u8]) -> io::Result<usize> {
-        // A peek takes nothing out, so the socket counts as ready until it returns `WouldBlock`.
+        // A peek leaves the bytes in the socket, so the socket counts as ready until a call returns `WouldBlock`.
         self.0.wait::<true, _>(0, |socket| socket.peek(buffer), |_| 0).await
     }
 }

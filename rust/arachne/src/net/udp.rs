@@ -6,7 +6,7 @@ use std::net::{SocketAddr, ToSocketAddrs};
 
 /// A socket that sends and receives datagrams. Each call takes `&self`.
 ///
-/// The type has few of std's options; set other options before `from_std`.
+/// The type has methods for few of std's options; set other options before `from_std`.
 ///
 /// ```
 /// use arachne::net::UdpSocket;
@@ -64,7 +64,7 @@ impl UdpSocket {
         self.0.socket.local_addr()
     }
 
-    /// Returns the address of `connect`; see the example there.
+    /// Returns the address that `connect` has set; see the example there.
     pub fn peer_addr(&self) -> io::Result<SocketAddr> {
         self.0.socket.peer_addr()
     }
@@ -77,21 +77,22 @@ impl UdpSocket {
         self.0.wait::<false, _>(0, send, |_| 0).await
     }
 
-    /// Sends a datagram to the address of `connect`, once there is room. Returns the length of the datagram; see the
-    /// example at `connect`.
+    /// Sends a datagram to the address that `connect` has set, after waiting until there is room. Returns the length of
+    /// the datagram; see the example at `connect`.
     pub async fn send(&self, bytes: &[u8]) -> io::Result<usize> {
         self.write(|socket| socket.send(bytes)).await
     }
 
-    /// Waits for a datagram from the address of `connect`. Returns the length of the datagram; see the example at
-    /// `connect`.
+    /// Waits for a datagram from the address that `connect` has set. Returns the length of the datagram; see the
+    /// example at `connect`.
     ///
     /// Bytes beyond the buffer are lost.
     pub async fn recv(&self, buffer: &mut [u8]) -> io::Result<usize> {
         self.read(|socket| socket.recv(buffer)).await
     }
 
-    /// Sends a datagram to the first of these addresses, once there is room. Returns the length of the datagram.
+    /// Sends a datagram to the first of the addresses `to`, after waiting until there is room. Returns the length of
+    /// the datagram.
     ///
     /// A host name is looked up on the calling thread, which is blocked meanwhile. See the example at `UdpSocket`.
     pub async fn send_to(&self, bytes: &[u8], to: impl ToSocketAddrs) -> io::Result<usize> {

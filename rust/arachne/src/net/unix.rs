@@ -32,7 +32,7 @@ impl UnixListener {
     /// Listens at `path`, which must not exist; the path stays when the listener is dropped. Unlike tokio's `bind`,
     /// this one isn't `async`.
     ///
-    /// The listener's backlog is 4,096, or the system's `somaxconn` if that is less.
+    /// The listener's backlog (of connections not yet accepted) is 4,096, or the system's `somaxconn` if that is less.
     ///
     /// ```
     /// # fn main() -> std::io::Result<()> {
@@ -53,10 +53,10 @@ impl UnixListener {
         self.0.socket.local_addr()
     }
 
-    /// Waits for a connection. Returns the connection with the other side's address.
+    /// Waits for a new connection. Returns the connection with the other side's address.
     ///
-    /// Fails once the runtime's end has begun and all connections that had arrived are accepted; `is_stopping` is true
-    /// then. See the example at `UnixListener`.
+    /// Fails if the runtime's end has begun and all connections that had arrived by then are accepted; `is_stopping` is
+    /// true then. See the example at `UnixListener`.
     pub async fn accept(&self) -> io::Result<(UnixStream, SocketAddr)> {
         let (stream, from) = accept(&self.0, |listener| listener.accept()).await?;
         Ok((UnixStream::from_std(stream)?, from))
@@ -80,7 +80,8 @@ impl UnixListener {
 pub struct UnixStream(pub(super) Source<net::UnixStream>);
 
 impl UnixStream {
-    /// Connects to the listener at `path`. While the listener's backlog is full, tries again each millisecond.
+    /// Connects to the listener at `path`. While the listener's backlog is full, the future tries again each
+    /// millisecond.
     ///
     /// ```
     /// # fn main() -> std::io::Result<()> {

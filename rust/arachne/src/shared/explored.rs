@@ -8,7 +8,7 @@ pub fn set_active(runtime: &Runtime, active: usize) {
     runtime.shared().set_active(active);
 }
 
-/// Frees this thread's cached seats and parker.
+/// Frees the seats (handles of the core) and the parker that are cached for this thread.
 pub fn forget_thread() {
     SEATS.with(|visitor| visitor.borrow_mut().seats = Vec::new());
     crate::block_on::forget_parker();
@@ -22,7 +22,7 @@ pub fn forget_runtimes() {
     for shared in ended {
         ALL[shared.table].store(ptr::null_mut(), SeqCst);
         shared.reactor.close();
-        // SAFETY: from `leak` in `make`; the caller says that nobody uses it.
+        // SAFETY: the pointer is from `leak` in `make`, and the caller promises that nobody uses it.
         drop(unsafe { Box::from_raw(shared as *const Shared as *mut Shared) });
     }
 }

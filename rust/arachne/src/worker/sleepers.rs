@@ -2,21 +2,22 @@
 //! condition variable each, their *bell*.
 //!
 //! The deputy stands in while the worker of the epoll runs tasks or has no processor. The deputy wakes after 1, 2, 4 ..
-//! ms, each millisecond while tasks run, and takes the place of the worker of the epoll if that worker is stuck in a
-//! poll. So the events of sockets are seen as long as one worker is in no long poll.
+//! ms, and each millisecond while tasks run. The deputy takes over from the worker of the epoll if that worker is stuck
+//! in a poll. So the events of sockets are seen as long as at least one worker isn't in a long poll.
 //!
-//! **Beside a long poll.** While any worker is awake, the worker in the epoll and the deputy check the others, at most
-//! `LONG_REST` apart. If they find a worker in the same poll twice, they take all jobs in its local queues, the next
-//! one too, fire its timers, and take the ready jobs of its blocks. A worker that is woken again and again does the
-//! same once a millisecond, before it goes back to sleep (`looks_before_sleep`), and so does a busy worker in
-//! `look_out`. So, as long as one worker is in no long poll, a ready job behind a long poll begins within about 4 ms
-//! plus the delays of the machine. Once all workers sleep, nobody checks. The first worker that runs a job after a
-//! sleep wakes another worker, which checks again (`goes_on`).
+//! **Beside a long poll.** While any worker is awake, the worker in the epoll and the deputy check the other workers,
+//! at least every `LONG_REST` milliseconds. If they find a worker in the same poll twice, they take all jobs in its
+//! local queues, even the one to run next, fire its timers, and take the ready jobs of its blocks. A worker that is
+//! woken again and again does the same once a millisecond, before it goes back to sleep (`looks_before_sleep`), and so
+//! does a busy worker in `look_out`. So, as long as at least one worker isn't in a long poll, a ready job behind a long
+//! poll begins within about 4 ms plus the delays of the machine. If all workers sleep, nobody checks. The first worker
+//! that runs a job after a sleep wakes another worker, which checks again (`goes_on`).
 //!
 //! **Without a core.** While only the first worker has a core, the second one stands in for it (`cover`): each
-//! millisecond the second worker checks if the first makes progress. If not, since the first is in a long poll or has
-//! lost its processor, the second runs the waiting jobs, on any processor that it may use. Once nothing has run for a
-//! while the second worker checks less and less often, and `goes_on` makes it check each millisecond again.
+//! millisecond, the second worker checks whether the first makes progress. If it doesn't, because it is in a long poll
+//! or has lost its processor, the second worker runs the waiting jobs, on any processor that it may use. If nothing has
+//! run for a while, the second worker checks less and less often, until `goes_on` makes it check each millisecond
+//! again.
 //!
 //! With the watcher, ready jobs also run if all workers are in long polls.
 
@@ -28,23 +29,23 @@ use crate::shared::{add, Context, Shared, NO_ONE};
 use crate::sync::atomic::{AtomicI32, Ordering::*};
 use crate::timer::{self, now};
 
-/// Rounds in which an idle worker searches for work before it sleeps.
+/// The number of rounds in which an idle worker searches for work before it sleeps.
 const SPINS: usize = 4;
-/// The most milliseconds between two checks of the other workers while one of them is awake. A worker that checks the
-/// others and sleeps for longer is woken once tasks run again.
+/// The most milliseconds between two checks of the other workers while one of them is awake. If a worker that checks
+/// the others sleeps for longer than this, it is woken when tasks run again.
 const LONG_REST: i32 = 2;
 /// The milliseconds between two checks of the other workers while all workers sleep: some 17 minutes, as good as never.
 const FOR_EVER: i32 = 1 << 20;
-/// While only the first worker has a core: nanoseconds between two checks of it by the second worker, while tasks run.
+/// Nanoseconds between two checks of the first worker by the second while only the first has a core and tasks run.
 const COVER: u64 = 1_000_000;
-/// Nanoseconds between these checks once the last one found a task to run.
+/// Nanoseconds until the next of these checks after one that found a task to run.
 const COVER_SOON: u64 = 200_000;
 /// The most nanoseconds between these checks while the first worker is awake.
 const COVER_LONG: u64 = 2_000_000;
 /// The most nanoseconds between these checks while the first worker sleeps.
 const COVER_MOST: u64 = 3_600_000_000_000;
 
-/// The reasons for which a wait of a worker without a core ends.
+/// The reasons for which the wait of a worker without a core ends.
 pub(crate) enum Ends {
     /// The caller must check if the worker has a core now.
     Core,
@@ -53,17 +54,17 @@ pub(crate) enum Ends {
 }
 
 impl Shared {
-    /// Searches for work at the other workers, and sleeps if there is none.
+    /// Searches the other workers for work, and sleeps if there is none.
     ///
     /// The sleeper bit must be set, and the search ended, before the last check for work: whoever makes a job ready
-    /// later wakes this worker, and the check finds jobs that were made ready before.
+    /// after the bit is set wakes this worker, and the check finds the jobs that were made ready before.
     pub(super) fn look_around(&'static self, context: &Context, turn: &mut Turn, judge: &Option<Judge>) {
         self.searching.0.fetch_add(1, SeqCst);
         if self.finds_work(context, turn) {
             return self.stop_looking(&context.hands);
         }
-        // Taken before the sleeper bit is set and given up after it is cleared: `ring` reads `waits` while the bit is
-        // set.
+        // This worker becomes the one in the epoll before the sleeper bit is set, and stops being it after the bit is
+        // cleared: `ring` reads `waits` while the bit is set.
         let waits = self.waits.0.compare_exchange(NO_ONE, context.me, SeqCst, SeqCst).is_ok();
         self.sleepers.0.fetch_or(1 << context.me, SeqCst);
         self.searching.0.fetch_sub(1, SeqCst);
@@ -78,8 +79,8 @@ impl Shared {
             || context.me >= self.active.0.load(SeqCst);
         let sleeps = !busy && self.may_park(context);
         let (found, called) = if sleeps { self.sleep(context, turn, judge, waits) } else { (Found::NOTHING, false) };
-        // Before the events wake tasks: with the idle bit set, a wake in this worker's own blocks would unpark it once
-        // more.
+        // The idle bit is cleared before the events wake tasks: otherwise a wake of a job in this worker's own blocks
+        // would unpark this worker once more.
         self.wake_up(context);
         let roused = self.awake(context);
         if waits {
@@ -92,8 +93,8 @@ impl Shared {
         }
     }
 
-    /// Searches for something to run, for a short while. Returns true if there is something in the worker's local
-    /// queues or ready.
+    /// Searches for a job to run, for a short while. Returns true if there is a job in this worker's local queues, or a
+    /// ready one.
     fn finds_work(&'static self, context: &Context, turn: &mut Turn) -> bool {
         turn.seen.iter_mut().zip(self.workers.iter()).for_each(|(seen, w)| *seen = w.0.polls.load(Relaxed));
         for spin in 0..SPINS {
@@ -109,14 +110,15 @@ impl Shared {
         false
     }
 
-    /// Returns true if a job seems ready in this worker's blocks, or in those of the workers for which it stands in.
+    /// Returns true if a job seems ready in the blocks (the task slots) of this worker, or of a worker that it stands
+    /// in for.
     pub(super) fn mine(&self, context: &Context) -> bool {
         let me = context.me;
         self.ready(&context.hands, me) != 0 || self.lodgers(me).any(|other| self.ready(&context.hands, other) != 0)
     }
 
-    /// Returns whether this worker may sleep. Asks the core about the worker's own shards, and about those of the
-    /// workers for which it stands in.
+    /// Returns true if this worker may sleep. Asks the core about the shards (groups of task slots) of this worker, and
+    /// of the workers that it stands in for.
     fn may_park(&self, context: &Context) -> bool {
         std::iter::once(context.me).chain(self.lodgers(context.me)).all(|owner| {
             let parking = self.workers[owner].0.parking.lock().unwrap();
@@ -124,7 +126,7 @@ impl Shared {
         })
     }
 
-    /// Hides this worker's empty blocks that the summary still shows.
+    /// Clears the summary bits of the empty blocks (of task slots) of the worker `me`.
     pub(super) fn tidy(&self, me: usize) {
         for seat in self.workers[me].0.parking.lock().unwrap().iter() {
             if seat.park() {
@@ -133,19 +135,21 @@ impl Shared {
         }
     }
 
-    /// Clears the idle bits of this worker, and of the workers for which it stands in.
+    /// Clears the idle bits, which ask others to wake a worker, of this worker and of the workers that it stands in
+    /// for.
     fn wake_up(&self, context: &Context) {
         for owner in std::iter::once(context.me).chain(self.lodgers(context.me)) {
             let parking = self.workers[owner].0.parking.lock().unwrap();
-            // Checked under the lock: another worker may look after those numbers meanwhile, and may have parked them.
+            // Checked under the lock: another worker may stand in for `owner` now, and may have parked with these
+            // rights.
             if self.keeper(owner) == context.me {
                 parking.iter().for_each(|seat| seat.wake_up());
             }
         }
     }
 
-    /// Sleeps: in the epoll if `waits`, otherwise as the deputy or by the bell. Returns the events found, and true if
-    /// tasks of another worker may need this one.
+    /// Sleeps: in the epoll if `waits` is true, otherwise as the deputy or on its bell (a condition variable). Returns
+    /// the events that were found, and true if a worker that is stuck in a poll may have jobs for this one to run.
     fn sleep(&self, context: &Context, turn: &mut Turn, judge: &Option<Judge>, waits: bool) -> (Found, bool) {
         if self.looks_before_sleep(context, turn) {
             return (Found::NOTHING, true);
@@ -171,7 +175,8 @@ impl Shared {
         found
     }
 
-    /// Sleeps in the epoll until there is an event, `timeout` has passed, or tasks of a stuck worker need this one.
+    /// Sleeps in the epoll until there is an event, `timeout` milliseconds have passed, or a worker that is stuck in a
+    /// poll has jobs for this one to run.
     fn wait_in_epoll(&self, context: &Context, turn: &mut Turn, timeout: i32) -> (Found, bool) {
         let most = self.asks(self.room(context, turn));
         if self.workers.len() == 1 {
@@ -191,11 +196,12 @@ impl Shared {
         }
     }
 
-    /// Sleeps as the deputy until it is woken, `timeout` has passed, or there is something to do.
+    /// Sleeps as the *deputy*, the worker that polls the epoll now and then. Returns when it is woken, `timeout`
+    /// milliseconds have passed, or there is something to do.
     ///
-    /// The deputy has something to do in three cases. Tasks of a stuck worker need it. Or nobody waits in the epoll,
-    /// and a worker that is awake makes no progress. Or the epoll has events, and the worker that waits there has no
-    /// processor to take them.
+    /// There is something to do in three cases: a worker that is stuck in a poll has jobs to run; nobody waits in the
+    /// epoll, and a worker that is awake makes no progress (no new poll since the last check); or the epoll has events,
+    /// and the worker that waits there has no processor to take them.
     fn stand_in(&self, context: &Context, turn: &mut Turn, timeout: i32) -> (Found, bool) {
         let bell = &context.worker.bell;
         let mut left = timeout;
@@ -224,8 +230,8 @@ impl Shared {
         }
     }
 
-    /// Calls `look_after` before a sleep, if the last call was `LONG_POLL` ago. Returns true if tasks of a stuck worker
-    /// need this one.
+    /// Calls `look_after` before a sleep, if its last call was at least `LONG_POLL` nanoseconds ago. Returns true if a
+    /// worker that is stuck in a poll has jobs for this one to run.
     ///
     /// A worker that is woken again and again never sleeps for long enough to check the others within a sleep.
     fn looks_before_sleep(&self, context: &Context, turn: &mut Turn) -> bool {
@@ -240,12 +246,12 @@ impl Shared {
         waits
     }
 
-    /// Takes the jobs in the local queues of workers that have made no progress since the last call, and fires their
+    /// Takes the jobs in the local queues of workers that have made no new poll since the last call, and fires their
     /// timers.
     ///
-    /// If a worker has not yet given back a core that it must give back, only its jobs are taken: another worker
-    /// already fires its timers. Returns two values: true if there is a stuck worker, and true if there are jobs or
-    /// timers of a stuck worker to run.
+    /// If a worker has not yet given back a core that it must give back, only its jobs are taken, because another
+    /// worker already fires its timers. Returns two values: true if any such worker was found, and true if it has jobs
+    /// or timers to run.
     fn look_after(&self, context: &Context, turn: &mut Turn) -> (bool, bool) {
         let (active, sleepers) = (self.active.0.load(SeqCst), self.sleepers.0.load(SeqCst));
         let (mut stands, mut waits) = (false, false);
@@ -258,7 +264,7 @@ impl Shared {
             }
             waits |= self.take_out(context, turn, other, FIRST, true);
             if other >= active {
-                // The worker's core was asked back: another worker already looks after its timers and blocks.
+                // The worker's core was asked back, so another worker already looks after its timers and blocks.
                 continue;
             }
             stands = true;
@@ -269,14 +275,14 @@ impl Shared {
         (stands, waits)
     }
 
-    /// Waits for a core by `waits`, whose argument is the most nanoseconds. Meanwhile runs jobs that the first worker,
-    /// the only one with a core, doesn't get to.
+    /// Waits for a core by calls of `waits`, whose argument is the most nanoseconds to wait. Between these calls, runs
+    /// the jobs that the first worker, the only one with a core, doesn't get to.
     pub(crate) fn cover(&self, context: &Context, turn: &mut Turn, mut waits: impl FnMut(u64) -> Ends) {
         let mut rests = COVER;
         loop {
             self.covers.0.store(rests, SeqCst);
-            // Written before the check: when the first worker wakes, it clears its sleeper bit and then reads this
-            // number (`goes_on`).
+            // Written before the check: when the first worker wakes, it first clears its sleeper bit and then reads
+            // this number (`goes_on`).
             if rests > COVER_LONG && self.sleepers.0.load(SeqCst) & 1 == 0 {
                 rests = COVER_LONG;
                 self.covers.0.store(rests, SeqCst);
@@ -312,10 +318,10 @@ impl Shared {
         self.arbiter.call();
     }
 
-    /// Runs the jobs of workers that make no progress, and the jobs of events that nobody has taken. Returns true if
-    /// there were any.
+    /// Runs the jobs of workers that make no progress (no new poll since the last check), and the jobs of events that
+    /// no worker has taken. Returns true if there were any such jobs.
     fn runs_what_waits(&self, context: &Context, turn: &mut Turn) -> bool {
-        // While this worker has jobs, others look after it too.
+        // While this worker has jobs, other workers check it too.
         context.worker.away.store(false, SeqCst);
         turn.pace(context, now());
         let waits = self.look_after(context, turn).1;
@@ -339,23 +345,24 @@ impl Shared {
         self.lay_down(context, turn);
         context.worker.away.store(true, SeqCst);
         if self.next_timer(context.me) != u64::MAX {
-            // This worker's timers are looked after by its keeper, which may be asleep.
+            // The worker that stands in for this one, and fires its timers, may be asleep.
             self.ring(self.keeper(context.me));
         }
         ran != 0
     }
 
-    /// Returns for how many milliseconds a worker that checks the others sleeps, and publishes this number.
+    /// Returns for how many milliseconds a worker that checks the others sleeps until its next check, and stores this
+    /// number in `told`.
     ///
-    /// The sleep is `least` while tasks run, and `times` as long after each check that finds that no task has run; at
-    /// most `LONG_REST` while any worker is awake.
+    /// While tasks run, this is `least`. Each check that finds that no task has run multiplies it by `times`; while any
+    /// worker is awake, it is at most `LONG_REST`.
     fn rests_of(&self, me: usize, turn: &mut Turn, least: i32, times: i32, told: &AtomicI32) -> i32 {
         let polls = self.workers.iter().map(|worker| worker.0.polls.load(Relaxed)).sum();
         let longer = turn.rests.saturating_mul(times).clamp(least, FOR_EVER);
         turn.rests = if polls != turn.watched { least } else { longer };
         turn.watched = polls;
         told.store(turn.rests, SeqCst);
-        // Written before the check: a worker that wakes clears its sleeper bit first and then reads this number
+        // Written before the check: a worker that wakes first clears its sleeper bit and then reads this number
         // (`goes_on`).
         if turn.rests > LONG_REST && self.is_anybody_awake(me) {
             turn.rests = LONG_REST;
@@ -369,11 +376,12 @@ impl Shared {
         self.workers.iter().enumerate().any(|(other, line)| sleepers >> other & 1 == 0 && !line.0.away.load(SeqCst))
     }
 
-    /// Wakes a worker that checks this one, which has woken and has something to do that may take long.
+    /// Wakes a worker so that it checks this one, which has just woken and has something to do that may take long.
     ///
-    /// If nobody waits in the epoll and there is no deputy, any sleeping worker is woken to wait there. If the workers
-    /// that check the others sleep for longer than `LONG_REST`, wakes one of them, to check more often again, and the
-    /// second worker if only the first has a core.
+    /// If nobody waits in the epoll and there is no deputy (who polls it instead), wakes any sleeping worker, to wait
+    /// there. If the workers that check the others sleep for longer than `LONG_REST`, wakes one of them, so that it
+    /// checks more often again. If only the first worker has a core, also wakes the second worker, which checks the
+    /// first.
     pub(crate) fn goes_on(&self) {
         if self.covers.0.load(SeqCst) > COVER_LONG {
             self.call_cover();

@@ -10,20 +10,21 @@ use std::io::{ErrorKind, Read};
 use std::os::unix::io::AsRawFd;
 use std::os::unix::net::UnixStream;
 
-/// The most connections of all processes, so that there are descriptors for each: a client's connection takes three, of
-/// the usual limit of 1,024.
+/// The most connections of all processes together. There are descriptors for each of them: a client's connection takes
+/// three, of the usual limit of 1,024.
 const CONNECTIONS: usize = 300;
 /// The most connections of one process: twice the connections of 64 workers and a control connection.
 const OF_A_PROCESS: usize = 130;
-/// The most passes over the sockets before a decision. In each pass at most this many messages of a connection, and
-/// this many new connections, are read. So nobody who sends all of the time delays a decision.
+/// The most passes over the sockets before the daemon decides. In each pass, the daemon reads at most this many
+/// messages of each connection, and at most this many new connections. So a client that sends all of the time can't
+/// delay a decision.
 const PASSES: usize = 4;
 const MESSAGES: usize = 4;
 const ACCEPTED: usize = 64;
-/// The most clients. The library's state numbers them from 0 to 63.
+/// The most clients that the daemon serves at a time. The library's state numbers them from 0 to 63.
 const CLIENTS: usize = 64;
-/// Users other than root and the daemon's own have the priorities from this one on, no reserved cores, and this many
-/// clients each.
+/// The lowest number of a priority that clients of users other than root and the daemon's own may have. Such clients
+/// get no reserved cores, and each such user may have at most `OF_ANOTHER` clients.
 const FOR_OTHERS: u32 = 4;
 const OF_ANOTHER: usize = 16;
 
@@ -35,7 +36,7 @@ pub(super) enum Role {
 
 pub(super) struct Connection {
     pub(super) stream: UnixStream,
-    /// The process and the user at the other end.
+    /// The process id and the user id of the other end.
     peer: (u32, u32),
     bytes: [u8; SIZE],
     len: usize,
@@ -47,9 +48,9 @@ pub(super) struct Connection {
 impl Arbiter {
     /// Reads all messages that have arrived. Waits for at most `timeout` milliseconds until a message arrives.
     ///
-    /// The call goes on until nothing more arrives, for at most four passes. Otherwise a request might be decided on
-    /// before the daemon reads that threads joined or waited, although they did so first. Then cores would go to
-    /// others, and be taken back at once.
+    /// The call continues until nothing more arrives, for at most four passes. Otherwise the daemon might decide on a
+    /// request before it reads that threads joined or waited, although they did so first. Then cores would go to other
+    /// clients, and be taken back at once.
     pub(super) fn hear(&mut self, timeout: i32) {
         let mut timeout = timeout;
         for _ in 0..PASSES {
@@ -72,7 +73,7 @@ impl Arbiter {
         let fds = streams.chain(processes).chain(sockets);
         let mut fds: Vec<sys::Polled> = fds.map(|fd| sys::Polled { fd, events: 1, seen: 0 }).collect();
         sys::wait(&mut fds, timeout);
-        // Whoever reads the status is answered after the decision.
+        // Processes that read the status are answered after the decision.
         fds.pop();
         if fds.iter().all(|it| it.seen == 0) {
             return false;
@@ -188,7 +189,7 @@ impl Arbiter {
             given: 0,
             forced: 0,
             until: None,
-            // The client stands behind those that wait for a turn already.
+            // The client stands behind the clients that wait for a turn already.
             turned: self.turns.count,
             arrives: 2,
             threads: BTreeMap::new(),
@@ -228,7 +229,7 @@ impl Arbiter {
         Ok(())
     }
 
-    /// Takes a thread's core, if it has one. The thread waits for another.
+    /// Takes the core of the thread `place` of a client, if the thread has one. The thread then waits for another core.
     fn take_back(&mut self, client: u32, place: u32) -> Result<(), &'static str> {
         let number = self.clients.get(&client).ok_or("no client")?.number;
         if !self.state.wait(number, place as usize) {

@@ -1,4 +1,4 @@
-//! Starts a daemon for a test, and talks to it as a client does.
+//! Starts a daemon for a test, and exchanges messages with it as a client does.
 #![allow(dead_code)]
 
 use arbiter::protocol::*;
@@ -13,10 +13,10 @@ use std::sync::mpsc;
 use std::thread;
 use std::time::{Duration, Instant};
 
-/// The time within which everything that must happen does, also on a busy machine.
+/// The time within which everything that a test waits for must happen, even on a busy machine.
 const PATIENCE: Duration = Duration::from_secs(60);
 
-/// The path of a daemon's socket, with the calls of a client.
+/// The path of a daemon's socket, with methods for the messages of a client.
 pub struct Socket(pub PathBuf);
 
 impl Socket {
@@ -90,7 +90,7 @@ impl Daemon {
         Daemon::begun(run(&path, words), path)
     }
 
-    /// Starts a daemon by this command, in which the path of its socket is `path`.
+    /// Starts a daemon by `command`, which uses `path` as the path of its socket.
     pub fn begun(mut command: Command, path: PathBuf) -> Daemon {
         let mut guardian = command.stdout(Stdio::piped()).spawn().unwrap();
         let mut line = [0; 6];
@@ -104,7 +104,7 @@ impl Daemon {
         fs::read_to_string(format!("/proc/{id}/task/{id}/children")).unwrap().trim().parse().unwrap()
     }
 
-    /// Stops the daemon while `f` runs: all messages that are sent meanwhile have arrived once the daemon goes on.
+    /// Stops the daemon while `f` runs, so all messages that `f` sends have arrived when the daemon continues.
     pub fn while_it_stands(&self, f: impl FnOnce()) {
         let child = self.child();
         signal(child, "STOP");
@@ -125,9 +125,9 @@ impl Drop for Daemon {
     }
 }
 
-/// Returns the command of a daemon: by cpusets, unless `words` say otherwise, if ARBITER_CPUSET names a folder. The
-/// daemon knows nothing of hyperthreads, and nothing of the machine's host, which may take processors while a test
-/// runs.
+/// Returns the command that starts a daemon: with cpusets if ARBITER_CPUSET names a folder, unless `words` say
+/// otherwise. This daemon doesn't know about hyperthreads, nor about the machine's host, which may take processors
+/// while a test runs.
 pub fn run(path: &Path, words: &[&str]) -> Command {
     let mut command = Command::new(program());
     command.arg("run").arg(path).args(words).env("ARBITER_STAT", "/dev/null").env("ARBITER_TOPOLOGY", "/dev/null");
@@ -174,7 +174,7 @@ pub fn is_silent(stream: &UnixStream) -> bool {
     matches!(read, Err(error) if error.kind() == ErrorKind::WouldBlock)
 }
 
-/// The daemon's program.
+/// Returns the path of the daemon's program.
 pub fn program() -> String {
     option_env!("CARGO_BIN_EXE_arachne-arbiter").map_or_else(|| env::var("ARBITER").unwrap(), str::to_string)
 }
@@ -186,7 +186,7 @@ pub fn status(socket: &Socket) -> String {
     String::from_utf8(output.stdout).unwrap()
 }
 
-/// Returns the thread of this process to which a processor is granted, by the daemon's account.
+/// Returns the thread of this process to which the processor `cpu` is granted, according to the daemon's status.
 pub fn thread_on(socket: &Socket, cpu: u32) -> u32 {
     let (text, begin) = (status(socket), format!("processor {cpu}: client "));
     let line = text.lines().find_map(|line| line.strip_prefix(&*begin)).unwrap();
@@ -204,7 +204,7 @@ pub fn processors_of_process(process: &str) -> String {
     text.lines().find_map(|line| line.strip_prefix("Cpus_allowed_list:")).unwrap().trim().into()
 }
 
-/// Waits until a condition holds, which it must do within `PATIENCE`.
+/// Waits until a condition holds, and fails if it doesn't within `PATIENCE`.
 pub fn becomes(what: &str, is_so: impl Fn() -> bool) {
     let end = Instant::now() + PATIENCE;
     while !is_so() {
@@ -220,7 +220,7 @@ pub fn other(name: &str, socket: &Socket) -> Command {
     command
 }
 
-/// Returns the socket of the daemon of the test that has begun this process.
+/// Returns the socket of the daemon whose test has started this process.
 pub fn given() -> Socket {
     Socket(env::var_os("ARBITER_OF").unwrap().into())
 }

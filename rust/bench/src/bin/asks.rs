@@ -1,9 +1,10 @@
-//! A client of a Redis server that reports which connections wait: `asks PORT CLIENTS IN-FLIGHT MILLISECONDS`.
+//! A client of a Redis server that measures which connections are kept waiting:
+//! `asks PORT CLIENTS IN-FLIGHT MILLISECONDS`.
 //!
-//! Two threads share the connections. On each connection a round is IN-FLIGHT SETs, sent at once; the next round begins
-//! when all are answered. The program prints the time of a round at 50, 99 and 99.9 per cent, the number of later
-//! rounds that overtook it, and each connection's rounds and their times. The program also prints the stretches of time
-//! in which the slowest rounds waited.
+//! Two threads share the connections. On each connection, a *round* is IN-FLIGHT SETs that are sent at once; the next
+//! round begins when all of them are answered. The program prints the time of a round at 50, 99 and 99.9 per cent, by
+//! how many later rounds a round was overtaken, and each connection's rounds and their times. The program also prints
+//! the stretches of time in which the slowest rounds waited.
 use std::thread;
 use std::time::{Duration, Instant};
 use tokio::io::{AsyncReadExt, AsyncWriteExt};
@@ -11,7 +12,7 @@ use tokio::io::{AsyncReadExt, AsyncWriteExt};
 const THREADS: usize = 2;
 const ANSWER: &[u8] = b"+OK\r\n";
 
-/// A round of a connection: when it was sent and when its last answer came, in nanoseconds.
+/// A round of a connection: the time at which it was sent and that of its last answer, in nanoseconds.
 #[derive(Clone, Copy)]
 struct Round {
     client: usize,
@@ -50,7 +51,7 @@ fn overtaken(rounds: &[Round]) -> Vec<u64> {
     by_sent.iter().enumerate().for_each(|(at, &i)| rank[i] = at + 1);
     let mut by_answer = by_sent;
     by_answer.sort_by_key(|&i| rounds[i].answered);
-    // A Fenwick tree over ranks of those that were answered before.
+    // A Fenwick tree over the ranks of the rounds that were answered before.
     let (mut tree, mut out) = (vec![0u64; rounds.len() + 1], Vec::with_capacity(rounds.len()));
     for (before, &i) in by_answer.iter().enumerate() {
         let (mut at, mut earlier) = (rank[i], 0);
@@ -74,8 +75,8 @@ fn points(mut numbers: Vec<u64>) -> [u64; 4] {
     [0.5, 0.99, 0.999, 1.0].map(|part| numbers[((numbers.len() as f64 * part) as usize).min(last)])
 }
 
-/// Prints the stretches of time in which one of the slowest rounds (one in a thousand) waited: their number, the median
-/// of their lengths, and the median and the maximum of the numbers of connections that waited in one.
+/// Prints the stretches of time in which a slow round (one in a thousand) waited. The figures are their number, the
+/// median of their lengths, and the median and the maximum of the number of connections that waited in one of them.
 fn stalls(rounds: &[Round]) {
     let times = points(rounds.iter().map(|r| r.answered - r.sent).collect());
     let mut slow: Vec<_> = rounds.iter().filter(|r| r.answered - r.sent >= times[2]).collect();

@@ -1,8 +1,8 @@
-//! A batch program, which computes for as long as it may.
+//! A batch program, which computes whenever it gets a processor.
 //!
 //! `batch threads N` computes on N kernel threads; `batch arachne CORES [SOCKET PRIORITY]` on a runtime with a policy,
-//! and with the arbiter at SOCKET. Each 10 ms the program prints the time in milliseconds, how many units of work, of
-//! some 20 us each, it has done, and on how many cores it is. The program ends with its standard input.
+//! and with the arbiter at SOCKET. Every 10 ms, the program prints the time in milliseconds, how many units of work (of
+//! some 20 us each) it has done, and on how many cores it runs. The program ends when its standard input ends.
 use std::sync::atomic::{AtomicU64, Ordering::Relaxed};
 use std::thread;
 use std::time::{Duration, SystemTime};

@@ -1,13 +1,13 @@
 //! An open-loop client of a server of Redis's protocol: `due PORT CLIENTS RATE MILLISECONDS [PROCESSOR]`.
 //!
-//! Requests (SETs of 64 bytes) are due at random times, RATE a second on average, whether or not earlier ones were
-//! answered. Each request goes to the next of CLIENTS connections. One kernel thread, which never sleeps, sends and
+//! Requests (SETs of 64 bytes) are due at random times, RATE a second on average, even if earlier ones aren't answered
+//! yet. Each request goes to the next of CLIENTS connections. One kernel thread, which never sleeps, sends and
 //! receives.
 //!
-//! The program prints how many requests were answered a second, and the times from when a request was due until its
-//! answer, in us at 50, 99 and 99.9 per cent and at most. The program prints by how much the client itself was late to
-//! send, at 99 and 99.9 per cent, and how often the client lost its processor for more than 200 us. The first tenth of
-//! the time isn't counted.
+//! The program prints how many requests were answered a second, and the time from when a request was due until its
+//! answer, in us, at 50, 99 and 99.9 per cent and the maximum. The program prints by how much the client itself was
+//! late to send, at 99 and 99.9 per cent, and how often the client lost its processor for more than 200 us. The first
+//! tenth of the time isn't counted in these figures.
 use std::collections::VecDeque;
 use std::io::{ErrorKind::WouldBlock, Read, Write};
 use std::net::TcpStream;
@@ -58,7 +58,7 @@ fn main() {
         // SAFETY: the mask is one word, and is read within the call.
         unsafe { sched_setaffinity(0, 8, &(1u64 << processor)) };
     }
-    // SAFETY: no memory is given.
+    // SAFETY: the call takes no pointer.
     let epoll = unsafe { epoll_create1(0) };
     let connect = |client: u64| {
         let stream = TcpStream::connect(("127.0.0.1", port as u16)).expect("the server answers");

@@ -1,4 +1,4 @@
-//! One executor on one load: `executors EXECUTOR CORES LOAD N` prints nanoseconds an operation.
+//! Measures one executor on one load: `executors EXECUTOR CORES LOAD N` prints the nanoseconds per operation.
 //!
 //! EXECUTOR: arachne, tokio, async-executor.
 //! LOAD:
@@ -19,7 +19,7 @@ use std::time::Instant;
 
 type Boxed<T> = Pin<Box<dyn Future<Output = T> + Send>>;
 
-/// The operations that the loads need of an executor. The operations are generic, so nothing is boxed.
+/// The operations that the loads need from an executor. The operations are generic, so nothing is boxed.
 trait Exec: Send + Sync + Clone + 'static {
     type Join<T: Send + 'static>: Future<Output = T> + Send;
     fn spawn<F: Future + Send + 'static>(&self, f: F) -> Self::Join<F::Output>

@@ -1,5 +1,5 @@
-//! A page by hyper's server, unchanged, on arachne or tokio: `hyper_page EXECUTOR CORES PORT`, on 127.0.0.1. The server
-//! ends when its standard input ends.
+//! Serves one page with hyper's server, unchanged, on arachne or tokio: `hyper_page EXECUTOR CORES PORT`, on 127.0.0.1.
+//! The server ends when its standard input ends.
 use hyper::service::service_fn;
 use hyper::{Body, Request, Response};
 use std::convert::Infallible;
@@ -8,7 +8,7 @@ async fn page(_: Request<Body>) -> Result<Response<Body>, Infallible> {
     Ok(Response::new(Body::from("Hello, world!\n")))
 }
 
-/// hyper's own tasks go to arachne.
+/// Lets hyper spawn its own tasks on arachne.
 #[derive(Clone)]
 struct Arachne;
 impl<F: std::future::Future<Output = ()> + Send + 'static> hyper::rt::Executor<F> for Arachne {

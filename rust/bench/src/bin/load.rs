@@ -1,10 +1,10 @@
-//! An open-loop client, whose requests are sent when they are due, whatever was answered: `load redis|served:MICROS
-//! PORT RATE:MILLISECONDS..`.
+//! An open-loop client, which sends each request when it is due, even if earlier ones aren't answered:
+//! `load redis|served:MICROS PORT RATE:MILLISECONDS..`.
 //!
-//! The client sends SETs of Redis's protocol, or requests of MICROS to `served`, on 32 connections, in phases of a rate
-//! a second. The client prints for each phase when the phase begins, and the latencies, from when each request was due.
-//! Each 10 ms the client prints the time in milliseconds, how many requests were due and answered, and the latency in
-//! us at 99 % and the worst.
+//! The client sends SETs of Redis's protocol, or requests of MICROS to `served`, on 32 connections, in phases of RATE
+//! requests a second each. For each phase, the client prints when it begins, and the latencies, counted from the time
+//! at which each request was due. Every 10 ms, the client prints the time in milliseconds, how many requests were due
+//! and answered, and the latency in us at 99 per cent and the maximum.
 use std::collections::VecDeque;
 use std::io::{ErrorKind, Read, Write};
 use std::net::TcpStream;
@@ -18,12 +18,12 @@ const ROW: u64 = 10_000_000;
 
 struct Connection {
     stream: TcpStream,
-    /// Requests that weren't answered: when each was due, and in which phase.
+    /// The requests that aren't answered yet: when each was due, and in which phase.
     due: VecDeque<(u64, usize)>,
     rest: usize,
 }
 
-/// A request's bytes, and how long its answer is.
+/// Returns a request's bytes, and the length of its answer in bytes.
 fn request(kind: &str, nth: usize) -> (Vec<u8>, usize) {
     match kind.strip_prefix("served:") {
         Some(micros) => ([0u64.to_le_bytes(), micros.parse::<u64>().unwrap().to_le_bytes()].concat(), 16),
@@ -42,7 +42,7 @@ fn connect(port: u16) -> Connection {
     Connection { stream, due: VecDeque::new(), rest: 0 }
 }
 
-/// Returns the latency in us that the fraction `part` of the sorted latencies do not exceed.
+/// Returns the latency in us that a fraction `part` of the sorted latencies doesn't exceed.
 fn point(sorted: &[u64], part: f64) -> f64 {
     let at = ((sorted.len() as f64 * part) as usize).min(sorted.len().max(1) - 1);
     sorted.get(at).map_or(0.0, |&nanos| nanos as f64 / 1e3)
@@ -57,7 +57,7 @@ fn main() {
     let clock = SystemTime::now().duration_since(SystemTime::UNIX_EPOCH).unwrap().as_micros() as f64 / 1e3;
     let now = || start.elapsed().as_nanos() as u64;
     let millis = |at: u64| clock + at as f64 / 1e6;
-    // A last phase without requests waits for the answers of those before, two seconds at most.
+    // A last phase without requests waits for the answers to earlier ones, for at most two seconds.
     let phases: Vec<(u64, u64)> = words[2..]
         .iter()
         .map(|phase| phase.split_once(':').expect("RATE:MILLISECONDS"))

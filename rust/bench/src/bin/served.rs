@@ -1,8 +1,8 @@
-//! A server whose requests have a given length, and its client.
+//! A server whose requests take a given time, and its client.
 //!
 //! `served EXECUTOR CORES [policy [SOCKET PRIORITY]]` is the server, on arachne or tokio; SOCKET and PRIORITY are for
 //! an arbiter. The server prints its port, and with `policy` a line at each change of the active cores. The server ends
-//! with its standard input.
+//! when its standard input ends.
 //!
 //! `served client PORT CONNECTIONS IN-FLIGHT MICROS MILLISECONDS` keeps IN-FLIGHT requests in flight per connection.
 //! `served offer PORT RATE MICROS MILLISECONDS` sends each of RATE requests a second when it is due, on 32 connections.
@@ -12,7 +12,7 @@ use std::sync::atomic::{AtomicU64, Ordering::Relaxed};
 use std::thread;
 use std::time::{Duration, Instant, SystemTime};
 
-/// The number of bytes of a request, and of its answer. Each has the time at which the request was due, and the
+/// The length of a request, and of its answer, in bytes. Each contains the time at which the request was due, and the
 /// microseconds that its work takes.
 const SIZE: usize = 16;
 
@@ -23,12 +23,12 @@ fn spin(time: Duration) {
     }
 }
 
-/// Returns the milliseconds of a clock that two processes share.
+/// Returns the milliseconds of a clock that is the same for two processes.
 fn clock() -> f64 {
     SystemTime::now().duration_since(SystemTime::UNIX_EPOCH).unwrap().as_micros() as f64 / 1e3
 }
 
-/// Serves each complete request of `buffer`. Returns the length of these requests in bytes.
+/// Serves each complete request in `buffer`. Returns the length of these requests in bytes.
 fn serve(buffer: &[u8]) -> usize {
     for request in buffer.chunks_exact(SIZE) {
         spin(Duration::from_micros(u64::from_le_bytes(request[8..].try_into().unwrap())));
@@ -113,8 +113,8 @@ fn connect(port: u16) -> TcpStream {
     stream
 }
 
-/// Keeps `flight` requests in flight on each connection for `time`. Each connection has a kernel thread of the client,
-/// which sends a request for each answer.
+/// Keeps `flight` requests unanswered on each connection, for `time`. The client has a kernel thread for each
+/// connection, which sends a new request for each answer.
 fn client(port: u16, connections: u64, flight: usize, micros: u64, time: Duration) {
     static ANSWERED: AtomicU64 = AtomicU64::new(0);
     static SENT: AtomicU64 = AtomicU64::new(0);

@@ -1,6 +1,6 @@
-//! An echo beside tasks that yield for ever: `yields EXECUTOR CORES [TASKS]`, on arachne or tokio. TASKS (by default
-//! one per core) yield while 8 connections each send a byte and wait for it, for two seconds. Prints the round-trip
-//! times.
+//! An echo server beside tasks that yield for ever: `yields EXECUTOR CORES [TASKS]`, on arachne or tokio. TASKS (by
+//! default one per core) yield while 8 connections each send a byte and wait for it, for two seconds. Prints the times
+//! of these round trips.
 use std::io::{Read, Write};
 use std::net::SocketAddr;
 use std::sync::atomic::{AtomicBool, Ordering::Relaxed};

@@ -1,4 +1,5 @@
-//! A page of HTTP/1.1 on 127.0.0.1, kept alive: `http CORES PORT`. The server ends when its standard input ends.
+//! A server of one page by HTTP/1.1 on 127.0.0.1, with kept-alive connections: `http CORES PORT`. The server ends when
+//! its standard input ends.
 use arachne::net::{TcpListener, TcpStream};
 use examples::{wait_for_end, Arguments, Buffer};
 use std::io;
@@ -6,7 +7,8 @@ use std::io;
 const PAGE: &[u8] = b"HTTP/1.1 200 OK\r\nContent-Type: text/plain\r\nContent-Length: 14\r\n\r\nHello, world!\n";
 const BAD: &[u8] = b"HTTP/1.1 400 Bad Request\r\nContent-Length: 0\r\nConnection: close\r\n\r\n";
 
-/// Returns the length of the first request's head. Requests with a body are refused.
+/// Returns the length of the first request's head, or None if the head is incomplete. The error is for requests other
+/// than GET, which are refused.
 fn head(bytes: &[u8]) -> Option<Result<usize, ()>> {
     let end = bytes.windows(4).position(|w| w == b"\r\n\r\n")? + 4;
     Some(if bytes.starts_with(b"GET ") { Ok(end) } else { Err(()) })
@@ -47,7 +49,7 @@ fn main() -> io::Result<()> {
             match listener.accept().await {
                 Ok((stream, _)) => drop(arachne::spawn_balanced(async move { connection(stream).await })),
                 Err(_) if arachne::is_stopping() => return,
-                // Out of descriptors, or a client that has gone: the next client may be accepted.
+                // Descriptors have run out, or the client has gone: the next client may be accepted.
                 Err(_) => arachne::sleep(std::time::Duration::from_millis(10)).await,
             }
         }

@@ -1,9 +1,10 @@
-//! GET, SET, INCR, DEL and PING of Redis's protocol on 127.0.0.1: `redis CORES PORT [policy [SOCKET PRIORITY]]`.
+//! A server on 127.0.0.1 for GET, SET, INCR, DEL and PING of Redis's protocol:
+//! `redis CORES PORT [policy [SOCKET PRIORITY]]`.
 //!
-//! The server ends at SIGTERM or when its standard input ends. The commands that it has read until then are answered
+//! The server ends at SIGTERM or when its standard input ends. The commands that it has read by then are answered
 //! within a second, and the server prints how many commands it has accepted, and how many of them it has answered. With
-//! `policy` the active cores follow the load, and a line each 10 ms says how many cores are active. SOCKET and PRIORITY
-//! belong to an arbiter.
+//! `policy`, the number of active cores follows the load, and every 10 ms the server prints that number. SOCKET and
+//! PRIORITY are those of an arbiter.
 use arachne::net::{TcpListener, TcpStream};
 use examples::{wait_for_end, Arguments, Buffer, Store};
 use std::io;
@@ -12,10 +13,10 @@ use std::sync::mpsc::{channel, Receiver};
 use std::sync::Arc;
 use std::time::{Duration, Instant};
 
-/// The commands that were accepted, and those that were answered, of connections that have ended.
+/// The number of commands that were accepted, and the number that were answered, on connections that have ended.
 static COMMANDS: [AtomicU64; 2] = [AtomicU64::new(0), AtomicU64::new(0)];
 
-/// Answers commands until the other side closes, or the runtime's end begins.
+/// Answers commands until the other side closes the connection, or the runtime's end begins.
 async fn answer(stream: &TcpStream, store: &Store, counts: &mut [u64; 2]) -> io::Result<()> {
     let (mut buffer, mut out, mut end) = (Buffer::new(), Vec::new(), arachne::stopping());
     while !arachne::is_stopping() {
@@ -46,7 +47,7 @@ async fn connection(stream: TcpStream, store: Arc<Store>) -> io::Result<()> {
         all.fetch_add(count, SeqCst);
     }
     answered?;
-    // Commands that arrive now are not accepted, but still read: a socket closed with unread bytes loses the last
+    // Commands that arrive now are still read, but not accepted: closing a socket with unread bytes would lose the last
     // answers.
     stream.shutdown(std::net::Shutdown::Write)?;
     let mut rest = [0; 4096];
@@ -64,7 +65,7 @@ async fn accept(listener: TcpListener, store: Arc<Store>) {
                 });
             }
             Err(_) if arachne::is_stopping() => return,
-            // Out of descriptors, or a client that has gone: the next client may be accepted.
+            // Descriptors have run out, or the client has gone: the next client may be accepted.
             Err(_) => arachne::sleep(std::time::Duration::from_millis(10)).await,
         }
     }

@@ -6,7 +6,7 @@
 //! - overload: requests of 100 us at 0.8, 1, 1.2 and 2 times the rate that the cores can serve, behind a limit of
 //!   concurrent requests (a third word; one more than there are cores if there is none).
 //! - blocking: 10,000 requests of 5 us a second, while a task on each of four workers blocks for 100 ms.
-//! - waiting: a million tasks that wait: the bytes per task, and the time of a ping-pong with these tasks and without.
+//! - waiting: a million tasks that wait: the bytes per task, and the time of a ping-pong with and without these tasks.
 //! - drain: SIGTERM to the server `redis` beside this program, under load and after a million answers.
 use arachne::net::{TcpListener, TcpStream};
 use arachne::{Builder, Limit, Lock, Runtime};
@@ -17,8 +17,9 @@ use std::task::{Poll, Waker};
 use std::thread;
 use std::time::{Duration, Instant};
 
-/// The bytes of a message. A request has the time at which it was due, in nanoseconds since the trial began, and the
-/// microseconds that it takes. An answer has the request's time, and whether the request was accepted.
+/// The length of a message in bytes. A request contains the time at which it was due, in nanoseconds since the trial
+/// began, and the microseconds that its work takes. An answer contains the request's time, and says whether the request
+/// was accepted.
 const SIZE: usize = 16;
 
 fn spin(time: Duration) {
@@ -32,7 +33,7 @@ async fn request(bytes: [u8; SIZE], out: Arc<Lock<Arc<TcpStream>>>, ticket: Opti
     let mut answer = bytes;
     let micros = u64::from_le_bytes(bytes[8..].try_into().unwrap());
     if ticket.is_some() {
-        // Requests that have arrived are read, and refused, before a request that takes long begins.
+        // Requests that have arrived are read, and refused, before the work of this request begins.
         arachne::yield_now().await;
         spin(Duration::from_micros(micros));
     }
@@ -142,7 +143,7 @@ impl Client {
     }
 }
 
-/// Sends `rate` requests a second, each when it is due, whether or not earlier requests were answered.
+/// Sends `rate` requests a second, each when it is due, even if earlier requests aren't answered yet.
 fn offer(at: std::net::SocketAddr, rate: f64, micros: u64, time: Duration) -> Answers {
     let mut clients: Vec<_> = (0..32).map(|_| Client::new(at)).collect();
     let (start, mut answers, mut back) = (Instant::now(), Answers::default(), 0);
@@ -167,7 +168,7 @@ fn offer(at: std::net::SocketAddr, rate: f64, micros: u64, time: Duration) -> An
     answers
 }
 
-/// Resident memory of this process, in kB.
+/// Returns the resident memory of this process, in kB.
 fn resident() -> u64 {
     let text = std::fs::read_to_string("/proc/self/statm").unwrap();
     text.split(' ').nth(1).unwrap().parse::<u64>().unwrap() * 4
@@ -212,7 +213,7 @@ fn blocking() {
         let in_polls = begun.clone();
         let task = runtime.spawn_named(&format!("blocks-{i}"), async move {
             in_polls.fetch_add(1, SeqCst);
-            // Until all four tasks are in their polls, so that each has a worker.
+            // Waits until all four tasks are in their polls, so that each has a worker.
             wait_for(&in_polls, 4);
             thread::sleep(Duration::from_millis(100));
         });
@@ -324,7 +325,8 @@ fn waiting(cores: usize) {
     println!("all were woken and have ended after {:?}", start.elapsed());
 }
 
-/// Sends commands with 64 in flight until the server closes. Returns the number answered on this connection and in all.
+/// Sends commands, 64 at a time, until the server closes the connection. Returns the number that were answered on this
+/// connection, and adds it to `all`.
 fn ask(port: u16, all: &AtomicU64) -> u64 {
     let mut stream = std::net::TcpStream::connect(("127.0.0.1", port)).unwrap();
     stream.set_nodelay(true).unwrap();
@@ -332,7 +334,7 @@ fn ask(port: u16, all: &AtomicU64) -> u64 {
     let mut bytes = [0; 4096];
     loop {
         if rest == 0 {
-            // The server may read no more: then its last answers are there, and the connection's end.
+            // If the server reads no more, only its last answers and the connection's end are left to read.
             rest = 64;
             let _ = stream.write_all(commands.as_bytes());
         }
@@ -346,7 +348,7 @@ fn ask(port: u16, all: &AtomicU64) -> u64 {
     }
 }
 
-/// SIGTERM to a server of 50 connections with 64 commands in flight, after a million answers.
+/// Sends SIGTERM to a server with 50 connections of 64 commands in flight each, after a million answers.
 fn drain(cores: usize) {
     let program = std::env::current_exe().unwrap().with_file_name("redis");
     let port = std::net::TcpListener::bind("127.0.0.1:0").unwrap().local_addr().unwrap().port();
@@ -381,7 +383,7 @@ fn drain(cores: usize) {
     assert_eq!(line.trim(), format!("accepted {answered} answered {answered} aborted 0"));
 }
 
-/// The work of one task of `soak`.
+/// Does the work of one task of `soak`, of the kind `what`.
 async fn soaked(what: u64, lock: Arc<Lock<u64>>, done: Arc<AtomicU64>) {
     match what {
         0 => arachne::yield_now().await,
@@ -395,7 +397,7 @@ async fn soaked(what: u64, lock: Arc<Lock<u64>>, done: Arc<AtomicU64>) {
     done.fetch_add(1, Relaxed);
 }
 
-/// Runs tasks of eight kinds, 10,000 at once, for `seconds`. Prints their count and the resident memory each 30 s.
+/// Runs tasks of eight kinds, 10,000 at once, for `seconds`. Every 30 s, prints their count and the resident memory.
 fn soak(cores: usize, seconds: u64) {
     let runtime = Runtime::new(cores);
     let (lock, done) = (Arc::new(Lock::new(0)), Arc::new(AtomicU64::new(0)));
@@ -422,7 +424,7 @@ fn soak(cores: usize, seconds: u64) {
         }
     }
     let time = start.elapsed();
-    // Whoever waits for a task may be notified before the task's worker has put it back.
+    // The handle of a task may be woken before the task's worker has put the task back.
     (0..1000).take_while(|_| runtime.live() != 0).for_each(|_| thread::sleep(Duration::from_millis(1)));
     println!("{} tasks in {time:?}, live at the end {}", total * 9 / 8, runtime.live());
 }
