@@ -1,10 +1,5 @@
-<<<<<<< ours
 //! Runs a program on the cores that the command line asks for.
 ghost use Rattle.std.specs.Prelude.{◌≡◌, ◌≤◌, IfOk, IfErr, IsOk};
-=======
-//! Runs a program with the settings that the command line gives.
-ghost use Rattle.std.specs.Prelude.{◌≡◌, ◌≤◌, true, IfOk, IfErr, IsOk, None, Some, Err, length, vec_len};
->>>>>>> theirs
 ghost use Rattle.arachne_core.specs.declared.layout.TheConstants.{CORES};
 ghost use Rattle.arachne_lang.specs.Program.{source_of};
 ghost use Rattle.arachne_lang.specs.Meaning.{meaning_of};
@@ -42,43 +37,7 @@ pub fn run_program<'p, R: Threads + Wait + Clock + Sync>(
     )
 }
 
-<<<<<<< ours
-/// Returns the setup of a run with these settings, and the random generators of its cores.
-=======
-/// Runs `program` as `run` does, with a table of atomic words.
-///
-/// This function fixes only the type of the table, and its caller only the type of the jobs. A call of `run` that fixes
-/// both is too much for the prover.
-fn run_on_words<
-    'p,
-    H: Threads + Wait + Clock + Sync,
-    T: JobOf<'p> + Send,
-    R: Rng + Drop + Send,
-    G: Gate + Sync,
->(
-    rt: &H,
-    alloc: Global,
-    program: &'p Program,
-    setup: Setup,
-    choosers: Vec<R>,
-    gate: &G,
-) -> Result<Report, RunFault>
-where
-    T::Child: Send,
-    T::Ticket: Send,
-    T::Spares: Send,
-    requires { IsChecked (source_of program.now) }
-    ensures report { IfOk result (IsReportOf program.now (length setup.orders.items)) }
-    ensures refused { (fault : RunFault) → refusal_in setup (vec_len choosers) ≡ Some fault → result ≡ Err fault }
-    ensures of_setup { IfErr result (λ fault. is_of_setup fault ≡ true → IsSetupFault setup.cores setup.quantum setup.slots (vec_len choosers) setup.orders.items fault) }
-    ensures in_order { IsOk result → AreInOrder setup.cores setup.orders.items }
-    ensures order_refused { refusal_in setup (vec_len choosers) ≡ None → (AreInOrder setup.cores setup.orders.items → ⊥) → IfErr result (IsFirstOrderFault setup.cores setup.orders.items) }
-{
-    run::<H, T, WordContexts<T>, R, G>(rt, alloc, program, setup, choosers, gate)
-}
-
 /// Returns the setup of a run with these settings, and a random generator for each core.
->>>>>>> theirs
 fn set_up(
     alloc: Global,
     settings: RunSettings,

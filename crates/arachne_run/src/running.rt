@@ -78,10 +78,10 @@ where
     Ok(report)
 }
 
-/// Runs a program as `run` does, over a table on atomic words.
+/// Runs `program` as `run` does, with a table of atomic words.
 ///
-/// Its caller names the type of the jobs only: a call of `run` that names both types takes the prover more steps than
-/// it allows.
+/// A call of `run` that fixes both the type of the table and that of the jobs is too much for the prover. So this
+/// function fixes the first, and its caller the second.
 pub fn run_on_words<
     'p,
     H: Threads + Wait + Clock + Sync,
