@@ -2,7 +2,7 @@
 //!
 //! Only this module and `forking` call the table while threads run. Between two calls, one seat has the thread in hand,
 //! the other has the places that the worker keeps for later children, and neither has anything else.
-ghost use Rattle.std.specs.Prelude.{ℕ, ◌≡◌, ◌≢◌, ◌↔◌, ◌==◌, ◌<◌, if◌then◌else◌, false, true, IfOk, IsSome, IsTrue, MatchOption, None, OnOk, Some, map};
+ghost use Rattle.std.specs.Prelude.{ℕ, ◌≡◌, ◌≢◌, ◌↔◌, ◌==◌, ◌<◌, ◌≤◌, if◌then◌else◌, false, true, IfOk, IsSome, IsTrue, MatchOption, None, OnOk, Some, map};
 ghost use Rattle.arachne_arbiter.specs.KernelThreads.{parked_cores};
 ghost use Rattle.arachne_arbiter.specs.Orders.{HasAppliedDue};
 ghost use Rattle.arachne_contexts.specs.Out.{Claim as a_claim, KeepsOut};
@@ -198,7 +198,8 @@ impl<'a, H: Wait + Clock, T: RunJob, C: Contexts<T>, R: Rng + Drop, G: Gate> Des
     }
 
     fn quantum(&self) -> u32
-        ensures { result ≡ self.now.quantum }
+        ensures same { result ≡ self.now.quantum }
+        ensures most { result ≤ self.now.quantum }
     {
         self.machine.quantum
     }
