@@ -1,8 +1,4 @@
 //! Tests of texts that are read and printed, and of limits.
-ghost use Rattle.std.specs.Prelude.{◌≤◌};
-ghost use Rattle.arachne_lang.specs.Program.{tree_of};
-ghost use Rattle.arachne_lang.specs.Nesting.{nesting};
-
 use arachne_lang::{CheckFault, Expr, Operation, Program, TextFault, check, parse, print};
 use std::alloc::{AllocError, Global};
 
@@ -21,20 +17,13 @@ locks 10\n\
     b"arachne 1\nledgers 3\nlocks 4\n(xor (num 18446744073709551615) (len 18446744073709551615))\n",
 ];
 
-/// Returns whether a program is printed as `text`.
-fn is_printed_as(alloc: Global, program: &Program, text: &[u8]) -> Result<bool, TextFault>
-    requires { nesting (tree_of program.now.root) ≤ 64 }
-{
-    match print(alloc, program) {
-        Ok(printed) => Ok(printed.as_slice() == text),
-        Err(_) => Err(TextFault::Memory),
-    }
-}
-
 /// Returns whether a text is printed as it was read, or its fault.
 fn is_read_and_printed(alloc: Global, text: &[u8]) -> Result<bool, TextFault> {
     let program = parse(alloc, text)?;
-    is_printed_as(alloc, &program, text)
+    match print(alloc, &program) {
+        Ok(printed) => Ok(printed.as_slice() == text),
+        Err(_) => Err(TextFault::Memory),
+    }
 }
 
 /// The test passes too if each allocation is refused in turn: a refusal is no fault of the text, and changes nothing for

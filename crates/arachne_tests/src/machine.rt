@@ -102,13 +102,20 @@ fn threads_are_told(rt: HostRuntime) {
     assert!(rt; first_wrong(rt.alloc(), false) == None);
 }
 
+/// Returns whether there is a text, and it is the expected one.
+fn is_text(text: Option<String>, expected: &str) -> bool {
+    match text {
+        Some(text) => text.as_str() == expected,
+        None => false,
+    }
+}
+
 /// A sum and its two numbers are begun by three steps; the last adds the numbers and ends.
 #[test]
 fn a_budget_is_used_up_before_the_end(rt: HostRuntime) {
     let mut round = Round::new(Way::AtFork, 1);
     let text = told_of(rt.alloc(), 0, "(add (num 1) (num 2))", &mut round, false);
-    assert!(rt; matches!(text, Some(text) if text.as_str() == "3 [] []9-[]"));
-    assert!(rt; round.budgets == 2);
+    assert!(rt; is_text(text, "3 [] []9-[]") && round.budgets == 2);
 }
 
 /// Three children, one after the other, each of which joins 130 children one after the other, of 1,010 threads each.

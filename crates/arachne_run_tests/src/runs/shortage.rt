@@ -8,7 +8,7 @@ use super::facts::Fact;
 use super::facts::Fact::Value;
 use super::places::CHAIN;
 use super::rows::Orders::Listed;
-use super::rows::{FORMS, Machine, ROW, Row, program_of, run_row, wrong_fact};
+use super::rows::{Machine, ROW, Row, program_of, run_row, wrong_fact};
 use crate::choosers::SPREAD;
 use crate::gates::Watch;
 use arachne_lang::Program;
@@ -40,7 +40,6 @@ const SLACK: usize = 200_000;
 /// One fork on four cores.
 const FORK: Row = Row {
     expr: "(fork n (num 2) (num 3) (sub (var 0) (var 1)))",
-    forms: &[Form::Words],
     machines: (&[4], &[100]),
     draws: SPREAD,
     facts: &[(Value, u64::MAX), (Fact::Threads, 2)],
@@ -78,12 +77,10 @@ const ON_FOUR: &[Row] = &[
 /// Rows on one core.
 const ON_ONE: &[Row] = &[
     Row {
-        forms: FORMS,
         machines: (&[1], &[100]),
         ..FORK
     },
     Row {
-        forms: FORMS,
         machines: (&[1], &[100]),
         ..HOLDS
     },
@@ -216,19 +213,17 @@ fn row_ends<R: Threads + Wait + Clock + Sync>(
     Err(Fail::new(format_args!("{machine:?}: {before} {runs} {came:?} {again} {behind}")))
 }
 
-/// Runs each row's program over each of its forms on each of its machines, with and without memory.
+/// Runs each row's program over a form of table on each of its machines, with and without memory.
 fn rows_end<R: Threads + Wait + Clock + Sync>(
     rt: &R,
     alloc: Global,
     rows: &[Row],
-    last: Tried,
+    form: Form,
 ) -> Result<(), Fail> {
     for row in rows {
-        for &form in row.forms {
-            for &cores in row.machines.0 {
-                for &quantum in row.machines.1 {
-                    row_ends(rt, alloc, row, (form, cores, quantum), last)?;
-                }
+        for &cores in row.machines.0 {
+            for &quantum in row.machines.1 {
+                row_ends(rt, alloc, row, (form, cores, quantum), WELL)?;
             }
         }
     }
@@ -237,12 +232,17 @@ fn rows_end<R: Threads + Wait + Clock + Sync>(
 
 #[test]
 fn each_growth_is_refused_on_four_cores(rt: HostRuntime) -> Result<(), Fail> {
-    rows_end(&rt, rt.alloc(), ON_FOUR, WELL)
+    rows_end(&rt, rt.alloc(), ON_FOUR, Form::Words)
 }
 
 #[test]
-fn each_growth_is_refused_on_one_core(rt: HostRuntime) -> Result<(), Fail> {
-    rows_end(&rt, rt.alloc(), ON_ONE, WELL)
+fn each_growth_is_refused_on_words(rt: HostRuntime) -> Result<(), Fail> {
+    rows_end(&rt, rt.alloc(), ON_ONE, Form::Words)
+}
+
+#[test]
+fn each_growth_is_refused_behind_a_lock(rt: HostRuntime) -> Result<(), Fail> {
+    rows_end(&rt, rt.alloc(), ON_ONE, Form::Locked)
 }
 
 /// The first run of the process has no memory for the stack of a kernel thread, and the next one has.
