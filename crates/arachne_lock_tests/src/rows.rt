@@ -44,38 +44,7 @@ const ROWS: &[Row] = &[
     (Call::Free, 1, 8, ("freed", 2, None)),
 ];
 
-fn told_ask(asked: Result<Admitted, AskRefusal>) -> Answer {
-    match asked {
-        Ok(Admitted::Granted { at }) => ("granted", at, None),
-        Ok(Admitted::Queued { at }) => ("queued", at, None),
-        Err(AskRefusal::AlreadyIn) => ("already in", 0, None),
-        Err(AskRefusal::Memory) => ("no memory", 0, None),
-    }
-}
-
-fn told_free(freed: Result<Released, NotOwner>) -> Answer {
-    match freed {
-        Ok(Released { next, at }) => ("freed", at, next),
-        Err(NotOwner) => ("not its holder", 0, None),
-    }
-}
-
-fn told_withdraw(withdrawn: Withdrawn) -> Answer {
-    match withdrawn {
-        Withdrawn::Left { at } => ("left", at, None),
-        Withdrawn::Holds { at } => ("holds", at, None),
-        Withdrawn::Outside => ("outside", 0, None),
-    }
-}
-
-fn told_check(checked: Option<u64>) -> Answer {
-    match checked {
-        Some(at) => ("holds", at, None),
-        None => ("outside", 0, None),
-    }
-}
-
-/// Returns the result of a call, or `None` if another call was using the lock.
+/// Returns the result of a call, or `None` if another call was using the lock or memory was refused.
 fn answer_to(
     locks: &Locks,
     seat: &mut LockSetSeat,
@@ -88,19 +57,25 @@ fn answer_to(
 {
     match call {
         Call::Ask => match locks.ask(seat, lock, who) {
-            Attempt::Answered(asked) => Some(told_ask(asked)),
-            Attempt::Contended => None,
+            Attempt::Answered(Ok(Admitted::Granted { at })) => Some(("granted", at, None)),
+            Attempt::Answered(Ok(Admitted::Queued { at })) => Some(("queued", at, None)),
+            Attempt::Answered(Err(AskRefusal::AlreadyIn)) => Some(("already in", 0, None)),
+            Attempt::Answered(Err(AskRefusal::Memory)) | Attempt::Contended => None,
         },
         Call::Check => match locks.check(seat, lock, who) {
-            Attempt::Answered(checked) => Some(told_check(checked)),
+            Attempt::Answered(Some(at)) => Some(("holds", at, None)),
+            Attempt::Answered(None) => Some(("outside", 0, None)),
             Attempt::Contended => None,
         },
         Call::Free => match locks.free(seat, lock, who) {
-            Attempt::Answered(freed) => Some(told_free(freed)),
+            Attempt::Answered(Ok(Released { next, at })) => Some(("freed", at, next)),
+            Attempt::Answered(Err(NotOwner)) => Some(("not its holder", 0, None)),
             Attempt::Contended => None,
         },
         Call::Withdraw => match locks.withdraw(seat, lock, who) {
-            Attempt::Answered(withdrawn) => Some(told_withdraw(withdrawn)),
+            Attempt::Answered(Withdrawn::Left { at }) => Some(("left", at, None)),
+            Attempt::Answered(Withdrawn::Holds { at }) => Some(("holds", at, None)),
+            Attempt::Answered(Withdrawn::Outside) => Some(("outside", 0, None)),
             Attempt::Contended => None,
         },
     }

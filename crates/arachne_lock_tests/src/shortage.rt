@@ -1,11 +1,11 @@
 //! Locks without memory: a free lock can be held and freed, and each refused ask for a lock that has a holder leaves
 //! the lock as it was.
-ghost use Rattle.std.specs.Prelude.{◌≡◌, ◌<◌, IfOk};
+ghost use Rattle.std.specs.Prelude.{◌<◌};
 ghost use Rattle.arachne_lock.specs.Views.{IsSeatOf, IsLockAt};
 
 use arachne_lock::{Admitted, AskRefusal, Attempt, LockSetSeat, Locks, Released, Withdrawn};
 use arachne_shortage::Hoard;
-use std::alloc::{AllocError, Global};
+use std::alloc::AllocError;
 
 /// The bytes that the test gives back after a refusal: so few that the next growth of the same call is refused too.
 const FEW: usize = 40;
@@ -74,20 +74,9 @@ fn all_free(locks: &Locks, seat: &mut LockSetSeat, lock: usize) -> u64
     freed
 }
 
-// Under `rt try --test --fail-alloc N` the Nth allocation is refused. A call that fails because of this is repeated
-// once.
-fn make(alloc: Global) -> Result<(Locks, LockSetSeat), AllocError>
-    ensures { IfOk result (λ made. IsSeatOf made.0 made.1 × (made.0.count ≡ 1)) }
-{
-    match Locks::new(alloc, 1) {
-        Ok(made) => Ok(made),
-        Err(_) => Locks::new(alloc, 1),
-    }
-}
-
 #[test]
 fn a_free_lock_takes_no_memory_and_a_wanted_one_stays(rt: HostRuntime) -> Result<(), AllocError> {
-    let (locks, mut seat) = make(rt.alloc())?;
+    let (locks, mut seat) = Locks::new(rt.alloc(), 1)?;
     let mut hoard = Hoard::take(rt.alloc())?;
     let is_free = is_held_and_freed(&locks, &mut seat, 0);
     let refused = all_ask(&locks, &mut seat, 0, &mut hoard);

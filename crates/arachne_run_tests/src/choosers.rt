@@ -5,52 +5,43 @@ ghost use Rattle.rand_core.specs.Steps.{stream_of, steps_u64_high};
 use rand_core::Rng;
 use rand_core::utils::{NextWord, fill_bytes_via_u64};
 
-/// The words that the choosers (random generators) of a test's run draw.
+/// The words that the choosers (random generators) of a test's run draw, in three numbers.
+///
+/// These are the first word of core 0's chooser; the difference between a chooser's word and its previous one; and the
+/// difference between the first word of a core's chooser and that of the previous core's. All are modulo 2^64.
 #[derive(Clone, Copy)]
-pub struct Draws {
-    /// The first word of core 0's chooser.
-    pub word: u64,
-    /// The difference between a chooser's word and its previous one, modulo 2^64.
-    pub step: u64,
-    /// The difference between the first word of a core's chooser and that of the previous core's, modulo 2^64.
-    pub apart: u64,
-}
+pub struct Draws(pub u64, pub u64, pub u64);
+
+/// The word by which both choices of a fork are core 1: one choice is the low half of a word, the other the high half.
+///
+/// Added to a word, it adds 1 to both choices.
+pub const ONE_EACH: u64 = 0x0000_0001_0000_0001;
 
 /// All choosers always draw 0.
-pub const ZEROS: Draws = Draws {
-    word: 0,
-    step: 0,
-    apart: 0,
-};
+pub const ZEROS: Draws = Draws(0, 0, 0);
 
-/// Both choices of a fork are core 1. The first choice is the low half of a drawn word, the second choice the high
-/// half.
-pub const CORE_ONE: Draws = Draws {
-    word: 0x0000_0001_0000_0001,
-    step: 0,
-    apart: 0,
-};
+/// Both choices of each fork are core 1.
+pub const CORE_ONE: Draws = Draws(ONE_EACH, 0, 0);
 
-/// Both choices of a fork are core 3.
-pub const CORE_THREE: Draws = Draws {
-    word: 0x0000_0003_0000_0003,
-    step: 0,
-    apart: 0,
-};
+/// Both choices of each fork are core 3.
+pub const CORE_THREE: Draws = Draws(3 * ONE_EACH, 0, 0);
+
+/// The choices of a core's successive forks are cores 1, 2, 3 and so on.
+pub const IN_TURN: Draws = Draws(ONE_EACH, ONE_EACH, 0);
 
 /// The choosers spread forks over the cores.
-pub const SPREAD: Draws = Draws {
-    word: 0x9E37_79B9_7F4A_7C15,
-    step: 0xBF58_476D_1CE4_E5B9,
-    apart: 0x94D0_49BB_1331_11EB,
-};
+pub const SPREAD: Draws = Draws(
+    0x9E37_79B9_7F4A_7C15,
+    0xBF58_476D_1CE4_E5B9,
+    0x94D0_49BB_1331_11EB,
+);
 
 impl Draws {
     /// Returns the chooser of a core.
     pub fn of(self, core: u64) -> Progression {
         Progression {
-            word: self.word.wrapping_add(self.apart.wrapping_mul(core)),
-            step: self.step,
+            word: self.0.wrapping_add(self.2.wrapping_mul(core)),
+            step: self.1,
         }
     }
 }

@@ -99,6 +99,29 @@ pub struct Watch {
     failed: AtomicU64,
 }
 
+fn get(word: &AtomicU64) -> u64 {
+    word.load(Ordering::SeqCst)
+}
+
+fn set(word: &AtomicU64) {
+    word.store(1, Ordering::SeqCst);
+}
+
+fn count(word: &AtomicU64) {
+    word.fetch_add(1, Ordering::SeqCst);
+}
+
+/// Returns whether the word is at least `wanted` after at most `polls` polls.
+fn comes(word: &AtomicU64, wanted: u64, polls: u32) -> bool {
+    for _ in 0..polls {
+        if get(word) >= wanted {
+            return true;
+        }
+        yield_now();
+    }
+    false
+}
+
 impl Watch {
     pub fn new(watching: Watching) -> Watch {
         Watch {
@@ -126,18 +149,16 @@ impl Watch {
             Watching::Stopping(_) | Watching::Parked(_, _) => (0, 1),
             _ => (1, 1),
         };
-        self.zero.load(Ordering::SeqCst) >= zero
-            && self.one.load(Ordering::SeqCst) >= one
-            && self.failed.load(Ordering::SeqCst) == 0
+        get(&self.zero) >= zero && get(&self.one) >= one && get(&self.failed) == 0
     }
 
     /// Returns whether no recorded slice begins during `LOOKS` yields.
     pub fn is_still(&self) -> bool {
-        let before = self.slices.load(Ordering::SeqCst);
+        let before = get(&self.slices);
         for _ in 0..LOOKS {
             yield_now();
         }
-        self.slices.load(Ordering::SeqCst) == before
+        get(&self.slices) == before
     }
 
     /// Records that a core has entered a slice.
@@ -146,13 +167,13 @@ impl Watch {
             self.entered
                 .fetch_or(1 << u32::from(core), Ordering::SeqCst);
         }
-        self.slices.fetch_add(1, Ordering::SeqCst);
+        count(&self.slices);
     }
 
     /// Waits until the other core's word is at least `wanted`. Records a failure after `POLLS` polls.
     fn wait(&self, other: &AtomicU64, wanted: u64) {
         if !comes(other, wanted, POLLS) {
-            self.failed.store(1, Ordering::SeqCst);
+            set(&self.failed);
         }
     }
 
@@ -160,18 +181,16 @@ impl Watch {
     fn enter_zero(&self, nth: u64) {
         match self.watching {
             Watching::Meeting(own, _) if nth == own => {
-                self.zero.store(1, Ordering::SeqCst);
+                set(&self.zero);
                 self.wait(&self.one, 1);
             }
             Watching::Holding(wanted) if nth.saturating_add(1) == wanted => self.wait(&self.one, 1),
-            Watching::Holding(wanted) if nth == wanted => self.zero.store(1, Ordering::SeqCst),
-            Watching::Lead(_) => {
-                self.zero.fetch_add(1, Ordering::SeqCst);
-            }
+            Watching::Holding(wanted) if nth == wanted => set(&self.zero),
+            Watching::Lead(_) => count(&self.zero),
             Watching::First if nth == 0 => {
                 for _ in 0..SPINS {
-                    if self.one.load(Ordering::SeqCst) > 0 {
-                        self.failed.store(1, Ordering::SeqCst);
+                    if get(&self.one) > 0 {
+                        set(&self.failed);
                     }
                     spin_loop();
                 }
@@ -192,12 +211,12 @@ impl Watch {
             Watching::Stopping(_) if nth == 0 => self.wait(&self.slices, 1),
             Watching::Emptied(_, held) if nth >= held => self.empties(nth == held),
             Watching::Granting(_, wanted) if nth == wanted => {
-                self.zero.store(1, Ordering::SeqCst);
+                set(&self.zero);
                 self.wait(&self.one, 1);
             }
             Watching::Parking(rest) if nth == rest.wrapping_add(4) => {
-                self.slices.fetch_add(1, Ordering::SeqCst);
-                self.zero.store(1, Ordering::SeqCst);
+                count(&self.slices);
+                set(&self.zero);
                 self.wait(&self.one, 1);
             }
             _ => {}
@@ -209,9 +228,9 @@ impl Watch {
     fn empties(&self, is_first: bool) {
         if is_first {
             self.wait(&self.ended, 1);
-            self.slices.store(1, Ordering::SeqCst);
+            set(&self.slices);
         }
-        if self.zero.load(Ordering::SeqCst) == 0 {
+        if get(&self.zero) == 0 {
             yield_now();
         } else {
             self.wait(&self.one, 1);
@@ -223,27 +242,27 @@ impl Watch {
         match self.watching {
             Watching::Meeting(_, theirs) => {
                 if nth == theirs {
-                    self.one.store(1, Ordering::SeqCst);
+                    set(&self.one);
                 }
                 self.wait(&self.zero, 1);
             }
             Watching::First | Watching::Holding(_) | Watching::Granting(_, _) if nth == 0 => {
-                self.one.store(1, Ordering::SeqCst);
+                set(&self.one);
             }
             Watching::Applying(held) if nth == held => self.wait(&self.zero, 1),
             Watching::Lead(wanted) if nth == 0 => self.wait(&self.zero, wanted),
             Watching::Stopping(wanted) if nth < wanted => self.wait(&self.ended, 1),
             Watching::Stopping(wanted) if nth == wanted => {
-                self.one.store(1, Ordering::SeqCst);
+                set(&self.one);
                 self.wait(&self.zero, 1);
             }
-            Watching::Stopping(wanted) if nth > wanted => self.failed.store(1, Ordering::SeqCst),
+            Watching::Stopping(wanted) if nth > wanted => set(&self.failed),
             Watching::Anew(_) => {
                 if nth == 0 {
-                    self.slices.store(1, Ordering::SeqCst);
+                    set(&self.slices);
                     self.wait(&self.zero, 1);
-                } else if self.one.load(Ordering::SeqCst) == 0 {
-                    self.failed.store(1, Ordering::SeqCst);
+                } else if get(&self.one) == 0 {
+                    set(&self.failed);
                 }
                 self.one.store(0, Ordering::SeqCst);
             }
@@ -251,17 +270,45 @@ impl Watch {
             _ => {}
         }
     }
-}
 
-/// Returns whether the word is at least `wanted` after at most `polls` polls.
-fn comes(word: &AtomicU64, wanted: u64, polls: u32) -> bool {
-    for _ in 0..polls {
-        if word.load(Ordering::SeqCst) >= wanted {
-            return true;
+    /// Handles the end of a slice.
+    fn slice_ended(&self, core: u8, end: SliceEnd) {
+        match (self.watching, core) {
+            (Watching::ParksLast(_, _), 1) => match end {
+                SliceEnd::Ended => set(&self.zero),
+                SliceEnd::AwaitsChild => set(&self.one),
+                SliceEnd::GoesOn | SliceEnd::Awaits(_) => {}
+            },
+            (Watching::Emptied(emptied, _), _) if core == emptied => {
+                if end == SliceEnd::Ended && get(&self.slices) == 0 {
+                    set(&self.zero);
+                }
+                if end != SliceEnd::GoesOn {
+                    set(&self.ended);
+                }
+            }
+            (Watching::Holding(_), 1) => self.wait(&self.zero, 1),
+            (Watching::Stopping(_), 0) | (Watching::Parking(_), 1) => set(&self.ended),
+            _ => {}
         }
-        yield_now();
     }
-    false
+
+    /// Handles a park.
+    fn parks(&self, core: u8) {
+        match self.watching {
+            Watching::Parking(_) if core == 1 => {
+                self.entered.store(get(&self.slices), Ordering::SeqCst);
+                set(&self.one);
+            }
+            Watching::Granting(_, _) if core == 1 => set(&self.ended),
+            Watching::Stopping(_) => set(&self.slices),
+            Watching::Parked(wanted, _) | Watching::Emptied(wanted, _) if core == wanted => set(
+                &self.one,
+            ),
+            Watching::ParksLast(_, _) if core == 1 && get(&self.zero) == 0 => set(&self.failed),
+            _ => {}
+        }
+    }
 }
 
 impl Gate for Watch {
@@ -284,7 +331,7 @@ impl Gate for Watch {
             log.turn(core, id, is_alone);
         }
         if let (Watching::Anew(_), 1) = (self.watching, core) {
-            self.one.store(1, Ordering::SeqCst);
+            set(&self.one);
         }
     }
 
@@ -292,111 +339,27 @@ impl Gate for Watch {
         if let Some(log) = &self.log {
             log.told(core, event);
         }
-        match event {
-            WorkerEvent::Sliced(_, end) => self.slice_ended(core, end),
-            WorkerEvent::Spilled => self.spilled(),
-            WorkerEvent::Woken(_, cause) => self.woken(cause),
-            WorkerEvent::MovedAway(receivers) => self.moved_away(receivers),
-            WorkerEvent::Parks => self.parks(core),
-            WorkerEvent::Unparked => self.unparked(core),
-            WorkerEvent::Overslept => self.overslept(),
-            WorkerEvent::Applied(orders) => self.applied(orders),
-            _ => {}
-        }
-    }
-}
-
-impl Watch {
-    fn slice_ended(&self, core: u8, end: SliceEnd) {
-        match (self.watching, core) {
-            (Watching::ParksLast(_, _), 1) => match end {
-                SliceEnd::Ended => self.zero.store(1, Ordering::SeqCst),
-                SliceEnd::AwaitsChild => self.one.store(1, Ordering::SeqCst),
-                SliceEnd::GoesOn | SliceEnd::Awaits(_) => {}
-            },
-            (Watching::Emptied(emptied, _), _) if core == emptied => {
-                if end == SliceEnd::Ended && self.slices.load(Ordering::SeqCst) == 0 {
-                    self.zero.store(1, Ordering::SeqCst);
-                }
-                if end != SliceEnd::GoesOn {
-                    self.ended.store(1, Ordering::SeqCst);
-                }
-            }
-            (Watching::Holding(_), 1) => self.wait(&self.zero, 1),
-            (Watching::Stopping(_), 0) | (Watching::Parking(_), 1) => {
-                self.ended.store(1, Ordering::SeqCst);
-            }
-            _ => {}
-        }
-    }
-
-    fn spilled(&self) {
-        if let Watching::Spills = self.watching {
-            self.slices.fetch_add(1, Ordering::SeqCst);
-        }
-    }
-
-    fn woken(&self, cause: Cause) {
-        match (self.watching, cause) {
-            (Watching::Wakes, Cause::ChildEnded) => self.zero.store(1, Ordering::SeqCst),
-            (Watching::Wakes, Cause::IsServed) => self.one.store(1, Ordering::SeqCst),
-            _ => {}
-        }
-    }
-
-    fn moved_away(&self, receivers: u64) {
-        match self.watching {
-            Watching::Moving => {
+        match (event, self.watching) {
+            (WorkerEvent::Sliced(_, end), _) => self.slice_ended(core, end),
+            (WorkerEvent::Parks, _) => self.parks(core),
+            (WorkerEvent::Spilled, Watching::Spills) => count(&self.slices),
+            (WorkerEvent::Woken(_, Cause::ChildEnded), Watching::Wakes) => set(&self.zero),
+            (WorkerEvent::Woken(_, Cause::IsServed), Watching::Wakes) => set(&self.one),
+            (WorkerEvent::MovedAway(receivers), Watching::Moving) => {
                 self.entered.fetch_or(receivers, Ordering::SeqCst);
-                self.zero.store(1, Ordering::SeqCst);
+                set(&self.zero);
             }
-            Watching::Emptied(_, _) => {
-                self.zero.store(1, Ordering::SeqCst);
-                self.ended.store(1, Ordering::SeqCst);
+            (WorkerEvent::MovedAway(_), Watching::Emptied(_, _)) => {
+                set(&self.zero);
+                set(&self.ended);
             }
-            _ => {}
-        }
-    }
-
-    fn parks(&self, core: u8) {
-        match self.watching {
-            Watching::Parking(_) if core == 1 => {
-                let was_held = self.slices.load(Ordering::SeqCst);
-                self.entered.store(was_held, Ordering::SeqCst);
-                self.one.store(1, Ordering::SeqCst);
+            (WorkerEvent::Unparked, Watching::Stopping(_)) => set(&self.zero),
+            (WorkerEvent::Overslept, Watching::Parking(_)) if get(&self.entered) == 0 => {}
+            (WorkerEvent::Overslept, _) => count(&self.oversleeps),
+            (WorkerEvent::Applied(_), Watching::Holding(_)) if get(&self.zero) == 0 => {
+                set(&self.failed);
             }
-            Watching::Granting(_, _) if core == 1 => self.ended.store(1, Ordering::SeqCst),
-            Watching::Stopping(_) => self.slices.store(1, Ordering::SeqCst),
-            Watching::Parked(wanted, _) if core == wanted => self.one.store(1, Ordering::SeqCst),
-            Watching::Emptied(wanted, _) if core == wanted => self.one.store(1, Ordering::SeqCst),
-            Watching::ParksLast(_, _) if core == 1 && self.zero.load(Ordering::SeqCst) == 0 => {
-                self.failed.store(1, Ordering::SeqCst);
-            }
-            _ => {}
-        }
-    }
-
-    fn unparked(&self, _core: u8) {
-        if let Watching::Stopping(_) = self.watching {
-            self.zero.store(1, Ordering::SeqCst);
-        }
-    }
-
-    fn overslept(&self) {
-        match self.watching {
-            Watching::Parking(_) if self.entered.load(Ordering::SeqCst) == 0 => {}
-            _ => {
-                self.oversleeps.fetch_add(1, Ordering::SeqCst);
-            }
-        }
-    }
-
-    fn applied(&self, _orders: usize) {
-        match self.watching {
-            Watching::Holding(_) if self.zero.load(Ordering::SeqCst) == 0 => {
-                self.failed.store(1, Ordering::SeqCst);
-            }
-            Watching::Applying(_) | Watching::Anew(_) => self.zero.store(1, Ordering::SeqCst),
+            (WorkerEvent::Applied(_), Watching::Applying(_) | Watching::Anew(_)) => set(&self.zero),
             _ => {}
         }
     }

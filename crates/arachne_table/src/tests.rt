@@ -7,7 +7,9 @@ mod rows;
 mod sizes;
 mod steps;
 
-use crate::{LockedContexts, Tagged, WordContexts};
+use crate::{Contexts, LockedContexts, Tagged, WordContexts};
+use std::alloc::Global;
+use std::sync::Wait;
 use std::test::Fail;
 
 /// A thread that consists only of its tag.
@@ -22,36 +24,23 @@ impl Tagged for TagOnly {
     }
 }
 
+/// Checks a form of table: its rows, tables of each size, and a core whose contexts are spent.
+fn holds<C: Contexts<TagOnly> + Drop, R: Wait>(rt: &R, alloc: Global) -> Result<(), Fail> {
+    rows::give::<C, R>(rt, alloc)?;
+    sizes::fill_tables::<C, R>(rt, alloc)?;
+    sizes::make_tables::<C>(alloc)?;
+    if sizes::spend_core::<C, R>(rt, alloc)? != (0x38ffffffffffffff, 0x78ffffffffffffff, false) {
+        return Err("a spent core is not full".into());
+    }
+    Ok(())
+}
+
 #[test]
 fn a_table_behind_a_lock_gives_each_row(rt: HostRuntime) -> Result<(), Fail> {
-    let runs = rows::give::<LockedContexts<TagOnly>, HostRuntime>(&rt, rt.alloc())?;
-    assert!(rt; runs == 12);
-    Ok(())
+    holds::<LockedContexts<TagOnly>, HostRuntime>(&rt, rt.alloc())
 }
 
 #[test]
 fn a_table_of_words_gives_each_row(rt: HostRuntime) -> Result<(), Fail> {
-    let runs = rows::give::<WordContexts<TagOnly>, HostRuntime>(&rt, rt.alloc())?;
-    assert!(rt; runs == 12);
-    Ok(())
-}
-
-#[test]
-fn tables_behind_a_lock_are_filled(rt: HostRuntime) -> Result<(), Fail> {
-    sizes::fill_tables::<LockedContexts<TagOnly>, HostRuntime>(&rt, rt.alloc())?;
-    let made = sizes::make_tables::<LockedContexts<TagOnly>>(rt.alloc())?;
-    assert!(rt; made == 64 * 56);
-    let spent = sizes::spend_core::<LockedContexts<TagOnly>, HostRuntime>(&rt, rt.alloc())?;
-    assert!(rt; spent == (0x38ffffffffffffff, 0x78ffffffffffffff, false));
-    Ok(())
-}
-
-#[test]
-fn tables_of_words_are_filled(rt: HostRuntime) -> Result<(), Fail> {
-    sizes::fill_tables::<WordContexts<TagOnly>, HostRuntime>(&rt, rt.alloc())?;
-    let made = sizes::make_tables::<WordContexts<TagOnly>>(rt.alloc())?;
-    assert!(rt; made == 64 * 56);
-    let spent = sizes::spend_core::<WordContexts<TagOnly>, HostRuntime>(&rt, rt.alloc())?;
-    assert!(rt; spent == (0x38ffffffffffffff, 0x78ffffffffffffff, false));
-    Ok(())
+    holds::<WordContexts<TagOnly>, HostRuntime>(&rt, rt.alloc())
 }

@@ -1,8 +1,8 @@
-//! Tests of each public call of a join cell once, and of refused memory.
-ghost use Rattle.std.specs.Prelude.{◌≡◌, ◌<◌, IfOk};
+//! Test of each public call of a join cell once.
+ghost use Rattle.std.specs.Prelude.{◌≡◌, ◌<◌};
 
 use arachne_join::{CellState, Fits, JoinCell, SendingEnd};
-use std::alloc::{AllocError, Global};
+use std::alloc::AllocError;
 
 // The number for which a cell is made.
 #[derive(Drop)]
@@ -15,30 +15,11 @@ impl Fits<Wanted> for u64 {
     ghost may_wait = { λ wanted value. value < wanted.0 };
 }
 
-// Under `rt try --test --fail-alloc N` the Nth allocation is refused: then the first call fails, and the second call
-// makes the cell.
-fn make_cell(
-    alloc: Global,
-    number: u64,
-) -> Result<(JoinCell<u64, Wanted>, SendingEnd<u64, Wanted>), AllocError>
-    ensures { IfOk result (λ made. (made.0.key.0 ≡ number) × (made.1 ≡ made.0.table)) }
-{
-    let wanted = Wanted(number);
-    match JoinCell::new(alloc, &wanted) {
-        Ok(made) => Ok(made),
-        Err(_) => JoinCell::new(alloc, &wanted),
-    }
-}
-
 fn is_missed(cell: &JoinCell<u64, Wanted>, state: CellState) -> bool {
     match cell.fetch() {
         Ok(_) => false,
         Err(missed) => missed.state == state,
     }
-}
-
-fn gives_nothing_back(cell: &JoinCell<u64, Wanted>) -> bool {
-    cell.take_back().is_err()
 }
 
 /// Returns whether a value that was put back is taken back, and a value that was left is fetched.
@@ -55,7 +36,7 @@ fn passes(cell: &JoinCell<u64, Wanted>, end: SendingEnd<u64, Wanted>) -> bool
     let Ok((back, end)) = cell.take_back() else {
         return false;
     };
-    let emptied = is_missed(cell, CellState::Empty) && gives_nothing_back(cell);
+    let emptied = is_missed(cell, CellState::Empty) && cell.take_back().is_err();
     let left = end.leave(cell, 7);
     let Ok((value, fetched)) = cell.fetch() else {
         return false;
@@ -67,7 +48,7 @@ fn passes(cell: &JoinCell<u64, Wanted>, end: SendingEnd<u64, Wanted>) -> bool
 
 #[test]
 fn a_value_is_put_back_and_another_is_fetched_once(rt: HostRuntime) -> Result<(), AllocError> {
-    let (cell, end) = make_cell(rt.alloc(), 7)?;
+    let (cell, end) = JoinCell::new(rt.alloc(), &Wanted(7))?;
     assert!(rt; passes(&cell, end));
     Ok(())
 }

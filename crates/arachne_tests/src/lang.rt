@@ -1,3 +1,78 @@
-//! Tests of reading and printing texts, of comparing meanings, and of limits.
-mod meaning;
-mod reading;
+//! Tests of texts that are read and printed, and of limits.
+use arachne_lang::{CheckFault, Expr, Operation, Program, TextFault, check, parse, print};
+use std::alloc::{AllocError, Global};
+
+/// A text that has each form, each reduction, and arrays, and one with the greatest numbers.
+const TEXTS: &[&[u8]] = &[
+    b"arachne 1\n\
+array\n\
+array 0 18446744073709551615 7\n\
+ledgers 255\n\
+locks 10\n\
+(if (lt (len 1) (var 0)) \
+(let (tally 3 (num 1) (sub (num 2) (mul (num 3) (min (num 4) (max (num 5) (xor (num 6) (eq (num 7) (item 1 (num 8)))))))))\
+\x20(hold 2 (fork n (num 1) (num 2) (num 3)))) \
+(fold (num 0) (num 10) (fork x (num 1) (num 2) (num 3)) \
+(add (sweep add 1 (num 0) (num 1) (var 0)) (add (sweep mul 2 (num 0) (num 1) (var 0)) (add (sweep xor 3 (num 0) (num 1) (var 0)) (add (sweep min 4 (num 0) (num 1) (var 0)) (sweep max 50 (num 0) (num 1) (var 0))))))))\n",
+    b"arachne 1\nledgers 3\nlocks 4\n(xor (num 18446744073709551615) (len 18446744073709551615))\n",
+];
+
+/// Returns whether a text is printed as it was read, or its fault.
+fn is_read_and_printed(alloc: Global, text: &[u8]) -> Result<bool, TextFault> {
+    let program = parse(alloc, text)?;
+    match print(alloc, &program) {
+        Ok(printed) => Ok(printed.as_slice() == text),
+        Err(_) => Err(TextFault::Memory),
+    }
+}
+
+/// The test passes too if each allocation is refused in turn: a refusal is no fault of the text, and changes nothing for
+/// the next call.
+#[test]
+fn texts_are_printed_as_they_were_read(rt: HostRuntime) {
+    for &text in TEXTS {
+        let answer = match is_read_and_printed(rt.alloc(), text) {
+            Err(TextFault::Memory) => is_read_and_printed(rt.alloc(), text),
+            answer => answer,
+        };
+        assert!(rt; answer == Ok(true));
+    }
+}
+
+/// Returns the check's verdict on a program of `ledgers` ledgers and of `sums` sums within one another.
+fn judged_when_nested(
+    alloc: Global,
+    ledgers: u8,
+    sums: u64,
+) -> Result<Result<(), CheckFault>, AllocError> {
+    let mut root = Expr::Num(0);
+    for _ in 0..sums {
+        let a = Box::new(alloc, root)?;
+        root = Expr::Binary(Operation::Add, a, Box::new(alloc, Expr::Num(1))?);
+    }
+    let (arrays, locks) = (Vec::new(alloc), 0);
+    let program = Program {
+        arrays,
+        ledgers,
+        locks,
+        root,
+    };
+    let verdict = check(&program);
+    take_apart(program.root);
+    Ok(verdict)
+}
+
+/// Drops an expression from the outside in, without the recursion of its own drop.
+fn take_apart(mut expr: Expr) {
+    while let Expr::Binary(_, a, _) = expr {
+        expr = Box::into_inner(a);
+    }
+}
+
+/// A program that wasn't read from a text may be nested beyond the limit. That fault comes before all others.
+#[test]
+fn nesting_is_judged_before_all_else(rt: HostRuntime) -> Result<(), AllocError> {
+    let nested = judged_when_nested(rt.alloc(), 17, 100_000)?;
+    assert!(rt; nested == Err(CheckFault::Nesting));
+    Ok(())
+}

@@ -1,10 +1,9 @@
 //! Tests of a queue that is filled, refuses and is emptied, and of tickets that pass between two kernel threads.
-ghost use Rattle.std.specs.Prelude.{IfOk};
 ghost use Rattle.arachne_spill.specs.Views.{IsPassOf};
 
 use arachne_contexts::Tagged;
 use arachne_spill::{CAPACITY, SpillPass, SpillQueue};
-use std::alloc::{AllocError, Global};
+use std::alloc::AllocError;
 use std::sync::Wait;
 use std::thread;
 use std::thread::Threads;
@@ -27,17 +26,6 @@ impl Tagged for Ticket {
 type Queue = SpillQueue<Ticket>;
 
 type Pass = SpillPass<Ticket>;
-
-// Under `rt try --test --fail-alloc N` the Nth allocation is refused. A call that fails because of this is made once
-// more.
-fn make(alloc: Global) -> Result<(Queue, Pass), AllocError>
-    ensures { IfOk result (λ made. IsPassOf made.0 made.1) }
-{
-    match SpillQueue::new(alloc) {
-        Ok(made) => Ok(made),
-        Err(_) => SpillQueue::new(alloc),
-    }
-}
 
 /// Pushes tickets with the tags from 0 on until a ticket is refused, and returns this ticket's tag.
 fn fill<R: Wait>(rt: &R, queue: &Queue, pass: &mut Pass) -> Option<u64>
@@ -79,7 +67,7 @@ fn looks<R: Wait>(rt: &R, queue: &Queue, pass: &mut Pass) -> (bool, bool)
 
 #[test]
 fn the_257th_ticket_comes_back(rt: HostRuntime) -> Result<(), AllocError> {
-    let (queue, mut pass) = make(rt.alloc())?;
+    let (queue, mut pass) = Queue::new(rt.alloc())?;
     let empty = looks(&rt, &queue, &mut pass);
     let refused = fill(&rt, &queue, &mut pass);
     let full = looks(&rt, &queue, &mut pass);
@@ -158,7 +146,7 @@ fn send_and_receive<R: Threads + Wait + Sync>(rt: &R, queue: &Queue, pass: Pass)
 
 #[test]
 fn two_threads_pass_10_000_tickets(rt: HostRuntime) -> Result<(), AllocError> {
-    let (queue, pass) = make(rt.alloc())?;
+    let (queue, pass) = Queue::new(rt.alloc())?;
     let (mut pass, in_order) = send_and_receive(&rt, &queue, pass);
     let is_whole = queue.is_whole(&pass);
     assert!(rt; in_order == 10_000 && is_whole && queue.pop(&rt, &mut pass).is_none());

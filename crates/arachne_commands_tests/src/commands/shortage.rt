@@ -1,7 +1,7 @@
 //! Tests of the program in a process whose memory is used up; each run has a little more memory than the previous run.
 use super::endings::{Told, shown, status_of, told_by};
 use super::fakes::{Script, Tray};
-use super::spelling::spelled;
+use super::spelling::{parts_of, spelled};
 use arachne_shortage::Hoard;
 use std::alloc::{AllocError, Global};
 use std::process::Abort;
@@ -43,42 +43,21 @@ fn is_told<R: Threads + Wait + Clock + Sync>(
     None
 }
 
-/// The words of a command line, its input, and its expected end (status, output and faults), as rows spell them.
-type Row = (&'static str, &'static str, &'static str);
-
-const ROWS: &[Row] = &[
-    (
-        "arachne run --cores 1 --names",
-        "arachne 1|ledgers 1|locks 1|(sweep add 1 (num 0) (num 8) (hold 0 (tally 0 (num 5) (num 1))))|",
-        "0 value 8|ledger 0 40|threads 8|thread / 1|thread /2 1|thread /1 1|thread /1/0 1|thread /0 1|thread /0/1 1|thread /0/0 1|thread /0/0/0 1|!",
-    ),
-    (
-        "arachne eval --names",
-        "arachne 1|ledgers 0|locks 1|(fork n (hold 0 (num 2)) (num 3) (add (var 0) (var 1)))|",
-        "0 value 5|threads 2|thread / 0|thread /0 1|!",
-    ),
-    (
-        "arachne check",
-        "arachne 1|ledgers 0|locks 0|(num 7)|",
-        "0 ok|!",
-    ),
-    (
-        "arachne policy",
-        "2 151 100 1900 1000|3 100 100 1809 1000|",
-        "0 add|remove|!",
-    ),
-    ("arachne run 0:take:1", "", "2 !fault 26 order 0|"),
-    ("arachne eval --cores 4", "", "2 !usage"),
-    ("arachne help policy", "", "2 !usage"),
+const ROWS: &[&str] = &[
+    "arachne run --cores 1 --names < arachne 1|ledgers 1|locks 1|(sweep add 1 (num 0) (num 8) (hold 0 (tally 0 (num 5) (num 1))))| => 0 value 8|ledger 0 40|threads 8|thread / 1|thread /2 1|thread /1 1|thread /1/0 1|thread /0 1|thread /0/1 1|thread /0/0 1|thread /0/0/0 1|!",
+    "arachne eval --names < arachne 1|ledgers 0|locks 1|(fork n (hold 0 (num 2)) (num 3) (add (var 0) (var 1)))| => 0 value 5|threads 2|thread / 0|thread /0 1|!",
+    "arachne check < arachne 1|ledgers 0|locks 0|(num 7)| => 0 ok|!",
+    "arachne policy < 2 151 100 1900 1000|3 100 100 1809 1000| => 0 add|remove|!",
+    "arachne run 0:take:1 <  => 2 !fault 26 order 0|",
+    "arachne eval --cores 4 <  => 2 !usage",
+    "arachne help policy <  => 2 !usage",
 ];
 
 /// Rows that run on several cores. Runs of these rows need not end as they do with enough memory: once all memory was
 /// used up, the C library gives no memory to a new kernel thread, even if memory was given back.
-const ON_CORES: &[Row] = &[(
-    "arachne run --cores 4 --quantum 1 --names 0:release:1 1:release:2 2:grant:1",
-    "arachne 1|ledgers 0|locks 0|(sweep add 2 (num 0) (num 8) (var 0))|",
-    "0 value 28|threads 4|thread /|thread /1|thread /0|thread /0/0|!",
-)];
+const ON_CORES: &[&str] = &[
+    "arachne run --cores 4 --quantum 1 --names 0:release:1 1:release:2 2:grant:1 < arachne 1|ledgers 0|locks 0|(sweep add 2 (num 0) (num 8) (var 0))| => 0 value 28|threads 4|thread /|thread /1|thread /0|thread /0/0|!",
+];
 
 /// Runs a row's words with memory, with none, and then with a little more memory each time.
 ///
@@ -86,10 +65,10 @@ const ON_CORES: &[Row] = &[(
 fn ends_at_last<R: Abort + Threads + Wait + Clock + Sync>(
     rt: &R,
     alloc: Global,
-    row: Row,
+    row: &str,
     most: u64,
 ) -> Result<u64, AllocError> {
-    let (words, input, told) = row;
+    let (words, input, told) = parts_of(row);
     let (input, told) = (spelled(alloc, input)?, spelled(alloc, told)?);
     let parts: Vec<&str> = words.split(' ').collect(alloc)?;
     let (parts, input, told) = (parts.as_slice(), input.as_bytes(), told_by(told.as_str()));
@@ -116,8 +95,7 @@ fn ends_at_last<R: Abort + Threads + Wait + Clock + Sync>(
 fn each_growth_is_refused(rt: HostRuntime) -> Result<(), AllocError> {
     for &row in ROWS {
         let runs = ends_at_last(&rt, rt.alloc(), row, RUNS)?;
-        let (words, ..) = row;
-        assert!(rt; runs > 10 && runs < RUNS, "{words}: {runs}");
+        assert!(rt; runs > 10 && runs < RUNS, "{row}: {runs}");
     }
     for &row in ON_CORES {
         let runs = ends_at_last(&rt, rt.alloc(), row, 200)?;

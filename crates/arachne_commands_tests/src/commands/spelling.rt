@@ -1,4 +1,4 @@
-//! Makes a long text from a short spelling in a test's table, such as one in which a part is repeated.
+//! Reads the rows of tests: a command line, an input and the expected end, as `arachne eval < INPUT => 0 OUTPUT!FAULTS`.
 use std::alloc::{AllocError, Global};
 
 /// Appends a piece. `PART*N]TAIL` (without a `[`) is PART, N times, and then TAIL. A piece without `]` stands for
@@ -22,4 +22,11 @@ pub(super) fn spelled(alloc: Global, row: &str) -> Result<String, AllocError> {
         append(&mut text, piece)?;
     }
     Ok(text)
+}
+
+/// Returns the words, the input and the end of a row.
+pub(super) fn parts_of(row: &str) -> (&str, &str, &str) {
+    let (words, rest) = row.split_once(" < ").unwrap_or((row, ""));
+    let (input, told) = rest.split_once(" => ").unwrap_or((rest, ""));
+    (words, input, told)
 }

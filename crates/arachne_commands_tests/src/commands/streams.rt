@@ -1,9 +1,8 @@
 //! Streams that fail, that give or take little at a time, and that never end.
 use super::endings::{Told, assert_ends, ends, fault, status_of, told_by};
 use super::fakes::{Failure, Script, Tray};
-use super::spelling::spelled;
+use super::spelling::{parts_of, spelled};
 use arachne_cli::{Fault, INPUT_LIMIT, refuse};
-use arachne_lang::{CheckFault, TextFault};
 use std::alloc::{AllocError, Global};
 use std::io::ErrorKind;
 use std::process::Abort;
@@ -11,72 +10,29 @@ use std::sync::Wait;
 use std::thread::Threads;
 use std::time::Clock;
 
-/// The words of a command line, an input, and the end of the program on it, as rows spell them.
-type Row = (&'static str, &'static str, &'static str);
-
 /// Each of the commands in a run in which all goes well.
-const COMMANDS: &[Row] = &[
-    (
-        "arachne run --cores 2 --quantum 1 --names 0:release:1 3:grant:1",
-        "arachne 1|ledgers 1|locks 1|(sweep add 1 (num 0) (num 2) (hold 0 (tally 0 (num 5) (num 1))))|",
-        "0 value 2|ledger 0 10|threads 2|thread / 1|thread /0 1|!",
-    ),
-    (
-        "arachne eval --names",
-        "arachne 1|ledgers 0|locks 1|(fork n (hold 0 (num 2)) (num 3) (add (var 0) (var 1)))|",
-        "0 value 5|threads 2|thread / 0|thread /0 1|!",
-    ),
-    (
-        "arachne check",
-        "arachne 1|ledgers 0|locks 0|(num 7)|",
-        "0 ok|!",
-    ),
-    (
-        "arachne policy",
-        "2 151 100 1900 1000|3 100 100 1809 1000|",
-        "0 add|remove|!",
-    ),
+const COMMANDS: &[&str] = &[
+    "arachne run --cores 2 --quantum 1 --names 0:release:1 3:grant:1 < arachne 1|ledgers 1|locks 1|(sweep add 1 (num 0) (num 2) (hold 0 (tally 0 (num 5) (num 1))))| => 0 value 2|ledger 0 10|threads 2|thread / 1|thread /0 1|!",
+    "arachne eval --names < arachne 1|ledgers 0|locks 1|(fork n (hold 0 (num 2)) (num 3) (add (var 0) (var 1)))| => 0 value 5|threads 2|thread / 0|thread /0 1|!",
+    "arachne check < arachne 1|ledgers 0|locks 0|(num 7)| => 0 ok|!",
+    "arachne policy < 2 151 100 1900 1000|3 100 100 1809 1000| => 0 add|remove|!",
 ];
 
 /// Each of the commands on an input that takes four reads, with a fifth for its end.
-const LONG: &[Row] = &[
-    (
-        "arachne run --cores 2",
-        "arachne 1|array[ 1*100000]|ledgers 0|locks 0|(len 0)|",
-        "0 value 100000|threads 1|!",
-    ),
-    (
-        "arachne eval",
-        "arachne 1|array[ 1*100000]|ledgers 0|locks 0|(len 0)|",
-        "0 value 100000|threads 1|!",
-    ),
-    (
-        "arachne check",
-        "arachne 1|array[ 1*100000]|ledgers 0|locks 0|(len 0)|",
-        "0 ok|!",
-    ),
-    (
-        "arachne policy",
-        "[2 151 100 1900 1000|3 100 100 1809 1000|*5000]",
-        "0 [add|remove|*5000]!",
-    ),
+const LONG: &[&str] = &[
+    "arachne run --cores 2 < arachne 1|array[ 1*100000]|ledgers 0|locks 0|(len 0)| => 0 value 100000|threads 1|!",
+    "arachne eval < arachne 1|array[ 1*100000]|ledgers 0|locks 0|(len 0)| => 0 value 100000|threads 1|!",
+    "arachne check < arachne 1|array[ 1*100000]|ledgers 0|locks 0|(len 0)| => 0 ok|!",
+    "arachne policy < [2 151 100 1900 1000|3 100 100 1809 1000|*5000] => 0 [add|remove|*5000]!",
 ];
 
 /// Each of the commands on an input with a fault, and words that are refused.
-const REFUSED: &[Row] = &[
-    (
-        "arachne run --cores 2",
-        "arachne 1|ledgers 0|locks 0|(var 0)|",
-        "1 !fault 8 node 0|",
-    ),
-    (
-        "arachne eval",
-        "arachne 1|ledgers 0|locks 0|(num 18446744073709551616)|",
-        "1 !fault 3 at 52|",
-    ),
-    ("arachne check", "", "1 !fault 1 at 0|"),
-    ("arachne policy", "0 1 1 1 1|", "1 !fault 12 line 1|"),
-    ("arachne run 0:take:1", "", "2 !fault 26 order 0|"),
+const REFUSED: &[&str] = &[
+    "arachne run --cores 2 < arachne 1|ledgers 0|locks 0|(var 0)| => 1 !fault 8 node 0|",
+    "arachne eval < arachne 1|ledgers 0|locks 0|(num 18446744073709551616)| => 1 !fault 3 at 52|",
+    "arachne check <  => 1 !fault 1 at 0|",
+    "arachne policy < 0 1 1 1 1| => 1 !fault 12 line 1|",
+    "arachne run 0:take:1 <  => 2 !fault 26 order 0|",
 ];
 
 /// The maximum numbers of bytes that a stream gives or takes at a time.
@@ -99,10 +55,10 @@ const ERRORS: &[(ErrorKind, bool)] = &[
 fn each_read_fails<R: Abort + Threads + Wait + Clock + Sync>(
     rt: &R,
     alloc: Global,
-    row: Row,
+    row: &str,
     step: usize,
 ) -> Result<u64, AllocError> {
-    let (words, input, told) = row;
+    let (words, input, told) = parts_of(row);
     let (input, told) = (spelled(alloc, input)?, spelled(alloc, told)?);
     let mut whole = Script::of(input.as_bytes());
     whole.step = step;
@@ -278,7 +234,8 @@ fn each_call_fails<R: Abort + Threads + Wait + Clock + Sync>(
 fn a_failed_write_is_not_tried_again(rt: HostRuntime) -> Result<(), AllocError> {
     let alloc = rt.alloc();
     for rows in [COMMANDS, REFUSED] {
-        for &(words, input, told) in rows {
+        for &row in rows {
+            let (words, input, told) = parts_of(row);
             let (input, text) = (spelled(alloc, input)?, spelled(alloc, told)?);
             for &step in STEPS {
                 let case = Case {
@@ -330,34 +287,14 @@ fn a_usage_that_fails_changes_nothing(rt: HostRuntime) -> Result<(), AllocError>
     Ok(())
 }
 
-const LONGEST: &[(Fault, &str)] = &[
-    (
-        Fault::InProgram(CheckFault::NoGrain(u64::MAX)),
-        "fault 11 node 18446744073709551615\n",
-    ),
-    (
-        Fault::BadSample { line: usize::MAX },
-        "fault 12 line 18446744073709551615\n",
-    ),
-    (
-        Fault::InText(TextFault::Nesting { at: usize::MAX }),
-        "fault 4 at 18446744073709551615\n",
-    ),
-    (
-        Fault::NoOrder { index: usize::MAX },
-        "fault 26 order 18446744073709551615\n",
-    ),
-];
-
-/// The lines with the largest numbers are written whole, also if the writer takes one byte at a time.
+/// The longest line is written whole, also if the writer takes one byte at a time.
 #[test]
-fn the_longest_fault_lines_are_written_whole(rt: HostRuntime) {
-    for &(fault, line) in LONGEST {
-        for &step in STEPS {
-            let mut faults = Tray::new(rt.alloc());
-            faults.step = step;
-            let status = refuse(&mut faults, fault.line());
-            assert!(rt; status == 1 && faults.kept.as_slice() == line.as_bytes());
-        }
+fn the_longest_fault_line_is_written_whole(rt: HostRuntime) {
+    for &step in STEPS {
+        let mut faults = Tray::new(rt.alloc());
+        faults.step = step;
+        let status = refuse(&mut faults, Fault::NoOrder { index: usize::MAX }.line());
+        let line = b"fault 26 order 18446744073709551615\n";
+        assert!(rt; status == 1 && faults.kept.as_slice() == line.as_slice());
     }
 }

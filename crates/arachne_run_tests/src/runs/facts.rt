@@ -1,5 +1,5 @@
 //! The facts that a run shows in its report, or to the observer (`Gate`) that watched it.
-use super::locks::{events, events_of, grants, grants_are_holds};
+use super::locks::{events_of, grants, grants_are_holds};
 use super::programs::threads_of;
 use crate::gates::Watch;
 use arachne_machine::Ran;
@@ -30,14 +30,12 @@ pub(super) enum Fact {
     Applied,
     /// The run has carried out at most this number of orders.
     AppliesUpTo(u64),
-    /// The cores that have entered a slice, a bit for each.
+    /// The cores that the observer has recorded, a bit for each: those that have entered a slice.
     Cores,
-    /// At least this number of slices was entered.
-    Slices(u64),
-    /// At most this number of slices was entered.
-    SlicesUpTo(u64),
-    /// At least this number of children waited with a ticket.
-    Tickets(u64),
+    /// The observer has counted at least this number: of slices entered or, if it counts these, of tickets.
+    Counts(u64),
+    /// The observer has counted at most this number.
+    CountsUpTo(u64),
     /// At most this number of sleeps timed out before something was found.
     OversleepsUpTo(u64),
     /// All events for which a core waited (see `Watching`) have occurred, and no event that must not occur has.
@@ -64,12 +62,14 @@ pub(super) fn number(report: &Report, watch: &Watch, fact: Fact) -> u64 {
         Fact::Applied => report.applied as u64,
         Fact::AppliesUpTo(most) => u64::from(report.applied as u64 <= most),
         Fact::Cores => watch.entered.load(Ordering::SeqCst),
-        Fact::Slices(least) => u64::from(watch.slices.load(Ordering::SeqCst) >= least),
-        Fact::SlicesUpTo(most) => u64::from(watch.slices.load(Ordering::SeqCst) <= most),
-        Fact::Tickets(least) => u64::from(watch.slices.load(Ordering::SeqCst) >= least),
+        Fact::Counts(least) => u64::from(watch.slices.load(Ordering::SeqCst) >= least),
+        Fact::CountsUpTo(most) => u64::from(watch.slices.load(Ordering::SeqCst) <= most),
         Fact::OversleepsUpTo(most) => { u64::from(watch.oversleeps.load(Ordering::SeqCst) <= most) }
         Fact::IsOver => u64::from(watch.is_over()),
-        Fact::Events => events(report),
+        Fact::Events => match report.histories.first() {
+            Some(history) => history.len() as u64,
+            None => 0,
+        },
         Fact::Grants => grants(report, None),
         Fact::GrantsAreHolds => u64::from(grants_are_holds(report)),
     }
@@ -128,12 +128,11 @@ pub(super) fn told(
 fn ran_of(alloc: Global, report: &Report) -> Result<String, Fail> {
     let mut text = String::new(alloc);
     for line in report.threads.iter() {
-        let word = match line.ran() {
+        text.push_str(match line.ran() {
             Ran::Slot => "slot ",
             Ran::Spill => "spill ",
             Ran::InPlace => "in place ",
-        };
-        text.push_str(word)?;
+        })?;
     }
     Ok(text)
 }

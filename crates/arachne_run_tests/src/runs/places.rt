@@ -1,264 +1,156 @@
 //! Which threads get a place, which wait for one, and which run in their parents' places.
-use super::cores::{ALONE, EXCLUSIVE};
-use super::facts::{Fact, Telling};
-use super::reports::{CHAIN, MANY};
-use super::rows::{Row, rows_hold};
-use super::{FORMS, LOCKED, Machine, Source};
-use crate::choosers::{CORE_ONE, Draws, SPREAD, ZEROS};
+use super::cores::EXCLUSIVE;
+use super::facts::Fact::{InPlace, InPlaceUpTo, IsOver, Slot, Spill, Threads, Value};
+use super::facts::Telling;
+use super::rows::Orders::Listed;
+use super::rows::{LOCKED, QUANTA, ROW, Row, rows_hold};
+use crate::choosers::{CORE_ONE, Draws, ONE_EACH, SPREAD};
 use crate::gates::Watching;
-use arachne_core::SLOTS;
-use arachne_policy::{CoreOrder, OrderKind};
+use arachne_policy::OrderKind::Grant;
 use std::test::Fail;
 
-/// Machines of one core, with quanta of 1 to 10,000.
-const ONE_CORE: &[Machine] = &[(1, 1, 1), (1, 7, 1), (1, 100, 1), (1, 10_000, 1)];
-
-/// 1,000 threads that the root forks and joins one after another.
-const IN_TURN: Source = Source {
-    ledgers: 0,
-    locks: 0,
-    forks: 0,
-    expr: "(fold (num 0) (num 1000) (num 0) (fork n (num 1) (num 1) (add (var 1) (var 2))))",
-};
-
-/// 100 threads and, after these have ended, 1,000 threads that the root forks and joins one after another.
-const AFTER_MANY: Source = Source {
-    ledgers: 0,
-    locks: 0,
-    forks: 0,
-    expr: "(let (sweep add 1 (num 0) (num 100) (fold (num 0) (num 30) (num 0) (num 0))) (fold (num 0) (num 1000) (num 0) (fork n (num 1) (num 1) (add (var 2) (var 3)))))",
-};
-
-/// A chain of 31 threads. The innermost has 9 children that end soon, and then 24 children that live at the same time.
-const NEVER_FULL: Source = Source {
-    ledgers: 0,
-    locks: 0,
-    forks: 30,
-    expr: "(let (sweep add 1 (num 0) (num 10) (var 0)) (sweep add 1 (num 0) (num 25) (fold (num 0) (num 300) (num 0) (num 0))))",
-};
-
-/// At most 55 of a core's 56 places are taken.
-const ALL_PLACED: Row = Row {
-    shows: "no place is kept on a core that was never full",
-    source: NEVER_FULL,
-    forms: FORMS,
-    slots: SLOTS,
-    machines: &[(1, 1, 1), (1, 7, 1), (1, 100, 1)],
-    draws: ZEROS,
-    orders: &[],
-    watching: Watching::Nothing,
-    facts: &[(Fact::Value, 30), (Fact::Slot, 64)],
-    telling: Telling::Nothing,
-    told: "",
-};
-
-/// A normal thread and, after it has ended, an exclusive thread.
-const THEN_ALONE: Source = Source {
-    ledgers: 0,
-    locks: 0,
-    forks: 0,
-    expr: "(fork n (num 1) (num 2) (fork x (num 3) (num 4) (add (var 2) (var 3))))",
-};
+/// 901 threads.
+pub(super) const MANY: &str = "(sweep add 1 (num 0) (num 901) (var 0))";
 
 /// Two threads that count to 5,000.
-pub(super) const BESIDE: Source = Source {
-    ledgers: 0,
-    locks: 0,
-    forks: 0,
-    expr: "(fork n (fold (num 0) (num 5000) (num 0) (var 1)) (fold (num 0) (num 5000) (num 0) (var 1)) (add (var 0) (var 1)))",
-};
+pub(super) const BESIDE: &str =
+    "(fork n (fold (num 0) (num 5000) (num 0) (var 1)) (fold (num 0) (num 5000) (num 0) (var 1)) (add (var 0) (var 1)))";
 
 /// Two threads that count to 50,000.
-pub(super) const BESIDE_LONG: Source = Source {
-    ledgers: 0,
-    locks: 0,
-    forks: 0,
-    expr: "(fork n (fold (num 0) (num 50000) (num 0) (var 1)) (fold (num 0) (num 50000) (num 0) (var 1)) (add (var 0) (var 1)))",
+pub(super) const BESIDE_LONG: &str =
+    "(fork n (fold (num 0) (num 50000) (num 0) (var 1)) (fold (num 0) (num 50000) (num 0) (var 1)) (add (var 0) (var 1)))";
+
+/// A chain of 61 threads, each of which awaits the next. One core has places for 56 of them.
+pub(super) const CHAIN: Row = Row {
+    shows: "where all places are taken, threads run in their parents'",
+    forks: 60,
+    expr: "(num 1)",
+    machines: (&[1], QUANTA),
+    facts: &[(Value, 61), (Slot, 56), (Spill, 0), (InPlace, 5)],
+    ..ROW
+};
+
+/// The second child finds no place, and gets the place of the first child once that child has ended. Meanwhile the root
+/// counts.
+const ONE_WAITS: Row = Row {
+    shows: "threads that wait get a place that is left, one after the other",
+    expr: "(fork n (fold (num 0) (num 100) (num 0) (var 1)) (fork n (num 2) (fold (num 0) (num 1000) (num 0) (var 1)) (add (var 0) (var 1))) (add (var 0) (var 1)))",
+    machines: (&[1], &[1, 7, 100]),
+    slots: 2,
+    facts: &[(Value, 2)],
+    told: (Telling::Ran, "slot spill slot "),
+    ..ROW
 };
 
 const ROWS: &[Row] = &[
+    CHAIN,
     Row {
-        shows: "where all places are taken, threads run in their parents'",
-        source: CHAIN,
-        forms: FORMS,
-        slots: 3,
-        machines: ONE_CORE,
-        draws: ZEROS,
-        orders: &[],
-        watching: Watching::Nothing,
-        facts: &[
-            (Fact::Value, 61),
-            (Fact::Slot, 3),
-            (Fact::Spill, 0),
-            (Fact::InPlace, 58),
-        ],
-        telling: Telling::Nothing,
-        told: "",
+        slots: 1,
+        facts: &[(Value, 61), (Slot, 1), (Spill, 0), (InPlace, 60)],
+        ..CHAIN
     },
     Row {
-        shows: "where all places are taken, threads run in their parents'",
-        source: CHAIN,
-        forms: FORMS,
-        slots: SLOTS,
-        machines: ONE_CORE,
-        draws: ZEROS,
-        orders: &[],
-        watching: Watching::Nothing,
-        facts: &[
-            (Fact::Value, 61),
-            (Fact::Slot, 56),
-            (Fact::Spill, 0),
-            (Fact::InPlace, 5),
-        ],
-        telling: Telling::Nothing,
-        told: "",
+        slots: 3,
+        facts: &[(Value, 61), (Slot, 3), (Spill, 0), (InPlace, 58)],
+        ..CHAIN
+    },
+    Row {
+        slots: 55,
+        facts: &[(Value, 61), (Slot, 55), (Spill, 0), (InPlace, 6)],
+        ..CHAIN
+    },
+    // Several cores have places for all threads, as have 64 of two places each.
+    Row {
+        machines: (&[2, 4, 16, 64], &[1, 100]),
+        facts: &[(Value, 61), (Threads, 61), (InPlace, 0)],
+        ..CHAIN
+    },
+    Row {
+        machines: (&[64], &[100]),
+        slots: 2,
+        facts: &[(Value, 61), (Threads, 61), (InPlace, 0)],
+        ..CHAIN
+    },
+    Row {
+        shows: "many more threads than places",
+        expr: MANY,
+        draws: SPREAD,
+        facts: &[(Value, 405_450), (Threads, 901)],
+        ..ROW
     },
     // For most threads the queue of waiting children is full.
     Row {
-        shows: "where all places are taken, threads run in their parents'",
-        source: MANY,
-        forms: FORMS,
+        expr: MANY,
+        forks: 0,
         slots: 1,
-        machines: ONE_CORE,
-        draws: ZEROS,
-        orders: &[],
-        watching: Watching::Nothing,
-        facts: &[
-            (Fact::Value, 405_450),
-            (Fact::Slot, 1),
-            (Fact::Spill, 0),
-            (Fact::InPlace, 900),
-        ],
-        telling: Telling::Nothing,
-        told: "",
+        facts: &[(Value, 405_450), (Slot, 1), (Spill, 0), (InPlace, 900)],
+        ..CHAIN
     },
     Row {
         shows: "a thread that wants a core alone never waits for a place",
-        source: EXCLUSIVE,
-        forms: FORMS,
-        slots: SLOTS,
-        machines: &[(1, 1, 1), (1, 7, 1), (1, 100, 1), (1, 10_000, 1)],
-        draws: ZEROS,
-        orders: &[],
-        watching: Watching::Nothing,
-        facts: &[(Fact::Value, 3)],
-        telling: Telling::Ran,
-        told: "slot in place ",
+        expr: EXCLUSIVE,
+        machines: (&[1], QUANTA),
+        facts: &[(Value, 3)],
+        told: (Telling::Ran, "slot in place "),
+        ..ROW
     },
-    // The second child finds no place, and gets the place of the first child once that child has ended. Meanwhile the
-    // root counts.
+    ONE_WAITS,
+    // The root's first child has the other place, and three more children wait for that place in turn.
     Row {
-        shows: "a thread that waits gets a place that is left",
-        source: Source {
-            ledgers: 0,
-            locks: 0,
-            forks: 0,
-            expr: "(fork n (fold (num 0) (num 100) (num 0) (var 1)) (fork n (num 2) (fold (num 0) (num 1000) (num 0) (var 1)) (add (var 0) (var 1))) (add (var 0) (var 1)))",
-        },
-        forms: FORMS,
-        slots: 2,
-        machines: &[(1, 1, 1), (1, 7, 1), (1, 100, 1)],
-        draws: ZEROS,
-        orders: &[],
-        watching: Watching::Nothing,
-        facts: &[(Fact::Value, 2)],
-        telling: Telling::Ran,
-        told: "slot spill slot ",
-    },
-    THREE_WAIT,
-    NONE_KEPT,
-];
-
-/// The root's first child has the other place, and three more children wait for that place in turn.
-const THREE_WAIT: Row = Row {
-    shows: "threads that wait get a place that is left, one after the other",
-    source: Source {
-        ledgers: 0,
-        locks: 0,
-        forks: 0,
         expr: "(fork n (fold (num 0) (num 100) (num 0) (var 1)) (fork n (num 2) (fork n (num 2) (fork n (num 2) (fold (num 0) (num 3000) (num 0) (var 1)) (add (var 0) (var 1))) (add (var 0) (var 1))) (add (var 0) (var 1))) (add (var 0) (var 1)))",
+        facts: &[(Value, 6), (Slot, 2), (Spill, 3)],
+        told: (Telling::Nothing, ""),
+        ..ONE_WAITS
     },
-    forms: FORMS,
-    slots: 2,
-    machines: &[(1, 1, 1), (1, 7, 1), (1, 100, 1)],
-    draws: ZEROS,
-    orders: &[],
-    watching: Watching::Nothing,
-    facts: &[(Fact::Value, 6), (Fact::Slot, 2), (Fact::Spill, 3)],
-    telling: Telling::Nothing,
-    told: "",
-};
-
-/// Of the 1,000 threads of a sweep 134 get a place when they are forked. If workers kept places for later children,
-/// only 56 threads would get a place.
-const NONE_KEPT: Row = Row {
-    shows: "no place is kept where an order may close the core",
-    source: Source {
-        ledgers: 0,
-        locks: 0,
-        forks: 0,
-        expr: "(sweep add 1 (num 0) (num 1000) (var 0))",
-    },
-    forms: FORMS,
-    slots: SLOTS,
-    machines: &[(1, 1, 1)],
-    draws: ZEROS,
-    orders: &[CoreOrder {
-        after: 1_000_000,
-        kind: OrderKind::Grant,
-        core: 0,
-    }],
-    watching: Watching::Nothing,
-    facts: &[(Fact::Value, 499_500), (Fact::InPlaceUpTo(900), 1)],
-    telling: Telling::Nothing,
-    told: "",
-};
+];
 
 #[test]
 fn threads_get_places_as_they_come(rt: HostRuntime) -> Result<(), Fail> {
     rows_hold(&rt, rt.alloc(), ROWS)
 }
 
+/// A chain of 31 threads. The innermost has 9 children that end soon, and then 24 children that live at the same time.
+/// At most 55 of a core's 56 places are taken.
+const NEVER_FULL: Row = Row {
+    shows: "no place is kept on a core that was never full",
+    forks: 30,
+    expr: "(let (sweep add 1 (num 0) (num 10) (var 0)) (sweep add 1 (num 0) (num 25) (fold (num 0) (num 300) (num 0) (num 0))))",
+    machines: (&[1], &[1, 7, 100]),
+    facts: &[(Value, 30), (Slot, 64)],
+    ..ROW
+};
+
 const KEPT: &[Row] = &[
+    // The root forks and joins 1,000 threads one after another.
     Row {
         shows: "where two threads live at most, each has a place",
-        source: IN_TURN,
-        forms: FORMS,
-        slots: SLOTS,
-        machines: ONE_CORE,
-        draws: ZEROS,
-        orders: &[],
-        watching: Watching::Nothing,
-        facts: &[(Fact::Value, 1000), (Fact::Slot, 1001)],
-        telling: Telling::Nothing,
-        told: "",
+        expr: "(fold (num 0) (num 1000) (num 0) (fork n (num 1) (num 1) (add (var 1) (var 2))))",
+        machines: (&[1], QUANTA),
+        facts: &[(Value, 1000), (Slot, 1001)],
+        ..ROW
     },
-    // 44 of the first threads find no place, and all later threads find one.
+    // 100 threads, 44 of which find no place, and then 1,000 threads one after another, which find one.
     Row {
         shows: "places that were kept are given back",
-        source: AFTER_MANY,
-        forms: FORMS,
-        slots: SLOTS,
-        machines: ONE_CORE,
-        draws: ZEROS,
-        orders: &[],
-        watching: Watching::Nothing,
-        facts: &[
-            (Fact::Value, 1000),
-            (Fact::Threads, 1100),
-            (Fact::InPlaceUpTo(44), 1),
-        ],
-        telling: Telling::Nothing,
-        told: "",
+        expr: "(let (sweep add 1 (num 0) (num 100) (fold (num 0) (num 30) (num 0) (num 0))) (fold (num 0) (num 1000) (num 0) (fork n (num 1) (num 1) (add (var 2) (var 3)))))",
+        machines: (&[1], QUANTA),
+        facts: &[(Value, 1000), (Threads, 1100), (InPlaceUpTo(44), 1)],
+        ..ROW
     },
-    ALL_PLACED,
+    NEVER_FULL,
     Row {
-        source: Source {
-            expr: "(let (sweep add 1 (num 0) (num 10) (var 0)) (sweep add 1 (num 0) (num 25) (fold (num 0) (num 12000) (num 0) (num 0))))",
-            ..NEVER_FULL
-        },
-        machines: &[(1, 10_000, 1)],
-        ..ALL_PLACED
+        expr: "(let (sweep add 1 (num 0) (num 10) (var 0)) (sweep add 1 (num 0) (num 25) (fold (num 0) (num 12000) (num 0) (num 0))))",
+        machines: (&[1], &[10_000]),
+        ..NEVER_FULL
+    },
+    // Of 1,000 threads 134 get a place when they are forked. If workers kept places, only 56 threads would.
+    Row {
+        shows: "no place is kept where an order may close the core",
+        expr: "(sweep add 1 (num 0) (num 1000) (var 0))",
+        machines: (&[1], &[1]),
+        orders: Listed(&[(1_000_000, Grant, 0)]),
+        facts: &[(Value, 499_500), (InPlaceUpTo(900), 1)],
+        ..ROW
     },
 ];
 
@@ -267,90 +159,48 @@ fn places_are_kept_on_full_cores_alone(rt: HostRuntime) -> Result<(), Fail> {
     rows_hold(&rt, rt.alloc(), KEPT)
 }
 
-const AT_ONCE: &[Row] = &[
-    // Each of the two threads waits in its slice until the other has entered a slice.
-    Row {
-        shows: "two long threads run side by side",
-        source: BESIDE,
-        forms: FORMS,
-        slots: SLOTS,
-        machines: &[(2, 1, 2), (2, 7, 2), (2, 100, 2)],
-        draws: CORE_ONE,
-        orders: &[],
-        watching: Watching::Meeting(3, 0),
-        facts: &[(Fact::Value, 0), (Fact::Slot, 2), (Fact::IsOver, 1)],
-        telling: Telling::Nothing,
-        told: "",
-    },
-    Row {
-        shows: "two long threads run side by side",
-        source: BESIDE_LONG,
-        forms: FORMS,
-        slots: SLOTS,
-        machines: &[(2, 10_000, 2)],
-        draws: CORE_ONE,
-        orders: &[],
-        watching: Watching::Meeting(3, 0),
-        facts: &[(Fact::Value, 0), (Fact::Slot, 2), (Fact::IsOver, 1)],
-        telling: Telling::Nothing,
-        told: "",
-    },
-    Row {
-        shows: "a thread that has a core alone runs beside its parent",
-        source: ALONE,
-        forms: FORMS,
-        slots: SLOTS,
-        machines: &[(2, 1, 2)],
-        draws: ZEROS,
-        orders: &[],
-        watching: Watching::Meeting(500, 0),
-        facts: &[(Fact::Value, 1), (Fact::Slot, 2), (Fact::IsOver, 1)],
-        telling: Telling::Nothing,
-        told: "",
-    },
-    GIVEN_BACK,
-    Row {
-        source: Source {
-            expr: "(fork n (fork n (fork n (fork n (fold (num 0) (num 400000) (num 0) (var 1)) (num 1) (var 0)) (num 1) (var 0)) (num 1) (var 0)) (let (fold (num 0) (num 60000) (num 0) (var 1)) (fork n (num 1) (let (fold (num 0) (num 60000) (num 0) (var 2)) (fork n (num 1) (num 1) (num 0))) (num 0))) (var 0))",
-            ..SLEEPING
-        },
-        machines: &[(2, 7, 2), (2, 100, 2), (2, 10_000, 2)],
-        ..GIVEN_BACK
-    },
-];
-
-/// Core 0 draws core 1, and core 1 draws core 0.
-const CROSSWISE: Draws = Draws {
-    word: CORE_ONE.word,
-    step: 0,
-    apart: 0xFFFF_FFFE_FFFF_FFFF,
+/// Each of the two threads waits in its slice until the other has entered a slice.
+const MEETING: Row = Row {
+    shows: "two long threads run side by side",
+    expr: BESIDE,
+    machines: (&[2], &[1, 7, 100]),
+    draws: CORE_ONE,
+    watching: Watching::Meeting(3, 0),
+    facts: &[(Value, 0), (Slot, 2), (IsOver, 1)],
+    ..ROW
 };
 
 /// A chain of four threads, of which the innermost counts. Meanwhile the root counts, forks a thread, counts again, and
-/// forks one more.
-const SLEEPING: Source = Source {
-    ledgers: 0,
-    locks: 0,
-    forks: 0,
-    expr: "(fork n (fork n (fork n (fork n (fold (num 0) (num 10000) (num 0) (var 1)) (num 1) (var 0)) (num 1) (var 0)) (num 1) (var 0)) (let (fold (num 0) (num 3000) (num 0) (var 1)) (fork n (num 1) (let (fold (num 0) (num 3000) (num 0) (var 2)) (fork n (num 1) (num 1) (num 0))) (num 0))) (var 0))",
-};
-
+/// forks one more. Core 0 draws core 1, and core 1 draws core 0.
+///
 /// The root and two of the four threads fill core 0, and the two others wait on core 1. A thread that the root forks
 /// meanwhile ends on core 1, so that core 1's worker keeps the thread's place and has nothing to run. A call that finds
 /// core 1 full waits in this table until a place is free, and no thread is moved.
 const GIVEN_BACK: Row = Row {
     shows: "a kernel thread that sleeps keeps no place",
-    source: SLEEPING,
+    expr: "(fork n (fork n (fork n (fork n (fold (num 0) (num 10000) (num 0) (var 1)) (num 1) (var 0)) (num 1) (var 0)) (num 1) (var 0)) (let (fold (num 0) (num 3000) (num 0) (var 1)) (fork n (num 1) (let (fold (num 0) (num 3000) (num 0) (var 2)) (fork n (num 1) (num 1) (num 0))) (num 0))) (var 0))",
     forms: LOCKED,
+    machines: (&[2], &[1]),
     slots: 3,
-    machines: &[(2, 1, 2)],
-    draws: CROSSWISE,
-    orders: &[],
-    watching: Watching::Nothing,
-    facts: &[(Fact::Value, 0), (Fact::Slot, 7)],
-    telling: Telling::Nothing,
-    told: "",
+    draws: Draws(ONE_EACH, 0, 0xFFFF_FFFE_FFFF_FFFF),
+    facts: &[(Value, 0), (Slot, 7)],
+    ..ROW
 };
+
+const AT_ONCE: &[Row] = &[
+    MEETING,
+    Row {
+        expr: BESIDE_LONG,
+        machines: (&[2], &[10_000]),
+        ..MEETING
+    },
+    GIVEN_BACK,
+    Row {
+        expr: "(fork n (fork n (fork n (fork n (fold (num 0) (num 400000) (num 0) (var 1)) (num 1) (var 0)) (num 1) (var 0)) (num 1) (var 0)) (let (fold (num 0) (num 60000) (num 0) (var 1)) (fork n (num 1) (let (fold (num 0) (num 60000) (num 0) (var 2)) (fork n (num 1) (num 1) (num 0))) (num 0))) (var 0))",
+        machines: (&[2], &[7, 100, 10_000]),
+        ..GIVEN_BACK
+    },
+];
 
 #[test]
 fn threads_run_side_by_side(rt: HostRuntime) -> Result<(), Fail> {
@@ -358,27 +208,23 @@ fn threads_run_side_by_side(rt: HostRuntime) -> Result<(), Fail> {
 }
 
 /// A normal thread ends, and then an exclusive thread begins.
-const ALONE_AFTER_ANOTHER: Row = Row {
+const THEN_ALONE: Row = Row {
     shows: "a thread that is to be alone gets a core that is empty",
-    source: THEN_ALONE,
-    forms: FORMS,
-    slots: SLOTS,
-    machines: &[(2, 1, 2), (2, 7, 2), (2, 100, 2), (2, 10_000, 2)],
+    expr: "(fork n (num 1) (num 2) (fork x (num 3) (num 4) (add (var 2) (var 3))))",
+    machines: (&[2], QUANTA),
     draws: SPREAD,
-    orders: &[],
-    watching: Watching::Nothing,
-    facts: &[(Fact::Value, 7), (Fact::Slot, 3)],
-    telling: Telling::Nothing,
-    told: "",
+    facts: &[(Value, 7), (Slot, 3)],
+    ..ROW
 };
 
-/// Like `ALONE_AFTER_ANOTHER`, but on cores of one place, so that a single thread makes a core full.
-const ALONE_AFTER_FULL: Row = Row {
-    slots: 1,
-    ..ALONE_AFTER_ANOTHER
-};
-
-const ALONE_AGAIN: &[Row] = &[ALONE_AFTER_ANOTHER, ALONE_AFTER_FULL];
+/// The second row is on cores of one place, so that a single thread makes a core full.
+const ALONE_AGAIN: &[Row] = &[
+    THEN_ALONE,
+    Row {
+        slots: 1,
+        ..THEN_ALONE
+    },
+];
 
 #[test]
 fn a_core_that_is_left_is_free_at_once(rt: HostRuntime) -> Result<(), Fail> {

@@ -1,25 +1,11 @@
 //! Programs, and the report that every run of them must give.
-use super::facts::Telling;
-use super::rows::{MACHINES, Row, rows_hold};
-use super::{FORMS, Source};
+use super::facts::Telling::Threads;
+use super::rows::{ROW, Row, rows_hold};
 use crate::choosers::SPREAD;
-use crate::gates::Watching;
-use arachne_core::SLOTS;
 use arachne_lang::Name;
 use arachne_run::Report;
 use std::alloc::Global;
 use std::test::Fail;
-
-/// A sweep of eight numbers by four threads.
-pub(super) const SWEEP: Source = Source {
-    ledgers: 0,
-    locks: 0,
-    forks: 0,
-    expr: "(sweep add 2 (num 0) (num 8) (var 0))",
-};
-
-/// The text of the report of `SWEEP`.
-pub(super) const SWEPT: &str = "28 [] [][] [1][] [0][] [0, 0][]";
 
 /// Returns the numbers of which a name consists.
 fn numbers(alloc: Global, name: &Name) -> Result<Vec<u64>, Fail> {
@@ -40,145 +26,57 @@ pub(super) fn threads_of(alloc: Global, report: &Report) -> Result<String, Fail>
     Ok(text)
 }
 
+/// A sweep of eight numbers by four threads.
+pub(super) const SWEEP: Row = Row {
+    expr: "(sweep add 2 (num 0) (num 8) (var 0))",
+    draws: SPREAD,
+    told: (Threads, "28 [] [][] [1][] [0][] [0, 0][]"),
+    ..ROW
+};
+
 const ROWS: &[Row] = &[
+    SWEEP,
     Row {
-        shows: "every machine tells the same",
-        source: Source {
-            ledgers: 0,
-            locks: 0,
-            forks: 0,
-            expr: "(num 7)",
-        },
-        forms: FORMS,
-        slots: SLOTS,
-        machines: MACHINES,
-        draws: SPREAD,
-        orders: &[],
-        watching: Watching::Nothing,
-        facts: &[],
-        telling: Telling::Threads,
-        told: "7 [] [][]",
+        expr: "(num 7)",
+        told: (Threads, "7 [] [][]"),
+        ..SWEEP
     },
     Row {
-        shows: "every machine tells the same",
-        source: Source {
-            ledgers: 0,
-            locks: 0,
-            forks: 0,
-            expr: "(add (num 18446744073709551615) (num 1))",
-        },
-        forms: FORMS,
-        slots: SLOTS,
-        machines: MACHINES,
-        draws: SPREAD,
-        orders: &[],
-        watching: Watching::Nothing,
-        facts: &[],
-        telling: Telling::Threads,
-        told: "0 [] [][]",
+        expr: "(add (num 18446744073709551615) (num 1))",
+        told: (Threads, "0 [] [][]"),
+        ..SWEEP
     },
     Row {
-        shows: "every machine tells the same",
-        source: Source {
-            ledgers: 0,
-            locks: 0,
-            forks: 0,
-            expr: "(fork n (num 2) (num 3) (sub (var 0) (var 1)))",
-        },
-        forms: FORMS,
-        slots: SLOTS,
-        machines: MACHINES,
-        draws: SPREAD,
-        orders: &[],
-        watching: Watching::Nothing,
-        facts: &[],
-        telling: Telling::Threads,
-        told: "18446744073709551615 [] [][] [0][]",
+        expr: "(fork n (num 2) (num 3) (sub (var 0) (var 1)))",
+        told: (Threads, "18446744073709551615 [] [][] [0][]"),
+        ..SWEEP
     },
     Row {
-        shows: "every machine tells the same",
-        source: Source {
-            ledgers: 0,
-            locks: 0,
-            forks: 0,
-            expr: "(fork x (num 2) (num 3) (add (var 0) (var 1)))",
-        },
-        forms: FORMS,
-        slots: SLOTS,
-        machines: MACHINES,
-        draws: SPREAD,
-        orders: &[],
-        watching: Watching::Nothing,
-        facts: &[],
-        telling: Telling::Threads,
-        told: "5 [] [][] [0][]",
+        expr: "(fork x (num 2) (num 3) (add (var 0) (var 1)))",
+        told: (Threads, "5 [] [][] [0][]"),
+        ..SWEEP
     },
     Row {
-        shows: "every machine tells the same",
-        source: SWEEP,
-        forms: FORMS,
-        slots: SLOTS,
-        machines: MACHINES,
-        draws: SPREAD,
-        orders: &[],
-        watching: Watching::Nothing,
-        facts: &[],
-        telling: Telling::Threads,
-        told: SWEPT,
+        expr: "(sweep min 1 (num 5) (num 5) (var 0))",
+        told: (Threads, "18446744073709551615 [] [][]"),
+        ..SWEEP
     },
     Row {
-        shows: "every machine tells the same",
-        source: Source {
-            ledgers: 0,
-            locks: 0,
-            forks: 0,
-            expr: "(sweep min 1 (num 5) (num 5) (var 0))",
-        },
-        forms: FORMS,
-        slots: SLOTS,
-        machines: MACHINES,
-        draws: SPREAD,
-        orders: &[],
-        watching: Watching::Nothing,
-        facts: &[],
-        telling: Telling::Threads,
-        told: "18446744073709551615 [] [][]",
+        ledgers: 1,
+        locks: 1,
+        expr: "(sweep add 1 (num 0) (num 8) (hold 0 (tally 0 (num 5) (num 1))))",
+        told: (
+            Threads,
+            "8 [40] [][1] [2][1] [1][1] [1, 0][1] [0][1] [0, 1][1] [0, 0][1] [0, 0, 0][1]",
+        ),
+        ..SWEEP
     },
     Row {
-        shows: "every machine tells the same",
-        source: Source {
-            ledgers: 1,
-            locks: 1,
-            forks: 0,
-            expr: "(sweep add 1 (num 0) (num 8) (hold 0 (tally 0 (num 5) (num 1))))",
-        },
-        forms: FORMS,
-        slots: SLOTS,
-        machines: MACHINES,
-        draws: SPREAD,
-        orders: &[],
-        watching: Watching::Nothing,
-        facts: &[],
-        telling: Telling::Threads,
-        told: "8 [40] [][1] [2][1] [1][1] [1, 0][1] [0][1] [0, 1][1] [0, 0][1] [0, 0, 0][1]",
-    },
-    Row {
-        shows: "every machine tells the same",
-        source: Source {
-            ledgers: 2,
-            locks: 2,
-            forks: 0,
-            expr: "(fork n (hold 1 (tally 1 (num 4) (num 1))) (tally 0 (num 3) (num 2)) (hold 0 (add (var 0) (var 1))))",
-        },
-        forms: FORMS,
-        slots: SLOTS,
-        machines: MACHINES,
-        draws: SPREAD,
-        orders: &[],
-        watching: Watching::Nothing,
-        facts: &[],
-        telling: Telling::Threads,
-        told: "3 [3, 4] [][1, 0] [0][0, 1]",
+        ledgers: 2,
+        locks: 2,
+        expr: "(fork n (hold 1 (tally 1 (num 4) (num 1))) (tally 0 (num 3) (num 2)) (hold 0 (add (var 0) (var 1))))",
+        told: (Threads, "3 [3, 4] [][1, 0] [0][0, 1]"),
+        ..SWEEP
     },
 ];
 

@@ -3,7 +3,7 @@
 ghost use Rattle.arachne_lang.specs.Checked.{IsChecked};
 ghost use Rattle.arachne_lang.specs.Program.{source_of};
 
-use super::{Source, program_of};
+use super::rows::{ROW, Row, program_of};
 use arachne_core::ThreadId;
 use arachne_jobs::{Job, JobOf, JobSpares, Openings, Room, RunJob, RunSpares, Slice, Ticket};
 use arachne_lang::Program;
@@ -12,11 +12,9 @@ use std::alloc::Global;
 use std::test::Fail;
 
 /// One fork.
-const FORK: Source = Source {
-    ledgers: 0,
-    locks: 0,
-    forks: 0,
+const FORK: Row = Row {
     expr: "(fork n (num 2) (num 3) (sub (var 0) (var 1)))",
+    ..ROW
 };
 
 /// More steps and slices than a thread of the fork needs.

@@ -1,70 +1,173 @@
 //! Rows of runs: a program, its machines, and the result that each run must have.
+ghost use Rattle.std.specs.Prelude.{IfOk};
 ghost use Rattle.arachne_lang.specs.Checked.{IsChecked};
 ghost use Rattle.arachne_lang.specs.Program.{source_of};
 
 use super::facts::{Fact, Telling, number, told};
-use super::{Form, Machine, Source, program_of, run_hastily, run_on_lock, run_on_words, setup_of};
-use crate::choosers::Draws;
+use super::{Form, run_hastily, run_on_lock, run_on_words};
+use crate::choosers::{Draws, Progression, ZEROS};
 use crate::gates::{Watch, Watching};
-use arachne_lang::Program;
-use arachne_policy::CoreOrder;
-use arachne_run::{Report, RunFault};
-use std::alloc::Global;
+use arachne_core::SLOTS;
+use arachne_lang::{Program, check, parse};
+use arachne_policy::{CoreOrder, OrderKind};
+use arachne_run::{Report, RunFault, Setup};
+use std::alloc::{AllocError, Global};
 use std::sync::Wait;
 use std::test::Fail;
 use std::thread::Threads;
 use std::time::Clock;
 
-/// The machines on which a program must mean the same.
-pub(super) const MACHINES: &[Machine] = &[
-    (1, 1, 1),
-    (2, 1, 2),
-    (3, 1, 3),
-    (4, 1, 4),
-    (16, 1, 16),
-    (1, 100, 1),
-    (2, 100, 2),
-    (4, 100, 4),
-    (16, 100, 16),
-];
+/// Both forms of table.
+pub(super) const FORMS: &[Form] = &[Form::Locked, Form::Words];
+
+/// Only the table behind a lock.
+pub(super) const LOCKED: &[Form] = &[Form::Locked];
+
+/// The form of table of a run, and the numbers of cores and of steps per slice (the quantum).
+pub(super) type Machine = (Form, u64, u64);
+
+/// The orders of a row to open or close cores.
+#[derive(Clone, Copy)]
+pub(super) enum Orders {
+    /// Orders, each with the number of slices after which it is due, and its core.
+    Listed(&'static [(u64, OrderKind, u64)]),
+    /// This number of orders, each due one slice after the previous one: releases and grants of each core but 0 in
+    /// turn. On one core there are none.
+    InTurn(u64),
+    /// Releases of the cores from 1 to this one, due at once.
+    Releases(u64),
+}
 
 /// A program that is run over each of the forms on each of the machines.
 #[derive(Clone, Copy)]
 pub(super) struct Row {
     /// The rule that the row shows, for messages of failed tests.
     pub(super) shows: &'static str,
-    pub(super) source: Source,
+    pub(super) ledgers: u8,
+    pub(super) locks: u8,
+    /// The number of nested forks around `expr`, which is the child of the innermost.
+    pub(super) forks: usize,
+    pub(super) expr: &'static str,
     pub(super) forms: &'static [Form],
+    /// The numbers of cores and the quanta of the machines, one for each pair of these.
+    pub(super) machines: (&'static [u64], &'static [u64]),
     /// The number of places per core.
     pub(super) slots: u8,
-    pub(super) machines: &'static [Machine],
     pub(super) draws: Draws,
-    pub(super) orders: &'static [CoreOrder],
+    pub(super) orders: Orders,
     pub(super) watching: Watching,
     /// The facts that a report must show.
     pub(super) facts: &'static [(Fact, u64)],
-    /// Selects the text that is made of a report and must equal `told`. If there is no report, this is the text of the
-    /// fault.
-    pub(super) telling: Telling,
-    pub(super) told: &'static str,
+    /// The kind of text that is made of a report, and that text; or the text of the fault, if there is no report.
+    pub(super) told: (Telling, &'static str),
 }
 
-/// Runs a row's program once, with `slots` places per core. All tests run their programs here.
+/// A row on machines on which every program must mean the same. Other rows say in what they differ from this one.
+pub(super) const ROW: Row = Row {
+    shows: "every machine tells the same",
+    ledgers: 0,
+    locks: 0,
+    forks: 0,
+    expr: "(num 7)",
+    forms: FORMS,
+    machines: (&[1, 2, 3, 4, 16], &[1, 100]),
+    slots: SLOTS,
+    draws: ZEROS,
+    orders: Orders::Listed(&[]),
+    watching: Watching::Nothing,
+    facts: &[],
+    told: (Telling::Nothing, ""),
+};
+
+/// Quanta from the least to the greatest.
+pub(super) const QUANTA: &[u64] = &[1, 7, 100, 10_000];
+
+/// Returns the text of a row's program.
+fn text_of(alloc: Global, row: &Row) -> Result<String, Fail> {
+    let (ledgers, locks, expr) = (row.ledgers, row.locks, row.expr);
+    let fronts = "(fork n ".repeat(alloc, row.forks)?;
+    let ends = " (num 1) (add (var 0) (var 1)))".repeat(alloc, row.forks)?;
+    Ok(format!(in alloc; "arachne 1\nledgers {ledgers}\nlocks {locks}\n{fronts}{expr}{ends}\n")?)
+}
+
+/// Parses and checks the text of a row's program.
+pub(super) fn program_of(alloc: Global, row: &Row) -> Result<Program, Fail>
+    ensures { IfOk result (λ program. IsChecked (source_of program)) }
+{
+    let text = text_of(alloc, row)?;
+    let program = parse(alloc, text.as_bytes())?;
+    check(&program)?;
+    Ok(program)
+}
+
+/// Returns a row's orders on this number of cores.
+pub(super) fn orders_of(
+    alloc: Global,
+    row: &Row,
+    cores: u64,
+) -> Result<Vec<CoreOrder>, AllocError> {
+    let mut orders = Vec::new(alloc);
+    match row.orders {
+        Orders::Listed(listed) => {
+            for &(after, kind, core) in listed {
+                orders.push(CoreOrder { after, kind, core })?;
+            }
+        }
+        Orders::InTurn(count) if cores > 1 => {
+            for after in 0..count {
+                let kind = if after % 2 == 0 {
+                    OrderKind::Release
+                } else {
+                    OrderKind::Grant
+                };
+                let core = 1 + after / 2 % (cores - 1);
+                orders.push(CoreOrder { after, kind, core })?;
+            }
+        }
+        Orders::InTurn(_) => {}
+        Orders::Releases(last) => {
+            for before in 0..last {
+                let (after, kind, core) = (0, OrderKind::Release, before + 1);
+                orders.push(CoreOrder { after, kind, core })?;
+            }
+        }
+    }
+    Ok(orders)
+}
+
+/// Returns the setup of a row's run on a machine, and its choosers, one for each core.
+fn setup_of(
+    alloc: Global,
+    row: &Row,
+    machine: Machine,
+) -> Result<(Setup, Vec<Progression>), AllocError> {
+    let (_, cores, quantum) = machine;
+    let mut choosers = Vec::new(alloc);
+    for nth in 0..cores {
+        choosers.push(row.draws.of(nth))?;
+    }
+    let setup = Setup {
+        cores,
+        slots: u64::from(row.slots),
+        quantum,
+        orders: orders_of(alloc, row, cores)?,
+    };
+    Ok((setup, choosers))
+}
+
+/// Runs a row's program once. All tests run their programs here.
 pub(super) fn run_row<R: Threads + Wait + Clock + Sync>(
     rt: &R,
     alloc: Global,
     row: &Row,
     program: &Program,
-    form: Form,
     machine: Machine,
-    slots: u8,
-    orders: &[CoreOrder],
     watch: &Watch,
 ) -> Result<Report, RunFault>
     requires { IsChecked (source_of program.now) }
 {
-    let (setup, choosers) = setup_of(alloc, machine, slots, row.draws, orders)?;
-    match form {
+    let (setup, choosers) = setup_of(alloc, row, machine)?;
+    match machine.0 {
         Form::Locked => run_on_lock(rt, alloc, program, setup, choosers, watch),
         Form::Words => run_on_words(rt, alloc, program, setup, choosers, watch),
         Form::Hasty => run_hastily(rt, alloc, program, setup, choosers, watch),
@@ -72,7 +175,7 @@ pub(super) fn run_row<R: Threads + Wait + Clock + Sync>(
 }
 
 /// Returns the first of a row's facts that is wrong, by its number from 0, and its value.
-fn wrong_fact(row: &Row, report: &Report, watch: &Watch) -> Option<(usize, u64)> {
+pub(super) fn wrong_fact(row: &Row, report: &Report, watch: &Watch) -> Option<(usize, u64)> {
     for (nth, &(fact, expected)) in row.facts.iter().enumerate() {
         let found = number(report, watch, fact);
         if found != expected {
@@ -80,25 +183,6 @@ fn wrong_fact(row: &Row, report: &Report, watch: &Watch) -> Option<(usize, u64)>
         }
     }
     None
-}
-
-/// Runs a row's program once. Returns whether all facts hold, or the fault, and makes no text.
-pub(super) fn tried<R: Threads + Wait + Clock + Sync>(
-    rt: &R,
-    alloc: Global,
-    row: &Row,
-    program: &Program,
-    form: Form,
-    machine: Machine,
-) -> Result<bool, RunFault>
-    requires { IsChecked (source_of program.now) }
-{
-    let watch = Watch::new(row.watching);
-    let (slots, orders) = (row.slots, row.orders);
-    let report = run_row(
-        rt, alloc, row, program, form, machine, slots, orders, &watch,
-    )?;
-    Ok(wrong_fact(row, &report, &watch).is_none())
 }
 
 /// Checks the text of a run against the row's text, and all facts of the row.
@@ -117,58 +201,42 @@ pub(super) fn judge(
         Err(_) if watch.is_over() && watch.is_still() => None,
         Err(_) => Some((0, 0)),
     };
-    let told = told(alloc, answer, row.telling)?;
-    let (shows, told) = (row.shows, told.as_str());
-    if told == row.told && wrong.is_none() {
+    let (shows, (telling, expected)) = (row.shows, row.told);
+    let told = told(alloc, answer, telling)?;
+    let told = told.as_str();
+    if told == expected && wrong.is_none() {
         return Ok(());
     }
     Err(Fail::new(format_args!("{shows}: {machine:?}: {wrong:?} {told}")))
 }
 
-/// Runs a row's program once, and checks that run.
-fn run_holds<R: Threads + Wait + Clock + Sync>(
+/// Runs a row over each of its forms on each of its machines.
+fn row_holds<R: Threads + Wait + Clock + Sync>(
     rt: &R,
     alloc: Global,
     row: &Row,
-    program: &Program,
-    form: Form,
-    machine: Machine,
-    orders: &[CoreOrder],
-) -> Result<(), Fail>
-    requires { IsChecked (source_of program.now) }
-{
-    let watch = Watch::new(row.watching);
-    let slots = row.slots;
-    let answer = run_row(
-        rt, alloc, row, program, form, machine, slots, orders, &watch,
-    );
-    judge(alloc, row, machine, &answer, &watch)
-}
-
-/// Runs a row, with these orders, over each of its forms on each of its machines.
-pub(super) fn row_holds<R: Threads + Wait + Clock + Sync>(
-    rt: &R,
-    alloc: Global,
-    row: &Row,
-    orders: &[CoreOrder],
 ) -> Result<(), Fail> {
-    let program = program_of(alloc, &row.source)?;
+    let program = program_of(alloc, row)?;
     for &form in row.forms {
-        for &machine in row.machines {
-            run_holds(rt, alloc, row, &program, form, machine, orders)?;
+        for &cores in row.machines.0 {
+            for &quantum in row.machines.1 {
+                let (machine, watch) = ((form, cores, quantum), Watch::new(row.watching));
+                let answer = run_row(rt, alloc, row, &program, machine, &watch);
+                judge(alloc, row, machine, &answer, &watch)?;
+            }
         }
     }
     Ok(())
 }
 
-/// Runs each row, with its own orders, over each of its forms on each of its machines.
+/// Runs each row over each of its forms on each of its machines.
 pub(super) fn rows_hold<R: Threads + Wait + Clock + Sync>(
     rt: &R,
     alloc: Global,
     rows: &[Row],
 ) -> Result<(), Fail> {
     for row in rows {
-        row_holds(rt, alloc, row, row.orders)?;
+        row_holds(rt, alloc, row)?;
     }
     Ok(())
 }

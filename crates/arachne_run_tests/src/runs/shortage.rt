@@ -3,16 +3,16 @@
 ghost use Rattle.arachne_lang.specs.Checked.{IsChecked};
 ghost use Rattle.arachne_lang.specs.Program.{source_of};
 
-use super::facts::{Fact, Telling};
-use super::programs::SWEEP;
-use super::reports::CHAIN;
-use super::rows::{Row, tried};
-use super::{Form, Machine, Source, program_of};
+use super::Form;
+use super::facts::Fact;
+use super::facts::Fact::Value;
+use super::places::CHAIN;
+use super::rows::Orders::Listed;
+use super::rows::{Machine, ROW, Row, program_of, run_row, wrong_fact};
 use crate::choosers::SPREAD;
-use crate::gates::Watching;
-use arachne_core::SLOTS;
+use crate::gates::Watch;
 use arachne_lang::Program;
-use arachne_policy::{CoreOrder, OrderKind};
+use arachne_policy::OrderKind::{Grant, Release};
 use arachne_run::{RunFault, WorkerFault};
 use arachne_shortage::Hoard;
 use std::alloc::Global;
@@ -32,129 +32,80 @@ const RUNS_ON_CORES: u64 = 200;
 const BYTES: usize = 400;
 
 /// The number of times that a run on one core is repeated with just enough memory for a report, and `SLACK` bytes more.
+/// If each run left memory behind, the last ones would have none.
 const REPEATED: usize = 2_000;
 
 const SLACK: usize = 200_000;
 
-/// Cores 1 and 2 are taken back, and core 1 is granted again.
-const ORDERS: &[CoreOrder] = &[
-    CoreOrder {
-        after: 0,
-        kind: OrderKind::Release,
-        core: 1,
-    },
-    CoreOrder {
-        after: 1,
-        kind: OrderKind::Release,
-        core: 2,
-    },
-    CoreOrder {
-        after: 2,
-        kind: OrderKind::Grant,
-        core: 1,
-    },
-];
-
-/// One fork.
-const FORK: Source = Source {
-    ledgers: 0,
-    locks: 0,
-    forks: 0,
+/// One fork on four cores.
+const FORK: Row = Row {
     expr: "(fork n (num 2) (num 3) (sub (var 0) (var 1)))",
+    machines: (&[4], &[100]),
+    draws: SPREAD,
+    facts: &[(Value, u64::MAX), (Fact::Threads, 2)],
+    ..ROW
 };
 
 /// Eight threads that hold a lock and add to a ledger.
-const HOLDS: Source = Source {
+const HOLDS: Row = Row {
     ledgers: 1,
     locks: 1,
-    forks: 0,
     expr: "(sweep add 1 (num 0) (num 8) (hold 0 (tally 0 (num 5) (num 1))))",
+    facts: &[(Value, 8), (Fact::Threads, 8)],
+    ..FORK
 };
 
-/// In slices of one step, 50 threads wait for one lock, whose history grows by more than `BYTES` bytes at once.
-const WANTED: Source = Source {
-    ledgers: 0,
-    locks: 1,
-    forks: 0,
-    expr: "(sweep add 1 (num 0) (num 50) (hold 0 (num 1)))",
-};
-
-/// More threads than places. Some of the threads wait for a place.
-const WAITING: Source = Source {
-    ledgers: 0,
-    locks: 0,
-    forks: 0,
-    expr: "(sweep add 1 (num 0) (num 200) (var 0))",
-};
-
-/// The fork on four cores.
-const FORKS: Row = Row {
-    shows: "a run without memory ends by a fault, and one with a little more by its report",
-    source: FORK,
-    forms: &[],
-    slots: SLOTS,
-    machines: &[(4, 100, 4)],
-    draws: SPREAD,
-    orders: &[],
-    watching: Watching::Nothing,
-    facts: &[(Fact::Value, u64::MAX), (Fact::Threads, 2)],
-    telling: Telling::Nothing,
-    told: "",
-};
-
-const HOLD: Row = Row {
-    source: HOLDS,
-    facts: &[(Fact::Value, 8), (Fact::Threads, 8)],
-    ..FORKS
-};
-
-const CHAINED: Row = Row {
-    source: CHAIN,
-    facts: &[(Fact::Value, 61), (Fact::Threads, 61)],
-    ..FORKS
-};
-
-/// The rows that run on four cores.
+/// Rows on four cores.
 const ON_FOUR: &[Row] = &[
-    FORKS,
-    HOLD,
+    FORK,
+    HOLDS,
     Row {
-        source: SWEEP,
-        machines: &[(4, 1, 4)],
-        orders: ORDERS,
-        facts: &[(Fact::Value, 28), (Fact::Threads, 4)],
-        ..FORKS
+        expr: "(sweep add 2 (num 0) (num 8) (var 0))",
+        machines: (&[4], &[1]),
+        orders: Listed(&[(0, Release, 1), (1, Release, 2), (2, Grant, 1)]),
+        facts: &[(Value, 28), (Fact::Threads, 4)],
+        ..FORK
     },
-    CHAINED,
+    Row {
+        forks: 60,
+        expr: "(num 1)",
+        facts: &[(Value, 61), (Fact::Threads, 61)],
+        ..FORK
+    },
 ];
 
-const ONE: &[Machine] = &[(1, 100, 1)];
-
-/// The rows that run on one core.
+/// Rows on one core.
 const ON_ONE: &[Row] = &[
     Row {
-        machines: ONE,
-        ..FORKS
+        machines: (&[1], &[100]),
+        ..FORK
     },
     Row {
-        machines: ONE,
-        ..HOLD
+        machines: (&[1], &[100]),
+        ..HOLDS
+    },
+    // In slices of one step, 50 threads wait for one lock, whose history grows by more than `BYTES` bytes at once.
+    Row {
+        locks: 1,
+        expr: "(sweep add 1 (num 0) (num 50) (hold 0 (num 1)))",
+        machines: (&[1], &[1]),
+        draws: SPREAD,
+        facts: &[(Value, 50), (Fact::Threads, 50)],
+        ..ROW
+    },
+    // More threads than places. Some of the threads wait for a place.
+    Row {
+        expr: "(sweep add 1 (num 0) (num 200) (var 0))",
+        machines: (&[1], &[100]),
+        draws: SPREAD,
+        facts: &[(Value, 19_900), (Fact::Threads, 200)],
+        ..ROW
     },
     Row {
-        source: WANTED,
-        machines: &[(1, 1, 1)],
-        facts: &[(Fact::Value, 50), (Fact::Threads, 50)],
-        ..FORKS
-    },
-    Row {
-        source: WAITING,
-        machines: ONE,
-        facts: &[(Fact::Value, 19_900), (Fact::Threads, 200)],
-        ..FORKS
-    },
-    Row {
-        machines: ONE,
-        ..CHAINED
+        machines: (&[1], &[100]),
+        draws: SPREAD,
+        facts: &[(Value, 61), (Fact::Threads, 61)],
+        ..CHAIN
     },
 ];
 
@@ -163,6 +114,21 @@ type Tried = Result<bool, RunFault>;
 
 /// The run has a report that shows the row's facts.
 const WELL: Tried = Ok(true);
+
+/// Runs a row's program once, and makes no text.
+fn tried<R: Threads + Wait + Clock + Sync>(
+    rt: &R,
+    alloc: Global,
+    row: &Row,
+    program: &Program,
+    machine: Machine,
+) -> Tried
+    requires { IsChecked (source_of program.now) }
+{
+    let watch = Watch::new(row.watching);
+    let report = run_row(rt, alloc, row, program, machine, &watch)?;
+    Ok(wrong_fact(row, &report, &watch).is_none())
+}
 
 /// Returns whether memory was refused. On several cores memory may have been refused to a new kernel thread.
 fn is_want(tried: Tried, cores: u64) -> bool {
@@ -182,18 +148,17 @@ fn refused<R: Threads + Wait + Clock + Sync>(
     alloc: Global,
     row: &Row,
     program: &Program,
-    form: Form,
     machine: Machine,
     hoard: &mut Hoard,
     last: Tried,
 ) -> (u64, Tried)
     requires { IsChecked (source_of program.now) }
 {
-    let (cores, _, _) = machine;
+    let (_, cores, _) = machine;
     let most = if cores > 1 { RUNS_ON_CORES } else { RUNS };
     let mut came = Err(RunFault::Worker(WorkerFault::Memory));
     for runs in 0..most {
-        came = tried(rt, alloc, row, program, form, machine);
+        came = tried(rt, alloc, row, program, machine);
         if came == last || !is_want(came, cores) {
             return (runs, came);
         }
@@ -202,125 +167,87 @@ fn refused<R: Threads + Wait + Clock + Sync>(
     (most, came)
 }
 
-/// Returns whether a row's program has its report `times` times. If each run left memory behind, the last runs would
-/// have no memory.
+/// Returns whether a row's program has its report `times` times.
 fn goes_well<R: Threads + Wait + Clock + Sync>(
     rt: &R,
     alloc: Global,
     row: &Row,
     program: &Program,
-    form: Form,
     machine: Machine,
     times: usize,
 ) -> bool
     requires { IsChecked (source_of program.now) }
 {
     for _ in 0..times {
-        if tried(rt, alloc, row, program, form, machine) != WELL {
+        if tried(rt, alloc, row, program, machine) != WELL {
             return false;
         }
     }
     true
 }
 
-/// Runs a row's program while memory is used up. Returns the number of runs for which memory was refused, and the
-/// outcome of the last run.
-///
-/// On one core the program must then have its report again and again. If the program has no report then, the outcome is
-/// a lack of memory.
-fn without_memory<R: Threads + Wait + Clock + Sync>(
-    rt: &R,
-    alloc: Global,
-    row: &Row,
-    program: &Program,
-    form: Form,
-    machine: Machine,
-    last: Tried,
-) -> (u64, Tried)
-    requires { IsChecked (source_of program.now) }
-{
-    let Ok(mut hoard) = Hoard::take(alloc) else {
-        return (0, Err(RunFault::Worker(WorkerFault::Memory)));
-    };
-    let (runs, came) = refused(rt, alloc, row, program, form, machine, &mut hoard, last);
-    hoard.give_back(SLACK);
-    let (cores, _, _) = machine;
-    if cores == 1 && !goes_well(rt, alloc, row, program, form, machine, REPEATED) {
-        return (runs, Err(RunFault::Worker(WorkerFault::Memory)));
-    }
-    (runs, came)
-}
-
 /// Runs a row's program with all memory, with memory used up until the outcome is `last`, and with all memory again.
 ///
-/// If `last` is a fault, the first part is left out, so that the first run of the process has no memory.
+/// If `last` is a fault, the first part is left out, so that the first run of the process has no memory. On one core
+/// the program must have its report again and again once there is memory for it.
 fn row_ends<R: Threads + Wait + Clock + Sync>(
     rt: &R,
     alloc: Global,
     row: &Row,
-    form: Form,
-    last: Tried,
-) -> Result<(), Fail> {
-    let program = program_of(alloc, &row.source)?;
-    for &machine in row.machines {
-        let before = last != WELL || goes_well(rt, alloc, row, &program, form, machine, 1);
-        let (runs, came) = without_memory(rt, alloc, row, &program, form, machine, last);
-        let behind = goes_well(rt, alloc, row, &program, form, machine, 1);
-        judge(machine, last, before, runs, came, behind)?;
-    }
-    Ok(())
-}
-
-/// Checks that a row's runs before and after the shortage went well, and that the runs in the shortage ended as they
-/// must.
-fn judge(
     machine: Machine,
     last: Tried,
-    before: bool,
-    runs: u64,
-    came: Tried,
-    behind: bool,
 ) -> Result<(), Fail> {
-    let (cores, _, _) = machine;
+    let program = program_of(alloc, row)?;
+    let (_, cores, _) = machine;
+    let before = last != WELL || goes_well(rt, alloc, row, &program, machine, 1);
+    let mut hoard = Hoard::take(alloc)?;
+    let (runs, came) = refused(rt, alloc, row, &program, machine, &mut hoard, last);
+    hoard.give_back(SLACK);
+    let again = cores > 1 || goes_well(rt, alloc, row, &program, machine, REPEATED);
+    drop(hoard);
+    let behind = goes_well(rt, alloc, row, &program, machine, 1);
     let is_over = came == last || last == WELL && cores > 1 && is_want(came, cores);
-    if before && is_over && runs > 10 && behind {
+    if before && is_over && runs > 10 && again && behind {
         return Ok(());
     }
-    Err(Fail::new(format_args!("{machine:?}: {before} {runs} {came:?} {behind}")))
+    Err(Fail::new(format_args!("{machine:?}: {before} {runs} {came:?} {again} {behind}")))
 }
 
-/// Runs each row's program over a form of table, with and without memory.
+/// Runs each row's program over a form of table on each of its machines, with and without memory.
 fn rows_end<R: Threads + Wait + Clock + Sync>(
     rt: &R,
     alloc: Global,
     rows: &[Row],
     form: Form,
-    last: Tried,
 ) -> Result<(), Fail> {
     for row in rows {
-        row_ends(rt, alloc, row, form, last)?;
+        for &cores in row.machines.0 {
+            for &quantum in row.machines.1 {
+                row_ends(rt, alloc, row, (form, cores, quantum), WELL)?;
+            }
+        }
     }
     Ok(())
 }
 
 #[test]
 fn each_growth_is_refused_on_four_cores(rt: HostRuntime) -> Result<(), Fail> {
-    rows_end(&rt, rt.alloc(), ON_FOUR, Form::Words, WELL)
+    rows_end(&rt, rt.alloc(), ON_FOUR, Form::Words)
 }
 
 #[test]
 fn each_growth_is_refused_on_words(rt: HostRuntime) -> Result<(), Fail> {
-    rows_end(&rt, rt.alloc(), ON_ONE, Form::Words, WELL)
+    rows_end(&rt, rt.alloc(), ON_ONE, Form::Words)
 }
 
 #[test]
 fn each_growth_is_refused_behind_a_lock(rt: HostRuntime) -> Result<(), Fail> {
-    rows_end(&rt, rt.alloc(), ON_ONE, Form::Locked, WELL)
+    rows_end(&rt, rt.alloc(), ON_ONE, Form::Locked)
 }
 
 /// The first run of the process has no memory for the stack of a kernel thread, and the next one has.
 #[test]
 fn kernel_threads_are_refused(rt: HostRuntime) -> Result<(), Fail> {
     let last = Err(RunFault::Worker(WorkerFault::KernelThread));
-    row_ends(&rt, rt.alloc(), &FORKS, Form::Words, last)
+    row_ends(&rt, rt.alloc(), &FORK, (Form::Words, 4, 100), last)
 }

@@ -1,35 +1,23 @@
 //! Workers that wait, on a machine whose yields give a turn to other work. Counts are checked, not times.
-use super::facts::{Fact, Telling};
-use super::rows::{Row, rows_hold};
-use super::{FORMS, Source};
+use super::facts::Fact::{Applied, Grants, IsOver, OversleepsUpTo, Slot, Value};
+use super::rows::Orders::Listed;
+use super::rows::{ROW, Row, rows_hold};
 use crate::choosers::{CORE_ONE, SPREAD};
 use crate::clocks::SlowClock;
 use crate::gates::Watching;
-use arachne_core::SLOTS;
-use arachne_policy::{CoreOrder, OrderKind};
+use arachne_policy::OrderKind::Release;
 use std::test::Fail;
 
 /// A thousand threads hold a lock, once each.
-const HOLDS: Row = Row {
+const HELD: &[Row] = &[Row {
     shows: "who yields in vain yields no more",
-    source: Source {
-        ledgers: 0,
-        locks: 1,
-        forks: 0,
-        expr: "(sweep add 1 (num 0) (num 1000) (hold 0 (num 1)))",
-    },
-    forms: FORMS,
-    slots: SLOTS,
-    machines: &[(4, 100, 4)],
+    locks: 1,
+    expr: "(sweep add 1 (num 0) (num 1000) (hold 0 (num 1)))",
+    machines: (&[4], &[100]),
     draws: SPREAD,
-    orders: &[],
-    watching: Watching::Nothing,
-    facts: &[(Fact::Value, 1000), (Fact::Grants, 1000)],
-    telling: Telling::Nothing,
-    told: "",
-};
-
-const HELD: &[Row] = &[HOLDS];
+    facts: &[(Value, 1000), (Grants, 1000)],
+    ..ROW
+}];
 
 /// Checks that a worker yields no more after a yield that has gained nothing.
 ///
@@ -49,62 +37,31 @@ fn who_yields_in_vain_yields_no_more(rt: HostRuntime) -> Result<(), Fail> {
     Ok(())
 }
 
-/// The root forks 30 children to core 1, and counts to 5,000 after each, so that core 1's worker has run the child and
-/// sleeps when the next child is posted. The program has an exclusive fork, which is never made, so that no thread is
-/// moved. If nobody woke the worker, each of its sleeps would time out.
-const TOLD: Row = Row {
-    shows: "who sleeps is told of what it may run",
-    source: Source {
-        ledgers: 0,
-        locks: 0,
-        forks: 0,
+const TELLS: &[Row] = &[
+    // The root forks 30 children to core 1, and counts to 5,000 after each, so that core 1's worker has run the child
+    // and sleeps when the next child is posted. The program has an exclusive fork, which is never made, so that no
+    // thread is moved. If nobody woke the worker, each of its sleeps would time out.
+    Row {
+        shows: "who sleeps is told of what it may run",
         expr: "(if (num 0) (fork x (num 1) (num 2) (num 3)) (fold (num 0) (num 30) (num 0) (fork n (num 1) (fold (num 0) (num 5000) (num 0) (var 3)) (add (var 1) (var 2)))))",
+        machines: (&[2], &[100]),
+        draws: CORE_ONE,
+        facts: &[(Value, 30), (Slot, 31), (OversleepsUpTo(10), 1)],
+        ..ROW
     },
-    forms: FORMS,
-    slots: SLOTS,
-    machines: &[(2, 100, 2)],
-    draws: CORE_ONE,
-    orders: &[],
-    watching: Watching::Nothing,
-    facts: &[
-        (Fact::Value, 30),
-        (Fact::Slot, 31),
-        (Fact::OversleepsUpTo(10), 1),
-    ],
-    telling: Telling::Nothing,
-    told: "",
-};
-
-/// Core 1's worker has run a child, has nothing more to run, and sleeps when its core is taken back. At most five
-/// slices have ended before the pause in which the worker falls asleep.
-const TAKEN_BACK: Row = Row {
-    shows: "who sleeps is told that its core is taken back",
-    source: Source {
-        ledgers: 0,
-        locks: 0,
-        forks: 0,
+    // Core 1's worker has run a child, has nothing more to run, and sleeps when its core is taken back. At most five
+    // slices have ended before the pause in which the worker falls asleep.
+    Row {
+        shows: "who sleeps is told that its core is taken back",
         expr: "(fork n (num 1) (fold (num 0) (num 1000) (num 0) (var 1)) (var 0))",
+        machines: (&[2], &[1, 7, 100]),
+        draws: CORE_ONE,
+        orders: Listed(&[(6, Release, 1)]),
+        watching: Watching::Parking(2),
+        facts: &[(Applied, 1), (IsOver, 1), (OversleepsUpTo(0), 1)],
+        ..ROW
     },
-    forms: FORMS,
-    slots: SLOTS,
-    machines: &[(2, 1, 2), (2, 7, 2), (2, 100, 2)],
-    draws: CORE_ONE,
-    orders: &[CoreOrder {
-        after: 6,
-        kind: OrderKind::Release,
-        core: 1,
-    }],
-    watching: Watching::Parking(2),
-    facts: &[
-        (Fact::Applied, 1),
-        (Fact::IsOver, 1),
-        (Fact::OversleepsUpTo(0), 1),
-    ],
-    telling: Telling::Nothing,
-    told: "",
-};
-
-const TELLS: &[Row] = &[TOLD, TAKEN_BACK];
+];
 
 #[test]
 fn who_sleeps_is_told(rt: HostRuntime) -> Result<(), Fail> {

@@ -83,16 +83,14 @@ pub(super) fn fill_tables<C: Contexts<TagOnly> + Drop, R: Wait>(
     Ok(())
 }
 
-/// Makes a table of each possible size. Returns the number of tables.
-pub(super) fn make_tables<C: Contexts<TagOnly> + Drop>(alloc: Global) -> Result<usize, AllocError> {
-    let mut made = 0usize;
+/// Makes a table of each possible size.
+pub(super) fn make_tables<C: Contexts<TagOnly> + Drop>(alloc: Global) -> Result<(), AllocError> {
     for cores in 1..CORES + 1 {
         for slots in 1..SLOTS + 1 {
             let _ = C::new(alloc, cores, slots, 0)?;
-            made = made.wrapping_add(1);
         }
     }
-    Ok(made)
+    Ok(())
 }
 
 /// Puts a thread on core 0, and ends it at index `index`.

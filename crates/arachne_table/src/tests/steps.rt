@@ -1,4 +1,4 @@
-//! The steps of a run that don't change which claims and threads the seat has, and their answers.
+//! The steps of a run, and the answers of those that don't change which claims and threads the seat has.
 ghost use Rattle.std.specs.Prelude.{◌≡◌, ◌<◌, List, IfSome};
 ghost use Rattle.arachne_contexts.specs.Out.{Out, KeepsOut};
 
@@ -27,6 +27,29 @@ pub(super) enum Step {
     Second(u8, u64),
     /// Puts a thread at each place of a core. Its answer is what the table answered to the last of these threads.
     Fill(u8),
+    /// Claims a place of a core. The claim is spent by the next `Back` or `Put`.
+    Claim(u8),
+    /// Claims a whole core.
+    Whole(u8),
+    /// Takes the thread at a core's index. The thread is spent by the next `End`, `Block` or `Ready`.
+    Take(u8, u8),
+    Back,
+    /// Puts a thread with this tag at the claimed place.
+    Put(u64),
+    End,
+    Block,
+    Ready,
+}
+
+impl Step {
+    /// Returns whether the step gets or spends a claim or a thread.
+    pub(super) fn is_use(self) -> bool {
+        match self {
+            Step::Claim(_) | Step::Whole(_) | Step::Take(_, _) | Step::Back => true,
+            Step::Put(_) | Step::End | Step::Block | Step::Ready => true,
+            _ => false,
+        }
+    }
 }
 
 /// An answer: its name, and up to two numbers. The numbers are a word, a core and an index, or a context and a

@@ -19,23 +19,12 @@ const MOST: u64 = 100_000;
 pub(super) enum Way {
     /// Children run in their parent's place: the test puts each there at its fork.
     AtFork,
-    /// Children run as with `AtFork`, but a child of the root's first child is put in that child's place first.
-    GrownAtFork,
     /// Children run in the place of the thread that awaits them: the test puts each there at its join.
     AtJoin,
-    /// Like `AtJoin`, but the child has gone on before, with other threads in its place.
-    GrownAtJoin,
     /// Each child runs on its own, and is joined once it has ended.
     Alone,
     /// Like `Alone`, but only for exclusive children: others begin immediately in their parent's place.
     AloneIfExclusive,
-}
-
-impl Way {
-    /// Returns whether each call is repeated if memory is refused.
-    pub(super) fn may_be_short(self) -> bool {
-        self != Way::GrownAtFork && self != Way::GrownAtJoin
-    }
 }
 
 impl Placing for Way {
@@ -50,76 +39,43 @@ impl Placing for Way {
     }
 }
 
-/// Records of a run: the pauses of its threads, the sum of the tags that asked for a lock, and the tag of the next
-/// child that is handed back at its fork.
-#[derive(Clone, Copy)]
-pub(super) struct Heard {
-    pub(super) pauses: u64,
-    pub(super) asked: u64,
-    pub(super) next: u64,
-}
-
-/// A run: the way of its children, the budgets of the next call and of the later calls, its memory, and its records.
+/// A run: the way of its children, the budget of each call, and its memory. Records the number of used budgets, the sum
+/// of the tags that asked for a lock, and the tag of the next child that is handed back at its fork.
 #[derive(Drop)]
 pub(super) struct Round {
     way: Way,
     budget: u32,
-    then: u32,
     pub(super) memory: Memory,
-    pub(super) heard: Heard,
-}
-
-/// Returns a pause as decimal digits, with 10 to the power of their number.
-///
-/// The digits are 1 for a used budget, 2 for a fork, 3 and the lock that is asked for, 4 and the lock that is freed, 5
-/// with the ledger and the amount of a tally, 6 for the end, 7 for a join.
-fn digits(pause: &Pause) -> (u64, u64) {
-    match pause {
-        Pause::Budget => (10, 1),
-        Pause::Forks(_, _) => (10, 2),
-        Pause::Asks(lock) => (100, lock.wrapping_add(30)),
-        Pause::Frees(lock) => (100, lock.wrapping_add(40)),
-        Pause::Tallies(ledger, amount) => (
-            1000,
-            ledger
-                .wrapping_mul(10)
-                .wrapping_add(*amount)
-                .wrapping_add(500),
-        ),
-        Pause::Ended => (10, 6),
-        Pause::Joins => (10, 7),
-    }
+    pub(super) budgets: u64,
+    pub(super) asked: u64,
+    next: u64,
 }
 
 impl Round {
-    pub(super) fn new(way: Way, first: u32, then: u32) -> Round {
+    pub(super) fn new(way: Way, budget: u32) -> Round {
         Round {
             way,
-            budget: first,
-            then,
+            budget,
             memory: Memory::ample(),
-            heard: Heard {
-                pauses: 0,
-                asked: 0,
-                next: 10,
-            },
+            budgets: 0,
+            asked: 0,
+            next: 10,
         }
     }
 
     /// Records a pause of the thread with this tag.
     fn hear(&mut self, pause: &Pause, tag: u64) {
-        let (places, number) = digits(pause);
-        self.heard.pauses = self.heard.pauses.wrapping_mul(places).wrapping_add(number);
-        if let Pause::Asks(_) = pause {
-            self.heard.asked = self.heard.asked.wrapping_add(tag);
+        match pause {
+            Pause::Budget => self.budgets = self.budgets.wrapping_add(1),
+            Pause::Asks(_) => self.asked = self.asked.wrapping_add(tag),
+            _ => {}
         }
-        self.budget = self.then;
     }
 
     /// Returns the tag of the next child, and counts it up.
     fn next_tag(&mut self) -> u64 {
-        let next = self.heard.next;
-        self.heard.next = next.wrapping_add(1);
+        let next = self.next;
+        self.next = next.wrapping_add(1);
         next
     }
 }
@@ -222,21 +178,6 @@ fn answer(thread: &mut Thread) {
     }
 }
 
-/// Runs a child until two threads run in its place, one of them in the place of the other. Returns false if a call
-/// fails, or `MOST` calls are not enough.
-fn grow(child: &mut Thread, round: &mut Round) -> bool {
-    for _ in 0..MOST {
-        if round.heard.next == 12 {
-            return true;
-        }
-        if !go_on_in_place(child, round) {
-            return false;
-        }
-        answer(child);
-    }
-    false
-}
-
 // At an error a value is dropped in a function of its own, and not at each exit.
 
 fn lose_thread(_thread: Thread) -> bool {
@@ -314,13 +255,10 @@ fn await_child(family: &mut Family, round: &mut Round) -> bool {
         children,
         ..
     } = family;
-    let (Some(thread), Some(child)) = (threads.last_mut(), children.last_mut()) else {
-        return false;
-    };
-    if round.way == Way::GrownAtJoin && !grow(child, round) {
-        return false;
+    match threads.last_mut() {
+        Some(thread) => begin(thread, children, round),
+        None => false,
     }
-    begin(thread, children, round)
 }
 
 /// Takes the outcome of the last thread. Returns false if the thread has not ended, or memory is refused.
@@ -348,9 +286,7 @@ fn step(alloc: Global, family: &mut Family, round: &mut Round) -> bool {
         return join(thread, outcome, outcomes, round);
     }
     match thread.pending() {
-        None if round.way == Way::AtFork || round.way == Way::GrownAtFork => {
-            go_on_in_place(thread, round)
-        }
+        None if round.way == Way::AtFork => go_on_in_place(thread, round),
         None => go_on_apart(alloc, thread, children, round),
         Some(Pending::Joins) => await_child(family, round),
         Some(Pending::Ended) => end(family),
@@ -359,21 +295,6 @@ fn step(alloc: Global, family: &mut Family, round: &mut Round) -> bool {
             true
         }
     }
-}
-
-/// Puts a thread's first child in the thread's place at its fork, after that child's own first child was put in its
-/// place. Returns false if one of them does not fork, or memory is refused.
-fn hand_grown(thread: &mut Thread) -> bool {
-    if thread.pending().is_some() {
-        return false;
-    }
-    let Ok(Pause::Forks(_, mut child)) = thread.advance(100) else {
-        return false;
-    };
-    let Ok(Pause::Forks(_, grandchild)) = child.advance(100) else {
-        return false;
-    };
-    child.in_place(grandchild).is_ok() && thread.in_place(child).is_ok()
 }
 
 /// Starts the root thread of a program. If memory is refused, tries again with a little more memory each time.
@@ -385,23 +306,6 @@ fn start<'p>(alloc: Global, program: &'p Program, round: &mut Round) -> Option<T
         }
     }
     None
-}
-
-/// Starts the root thread. If the way is `GrownAtFork`, also puts its first child in its place. Returns false if one of
-/// the two fails.
-fn set_off<'p>(
-    alloc: Global,
-    program: &'p Program,
-    threads: &mut Vec<Thread<'p>>,
-    round: &mut Round,
-) -> bool {
-    let Some(mut root) = start(alloc, program, round) else {
-        return false;
-    };
-    if round.way == Way::GrownAtFork && !hand_grown(&mut root) {
-        return lose_thread(root);
-    }
-    threads.push(root).is_ok()
 }
 
 /// Takes an outcome apart. If memory is refused, tries again with a little more memory each time.
@@ -444,9 +348,8 @@ pub(super) fn parts_of(
     if is_short {
         round.memory.use_up(alloc)?;
     }
-    if !set_off(alloc, program, &mut family.threads, round) {
-        return None;
-    }
+    let root = start(alloc, program, round)?;
+    family.threads.push(root).ok()?;
     let parts = run(alloc, &mut family, round);
     round.memory.give_all_back();
     parts

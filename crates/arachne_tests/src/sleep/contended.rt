@@ -27,14 +27,6 @@ fn poll(polls_left: &mut u64) -> Option<()> {
 /// The indexes of a thread's grants in the histories of the first lock and of the second, in turn.
 type Places = Option<Vec<usize>>;
 
-/// Returns room for the indexes of a thread's grants. Tries once more if memory is refused.
-fn room(alloc: Global) -> Places {
-    match Vec::with_capacity(alloc, 2 * ROUNDS) {
-        Ok(places) => Some(places),
-        Err(_) => Vec::with_capacity(alloc, 2 * ROUNDS).ok(),
-    }
-}
-
 /// Returns whether every other index of the list, from the first on, is the index of a grant to the thread, and these
 /// indexes ascend.
 fn are_grants_in_order(history: &[LockEvent], who: Who, places: &[usize]) -> bool {
@@ -104,7 +96,7 @@ fn hold_each(alloc: Global, locks: &SleepLocks, seats: &mut LockSeats, who: Who)
     ensures { AreSeatsOf locks.now seats.new }
 {
     let mut polls_left = MOST_POLLS;
-    let mut places = room(alloc)?;
+    let mut places = Vec::with_capacity(alloc, 2 * ROUNDS).ok()?;
     for k in 0..2 * ROUNDS {
         let lock = if k % 2 == 0 { 0 } else { 1 };
         places
@@ -140,7 +132,7 @@ fn contend_for_each<R: Threads + Sync>(
     requires two { 1 < length locks.now }
     ensures { IfSome result (λ r. AreSeatsOf locks.now r.0) }
 {
-    let (own, theirs) = several::parted(alloc, locks, seats)?;
+    let (own, theirs) = locks.split(alloc, seats).ok()?;
     let ((own, of_a), (theirs, of_b)) = thread::join(
         rt,
         move || work_on_each(alloc, locks, own, A),
@@ -164,23 +156,15 @@ fn tell_all(first: &[LockEvent], second: &[LockEvent], of_a: &[usize], of_b: &[u
         && second.len() == 6 * ROUNDS
 }
 
-/// Returns the events of a history. Tries once more if memory is refused.
-fn listed(alloc: Global, history: &History) -> Option<Vec<LockEvent>> {
-    match history.to_vec(alloc) {
-        Ok(events) => Some(events),
-        Err(_) => history.to_vec(alloc).ok(),
-    }
-}
-
 /// Returns whether A and B have held each lock `ROUNDS` times by the histories.
 fn each_had_its_turns<R: Threads + Sync>(rt: &R, alloc: Global) -> Option<bool> {
-    let (locks, seats) = several::make(alloc, 2).ok()?;
+    let (locks, seats) = SleepLocks::new(alloc, 2).ok()?;
     let (seats, of_a, of_b) = contend_for_each(rt, alloc, &locks, seats)?;
     let histories = several::closed(alloc, locks, seats)?;
     let [first, second] = histories.as_slice() else {
         return None;
     };
-    let (first, second) = (listed(alloc, first)?, listed(alloc, second)?);
+    let (first, second) = (first.to_vec(alloc).ok()?, second.to_vec(alloc).ok()?);
     Some(tell_all(&first, &second, &of_a?, &of_b?))
 }
 

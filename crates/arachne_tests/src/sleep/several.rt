@@ -1,48 +1,59 @@
 //! Tests of several locks: each call once, and the order of the histories.
-ghost use Rattle.std.specs.Prelude.{◌≡◌, ◌<◌, All, IfOk, IfSome, length};
+ghost use Rattle.std.specs.Prelude.{◌<◌, length};
 ghost use Rattle.arachne_sleep.specs.SleepLocks.{AreSeatsOf};
-ghost use Rattle.arachne_sleep.specs.Views.{IsWhole};
 
-use super::{Answer, Call, ROWS, WHOLE, told_ask, told_check, told_free};
-use arachne_sleep::{AskFault, Asked, History, LockEvent, LockSeats, SleepLocks, Tried, Who};
-use std::alloc::{AllocError, Global};
+use super::{A, B, C};
+use arachne_sleep::{
+    AskFault, Asked, Freed, History, LockEvent, LockSeats, NotHolder, SleepLocks, Tried, Who,
+};
+use std::alloc::Global;
 
-// Under `rt try --test --fail-alloc N` the Nth allocation is refused. A call that fails because of this is made once
-// more.
-pub(super) fn make(alloc: Global, count: u8) -> Result<(SleepLocks, LockSeats), AllocError>
-    ensures count { IfOk result (λ made. length made.0 ≡ count) }
-    ensures own { IfOk result (λ made. AreSeatsOf made.0 made.1) }
-    ensures whole { IfOk result (λ made. All IsWhole made.1) }
-{
-    match SleepLocks::new(alloc, count) {
-        Ok(made) => Ok(made),
-        Err(_) => SleepLocks::new(alloc, count),
-    }
+/// An act of a thread at a lock in a test: it asks, checks or frees.
+#[derive(Clone, Copy)]
+enum Call {
+    Ask,
+    Check,
+    Free,
 }
 
-/// Asks for a lock, and once more if memory was refused. Returns `None` if another kernel thread was using the lock.
-fn asked(
-    locks: &SleepLocks,
-    seats: &mut LockSeats,
-    lock: u8,
-    who: Who,
-) -> Option<Result<Asked, AskFault>>
-    requires own { AreSeatsOf locks.now seats.old }
-    requires lock { lock < length locks.now }
-    ensures { AreSeatsOf locks.now seats.new }
-{
-    match locks.ask(seats, lock, who) {
-        Tried::Answered(Err(AskFault::Memory)) => {}
-        Tried::Answered(answer) => return Some(answer),
-        Tried::Contended => return None,
-    }
-    match locks.ask(seats, lock, who) {
-        Tried::Answered(answer) => Some(answer),
-        Tried::Contended => None,
-    }
-}
+/// The result of a call: its name, the index in the history, and the next thread.
+type Answer = (&'static str, usize, Option<Who>);
 
-/// Makes a call on a lock, and returns its result. Returns `None` if another kernel thread was using the lock.
+/// Calls, each with its thread and its result.
+type Rows = &'static [(Call, Who, Answer)];
+
+/// Three threads ask for the lock: one gets it, and two wait. Each thread frees the lock once it has it.
+const ROWS: Rows = &[
+    (Call::Ask, A, ("granted", 1, None)),
+    (Call::Ask, B, ("queued", 2, None)),
+    (Call::Ask, C, ("queued", 3, None)),
+    (Call::Ask, A, ("already in", 0, None)),
+    (Call::Ask, B, ("already in", 0, None)),
+    (Call::Free, B, ("not its holder", 0, None)),
+    (Call::Check, A, ("pass", 1, None)),
+    (Call::Check, B, ("no pass", 0, None)),
+    (Call::Free, A, ("freed", 4, Some(B))),
+    (Call::Check, B, ("pass", 5, None)),
+    (Call::Free, B, ("freed", 6, Some(C))),
+    (Call::Free, C, ("freed", 8, None)),
+    (Call::Check, C, ("no pass", 0, None)),
+];
+
+/// The history after the calls of `ROWS`.
+const WHOLE: &[LockEvent] = &[
+    LockEvent::Ask(A),
+    LockEvent::Grant(A),
+    LockEvent::Ask(B),
+    LockEvent::Ask(C),
+    LockEvent::Free(A),
+    LockEvent::Grant(B),
+    LockEvent::Free(B),
+    LockEvent::Grant(C),
+    LockEvent::Free(C),
+];
+
+/// Makes a call on a lock, and returns its result. Returns `None` if another kernel thread was using the lock, memory
+/// was refused, or a pass is not one of this lock for this thread.
 fn called(
     locks: &SleepLocks,
     seats: &mut LockSeats,
@@ -54,16 +65,28 @@ fn called(
     requires lock { lock < length locks.now }
     ensures { AreSeatsOf locks.now seats.new }
 {
-    match call {
-        Call::Ask => Some(told_ask(lock, who, asked(locks, seats, lock, who)?)),
+    let (told, pass) = match call {
+        Call::Ask => match locks.ask(seats, lock, who) {
+            Tried::Answered(Ok(Asked::Granted(pass))) => ("granted", pass),
+            Tried::Answered(Ok(Asked::Queued { at })) => return Some(("queued", at, None)),
+            Tried::Answered(Err(AskFault::AlreadyIn)) => return Some(("already in", 0, None)),
+            Tried::Answered(Err(AskFault::Memory)) | Tried::Contended => return None,
+        },
         Call::Check => match locks.check(seats, lock, who) {
-            Tried::Answered(pass) => Some(told_check(lock, who, pass)),
-            Tried::Contended => None,
+            Tried::Answered(Some(pass)) => ("pass", pass),
+            Tried::Answered(None) => return Some(("no pass", 0, None)),
+            Tried::Contended => return None,
         },
         Call::Free => match locks.free(seats, lock, who) {
-            Tried::Answered(freed) => Some(told_free(freed)),
-            Tried::Contended => None,
+            Tried::Answered(Ok(Freed { next, at })) => return Some(("freed", at, next)),
+            Tried::Answered(Err(NotHolder)) => return Some(("not its holder", 0, None)),
+            Tried::Contended => return None,
         },
+    };
+    if pass.lock == lock && pass.who == who {
+        Some((told, pass.at, None))
+    } else {
+        None
     }
 }
 
@@ -101,11 +124,10 @@ fn is_of_the_last(histories: &[History]) -> bool {
 
 /// Returns the histories of three locks. On one of them each call was made.
 fn histories(alloc: Global) -> Option<Vec<History>> {
-    let (locks, mut seats) = make(alloc, 3).ok()?;
+    let (locks, mut seats) = SleepLocks::new(alloc, 3).ok()?;
     if locks.count() != 3 || first_wrong(&locks, &mut seats).is_some() {
         return None;
     }
-    let seats = parted_and_joined(alloc, &locks, seats)?;
     closed(alloc, locks, seats)
 }
 
@@ -121,45 +143,14 @@ fn each_call_on_three_locks(rt: HostRuntime) {
     assert!(rt; are_right(rt.alloc()));
 }
 
-/// Splits the seats. Tries once more if memory is refused.
-pub(super) fn parted(
-    alloc: Global,
-    locks: &SleepLocks,
-    seats: LockSeats,
-) -> Option<(LockSeats, LockSeats)>
-    requires { AreSeatsOf locks.now seats }
-    ensures own { IfSome result (λ parts. AreSeatsOf locks.now parts.0) }
-    ensures theirs { IfSome result (λ parts. AreSeatsOf locks.now parts.1) }
-{
-    match locks.split(alloc, seats) {
-        Ok(parts) => Some(parts),
-        Err(seats) => locks.split(alloc, seats).ok(),
-    }
-}
-
-/// Splits the seats and joins them again.
-fn parted_and_joined(alloc: Global, locks: &SleepLocks, seats: LockSeats) -> Option<LockSeats>
-    requires { AreSeatsOf locks.now seats }
-    ensures { IfSome result (λ joined. AreSeatsOf locks.now joined) }
-{
-    let (own, theirs) = parted(alloc, locks, seats)?;
-    if locks.are_whole(&own) || locks.are_whole(&theirs) {
-        return None;
-    }
-    Some(locks.join_seats(theirs, own))
-}
-
-/// Closes the locks, and returns their histories. Tries once more if memory is refused.
+/// Closes the locks. Returns their histories, if all seats were joined.
 pub(super) fn closed(alloc: Global, locks: SleepLocks, seats: LockSeats) -> Option<Vec<History>>
     requires { AreSeatsOf locks seats }
 {
     if !locks.are_whole(&seats) {
         return None;
     }
-    match locks.close(alloc, seats) {
-        Ok(histories) => Some(histories),
-        Err((locks, seats)) => locks.close(alloc, seats).ok(),
-    }
+    locks.close(alloc, seats).ok()
 }
 
 /// The most locks that a program has.
@@ -167,8 +158,11 @@ const MOST: u8 = 16;
 
 /// Makes `count` locks, splits and joins their seats, and closes them. Returns the histories.
 fn made_and_closed(alloc: Global, count: u8) -> Option<Vec<History>> {
-    let (locks, seats) = make(alloc, count).ok()?;
-    let (own, theirs) = parted(alloc, &locks, seats)?;
+    let (locks, seats) = SleepLocks::new(alloc, count).ok()?;
+    let (own, theirs) = locks.split(alloc, seats).ok()?;
+    if count > 0 && (locks.are_whole(&own) || locks.are_whole(&theirs)) {
+        return None;
+    }
     let seats = locks.join_seats(theirs, own);
     closed(alloc, locks, seats)
 }
