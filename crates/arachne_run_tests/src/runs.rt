@@ -53,7 +53,7 @@ fn run_on_words<'p, R: Threads + Wait + Clock + Sync>(
 ) -> Result<Report, RunFault>
     requires { IsChecked (source_of program.now) }
 {
-    run::<R, Job<'p>, WordContexts<Job<'p>>, Progression, Watch>(
+    arachne_run::run_on_words::<R, Job<'p>, Progression, Watch>(
         rt, alloc, program, setup, choosers, gate,
     )
 }
