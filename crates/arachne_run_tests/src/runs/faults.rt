@@ -2,7 +2,6 @@
 //! first, and joins all kernel threads.
 use super::facts::Telling;
 use super::programs::SWEEP;
-use super::rows::Orders::Listed;
 use super::rows::{LOCKED, ROW, Row, rows_hold};
 use crate::choosers::{CORE_ONE, IN_TURN, SPREAD};
 use crate::gates::Watching;
@@ -44,7 +43,7 @@ const ROWS: &[Row] = &[
     // As before, but cores 2, 3 and 4 are taken back. They have nothing to do and are parked.
     Row {
         shows: "parked cores are woken",
-        orders: Listed(&[(0, Release, 2), (0, Release, 3), (0, Release, 4)]),
+        orders: &[(0, Release, 2), (0, Release, 3), (0, Release, 4)],
         ..HANDED_BACK
     },
     // Of the root and its child on core 1, one holds the lock without end and the other waits for it. A child on core 2
@@ -70,18 +69,18 @@ const ROWS: &[Row] = &[
         shows: "a child in place stops",
         expr: "(fork n (fold (num 0) (num 20000) (num 0) (var 1)) (fork n (fold (num 0) (num 1000000000000) (num 0) (var 1)) (num 1) (var 1)) (var 0))",
         slots: 1,
-        orders: Listed(&[(0, Release, 2), (0, Release, 3), (0, Release, 4)]),
+        orders: &[(0, Release, 2), (0, Release, 3), (0, Release, 4)],
         ..HANDED_BACK
     },
     REFUSED,
     Row {
         shows: "parked cores are woken",
-        orders: Listed(&[
+        orders: &[
             (0, Release, 2),
             (0, Release, 3),
             (0, Release, 4),
             (0, Release, 5),
-        ]),
+        ],
         ..REFUSED
     },
     FIRST,

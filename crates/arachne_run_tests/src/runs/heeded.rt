@@ -6,7 +6,6 @@ use super::facts::Fact::{
 };
 use super::facts::Telling;
 use super::orders::GRANTED;
-use super::rows::Orders::Listed;
 use super::rows::{LOCKED, ROW, Row, rows_hold};
 use crate::choosers::{CORE_ONE, Draws, ONE_EACH};
 use crate::gates::Watching;
@@ -95,7 +94,7 @@ const ANEW: Row = Row {
     expr: "(fork n (fold (num 0) (num 400) (num 0) (var 1)) (fold (num 0) (num 4000) (num 0) (var 1)) (add (var 0) (var 1)))",
     machines: (&[2], &[1, 7]),
     draws: CORE_ONE,
-    orders: Listed(&[(20, Release, 1)]),
+    orders: &[(20, Release, 1)],
     watching: Watching::Anew(10),
     facts: &[(Value, 0), (Applied, 1), (IsOver, 1)],
     ..ROW
@@ -115,7 +114,7 @@ const CLOSED: &[Row] = &[
         shows: "a closed core's kernel thread parks only once nothing is left there",
         expr: "(fork x (fork n (fold (num 0) (num 800) (num 0) (var 1)) (num 1) (add (var 0) (var 1))) (fold (num 0) (num 5000) (num 0) (var 1)) (add (var 0) (var 1)))",
         machines: (&[2], &[1]),
-        orders: Listed(&[(100, Release, 1), (4_000, Grant, 1)]),
+        orders: &[(100, Release, 1), (4_000, Grant, 1)],
         watching: Watching::ParksLast(50, 500),
         facts: &[(Value, 1), (Applied, 2), (IsOver, 1)],
         ..ROW
@@ -127,7 +126,7 @@ const CLOSED: &[Row] = &[
         expr: "(fork n (let (fold (num 0) (num 500) (num 0) (var 1)) (hold 0 (num 1))) (hold 0 (fold (num 0) (num 5000) (num 0) (var 1))) (add (var 0) (var 1)))",
         machines: (&[3], &[1]),
         draws: Draws(2 * ONE_EACH, 0, 0),
-        orders: Listed(&[(20, Release, 1), (20, Release, 2)]),
+        orders: &[(20, Release, 1), (20, Release, 2)],
         watching: Watching::Emptied(2, 1000),
         facts: &[(Value, 1), (Applied, 2), (IsOver, 1)],
         ..ROW
@@ -146,7 +145,7 @@ const CLOSED: &[Row] = &[
         shows: "a grant unparks the kernel thread once the core is open",
         forms: LOCKED,
         slots: 9,
-        orders: Listed(&[(0, Release, 1), (2, Grant, 1)]),
+        orders: &[(0, Release, 1), (2, Grant, 1)],
         facts: &[(Value, 2), (Applied, 2), (Slot, 2), (IsOver, 1)],
         ..GRANTED
     },

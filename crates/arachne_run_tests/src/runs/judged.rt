@@ -5,7 +5,6 @@ ghost use Rattle.arachne_lang.specs.Program.{source_of};
 use super::Form;
 use super::facts::Fact;
 use super::facts::Fact::{Applied, GrantsAreHolds, InPlace, IsOver, Total, Value};
-use super::rows::Orders::{InTurn, Listed};
 use super::rows::{FORMS, Machine, ROW, Row, judge, orders_of, program_of, run_row};
 use crate::choosers::{CORE_ONE, SPREAD, ZEROS};
 use crate::gates::{Watch, Watching};
@@ -168,7 +167,7 @@ const COUNT: &[Judged] = &[
     COUNTS,
     Judged {
         row: Row {
-            orders: InTurn(60),
+            in_turn: 60,
             ..COUNTING
         },
         turns: 1,
@@ -183,7 +182,7 @@ const COUNT: &[Judged] = &[
             expr: "(let (fold (num 0) (num 40) (num 0) (var 1)) (fork n (num 2) (fold (num 0) (num 300) (num 0) (var 2)) (add (var 1) (var 2))))",
             machines: (&[2], &[1]),
             draws: CORE_ONE,
-            orders: Listed(&[(0, Release, 1), (8, Grant, 1), (150, Release, 1)]),
+            orders: &[(0, Release, 1), (8, Grant, 1), (150, Release, 1)],
             watching: Watching::Parked(1, 6),
             facts: &[(Value, 2), (Applied, 3), (IsOver, 1)],
             ..ROW
@@ -226,7 +225,7 @@ const HOLD: &[Judged] = &[
     HOLDS,
     Judged {
         row: Row {
-            orders: InTurn(600),
+            in_turn: 600,
             ..HOLDING
         },
         turns: 1,
@@ -243,7 +242,7 @@ const HOLD: &[Judged] = &[
             expr: "(sweep add 1 (num 0) (num 6) (hold 0 (fold (num 0) (num 800) (num 0) (var 1))))",
             machines: (&[2], &[10, 100]),
             draws: ZEROS,
-            orders: InTurn(1000),
+            in_turn: 1000,
             facts: &[(Value, 4794), (Fact::Threads, 6), (GrantsAreHolds, 1)],
             ..HOLDING
         },
@@ -280,7 +279,7 @@ const HAVE_A_CORE: &[Judged] = &[
     EXCLUDES,
     Judged {
         row: Row {
-            orders: InTurn(60),
+            in_turn: 60,
             ..EXCLUSIVE
         },
         turns: 1,

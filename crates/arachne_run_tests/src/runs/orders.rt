@@ -3,7 +3,6 @@ use super::cores::{ALONE, FORK};
 use super::facts::Fact::{Applied, AppliesUpTo, Cores, InPlace, IsOver, Slot, Threads, Value};
 use super::places::MANY;
 use super::programs::SWEEP;
-use super::rows::Orders::{InTurn, Listed, Releases};
 use super::rows::{QUANTA, ROW, Row, rows_hold};
 use crate::choosers::{CORE_ONE, CORE_THREE, SPREAD};
 use crate::gates::Watching;
@@ -17,7 +16,7 @@ pub(super) const GRANTED: Row = Row {
     expr: "(let (fold (num 0) (num 5) (num 0) (var 1)) (fork n (num 2) (fold (num 0) (num 60) (num 0) (var 2)) (add (var 1) (var 2))))",
     machines: (&[2], &[1]),
     draws: CORE_ONE,
-    orders: Listed(&[(0, Release, 1), (2, Grant, 1), (25, Release, 1)]),
+    orders: &[(0, Release, 1), (2, Grant, 1), (25, Release, 1)],
     watching: Watching::Granting(1, 20),
     facts: &[(Value, 2), (Applied, 3), (Slot, 2), (IsOver, 1)],
     ..ROW
@@ -30,7 +29,7 @@ const IDLE: Row = Row {
     expr: "(let (fork n (fold (num 0) (num 20000) (num 0) (var 1)) (num 2) (add (var 0) (var 1))) (fold (num 0) (num 20000) (var 0) (var 2)))",
     machines: (&[2], &[1]),
     draws: CORE_ONE,
-    orders: Listed(&[(25_000, Grant, 1)]),
+    orders: &[(25_000, Grant, 1)],
     watching: Watching::Applying(30_000),
     facts: &[(Value, 2), (Applied, 1), (IsOver, 1)],
     ..ROW
@@ -56,20 +55,20 @@ const GRANTS: &[Row] = &[
     IDLE,
     Row {
         machines: (&[2], &[7]),
-        orders: Listed(&[(3_500, Grant, 1)]),
+        orders: &[(3_500, Grant, 1)],
         watching: Watching::Applying(4_000),
         ..IDLE
     },
     Row {
         machines: (&[2], &[100]),
-        orders: Listed(&[(250, Grant, 1)]),
+        orders: &[(250, Grant, 1)],
         watching: Watching::Applying(300),
         ..IDLE
     },
     Row {
         expr: "(let (fork n (fold (num 0) (num 100000) (num 0) (var 1)) (num 2) (add (var 0) (var 1))) (fold (num 0) (num 100000) (var 0) (var 2)))",
         machines: (&[2], &[10_000]),
-        orders: Listed(&[(13, Grant, 1)]),
+        orders: &[(13, Grant, 1)],
         watching: Watching::Applying(15),
         ..IDLE
     },
@@ -84,7 +83,7 @@ fn grants_have_cores_go_on(rt: HostRuntime) -> Result<(), Fail> {
 const COUNTED: Row = Row {
     shows: "orders are counted",
     machines: (&[4], &[1]),
-    orders: Listed(&[(0, Release, 1), (1, Release, 2), (2, Grant, 1)]),
+    orders: &[(0, Release, 1), (1, Release, 2), (2, Grant, 1)],
     facts: &[(Applied, 3)],
     ..SWEEP
 };
@@ -96,7 +95,7 @@ const DRAINED: Row = Row {
     expr: "(fork n (fold (num 0) (num 3000) (num 0) (var 0)) (fork n (fold (num 0) (num 3000) (num 0) (var 0)) (fold (num 0) (num 1000) (num 0) (var 0)) (add (var 0) (var 1))) (add (var 0) (var 1)))",
     machines: (&[2], &[1]),
     draws: CORE_ONE,
-    orders: Listed(&[(5, Release, 1)]),
+    orders: &[(5, Release, 1)],
     watching: Watching::Lead(2000),
     facts: &[(Value, 6_997), (Applied, 1), (IsOver, 1)],
     ..ROW
@@ -109,7 +108,7 @@ const ROWS: &[Row] = &[
         expr: MANY,
         machines: (&[4, 64], &[1]),
         draws: SPREAD,
-        orders: InTurn(1000),
+        in_turn: 1000,
         facts: &[(Value, 405_450), (Threads, 901), (AppliesUpTo(1000), 1)],
         ..ROW
     },
@@ -118,7 +117,7 @@ const ROWS: &[Row] = &[
         shows: "a thread alone gets the first open core that is empty, however many cores there are",
         expr: ALONE,
         machines: (&[64], &[100]),
-        orders: Releases(40),
+        released: 40,
         watching: Watching::Cores,
         facts: &[
             (Value, 1),
@@ -136,24 +135,24 @@ const ROWS: &[Row] = &[
         expr: "(sweep add 1 (num 0) (num 300) (if (eq (var 0) (num 299)) (let (fold (num 0) (num 3000) (num 0) (num 0)) (fork x (num 1) (fork n (num 2) (num 3) (add (var 2) (var 3))) (add (var 2) (var 3)))) (num 0)))",
         machines: (&[3], &[1]),
         draws: SPREAD,
-        orders: Listed(&[
+        orders: &[
             (0, Release, 1),
             (0, Release, 2),
             (4000, Grant, 1),
             (4000, Grant, 2),
-        ]),
+        ],
         facts: &[(Value, 6), (Threads, 302), (Applied, 4)],
         ..ROW
     },
     COUNTED,
     // The fourth order is never due.
     Row {
-        orders: Listed(&[
+        orders: &[
             (0, Release, 1),
             (1, Release, 2),
             (2, Grant, 1),
             (u64::MAX, Grant, 2),
-        ]),
+        ],
         ..COUNTED
     },
     // Both choices of the fork are core 3, which is closed. Among the open cores both choices are core 0.
@@ -162,7 +161,7 @@ const ROWS: &[Row] = &[
         expr: FORK,
         machines: (&[4], QUANTA),
         draws: CORE_THREE,
-        orders: Listed(&[(0, Release, 3)]),
+        orders: &[(0, Release, 3)],
         watching: Watching::Cores,
         facts: &[(Value, 5), (Applied, 1), (Cores, 0b0001)],
         ..ROW
@@ -173,7 +172,7 @@ const ROWS: &[Row] = &[
         expr: "(let (fold (num 0) (num 3000) (num 0) (var 0)) (fork n (num 2) (num 3) (add (var 1) (var 2))))",
         machines: (&[4], &[1]),
         draws: CORE_THREE,
-        orders: Listed(&[(0, Release, 3), (10, Grant, 3)]),
+        orders: &[(0, Release, 3), (10, Grant, 3)],
         watching: Watching::Cores,
         facts: &[(Value, 5), (Applied, 2), (Cores, 0b1001)],
         ..ROW
@@ -189,7 +188,7 @@ const ROWS: &[Row] = &[
         shows: "a thread that has a core alone stays",
         expr: ALONE,
         machines: (&[2], &[1]),
-        orders: Listed(&[(400, Release, 1)]),
+        orders: &[(400, Release, 1)],
         watching: Watching::Meeting(500, 0),
         facts: &[(Value, 1), (Applied, 1), (IsOver, 1), (InPlace, 0)],
         ..ROW

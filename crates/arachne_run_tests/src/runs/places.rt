@@ -2,7 +2,6 @@
 use super::cores::EXCLUSIVE;
 use super::facts::Fact::{InPlace, InPlaceUpTo, IsOver, Slot, Spill, Threads, Value};
 use super::facts::Telling;
-use super::rows::Orders::Listed;
 use super::rows::{LOCKED, QUANTA, ROW, Row, rows_hold};
 use crate::choosers::{CORE_ONE, Draws, ONE_EACH, SPREAD};
 use crate::gates::Watching;
@@ -148,7 +147,7 @@ const KEPT: &[Row] = &[
         shows: "no place is kept where an order may close the core",
         expr: "(sweep add 1 (num 0) (num 1000) (var 0))",
         machines: (&[1], &[1]),
-        orders: Listed(&[(1_000_000, Grant, 0)]),
+        orders: &[(1_000_000, Grant, 0)],
         facts: &[(Value, 499_500), (InPlaceUpTo(900), 1)],
         ..ROW
     },

@@ -26,18 +26,6 @@ pub(super) const LOCKED: &[Form] = &[Form::Locked];
 /// The form of table of a run, and the numbers of cores and of steps per slice (the quantum).
 pub(super) type Machine = (Form, u64, u64);
 
-/// The orders of a row to open or close cores.
-#[derive(Clone, Copy)]
-pub(super) enum Orders {
-    /// Orders, each with the number of slices after which it is due, and its core.
-    Listed(&'static [(u64, OrderKind, u64)]),
-    /// This number of orders, each due one slice after the previous one: releases and grants of each core but 0 in
-    /// turn. On one core there are none.
-    InTurn(u64),
-    /// Releases of the cores from 1 to this one, due at once.
-    Releases(u64),
-}
-
 /// A program that is run over each of the forms on each of the machines.
 #[derive(Clone, Copy)]
 pub(super) struct Row {
@@ -54,7 +42,13 @@ pub(super) struct Row {
     /// The number of places per core.
     pub(super) slots: u8,
     pub(super) draws: Draws,
-    pub(super) orders: Orders,
+    /// The orders to open or close cores, each with the number of slices after which it is due, and its core.
+    pub(super) orders: &'static [(u64, OrderKind, u64)],
+    /// The number of further orders, which release the cores from 1 on, one each, at once.
+    pub(super) released: u64,
+    /// The number of further orders on several cores, each due one slice after the previous one: releases and grants of
+    /// each core but 0 in turn.
+    pub(super) in_turn: u64,
     pub(super) watching: Watching,
     /// The facts that a report must show.
     pub(super) facts: &'static [(Fact, u64)],
@@ -73,7 +67,9 @@ pub(super) const ROW: Row = Row {
     machines: (&[1, 2, 3, 4, 16], &[1, 100]),
     slots: SLOTS,
     draws: ZEROS,
-    orders: Orders::Listed(&[]),
+    orders: &[],
+    released: 0,
+    in_turn: 0,
     watching: Watching::Nothing,
     facts: &[],
     told: (Telling::Nothing, ""),
@@ -107,30 +103,24 @@ pub(super) fn orders_of(
     cores: u64,
 ) -> Result<Vec<CoreOrder>, AllocError> {
     let mut orders = Vec::new(alloc);
-    match row.orders {
-        Orders::Listed(listed) => {
-            for &(after, kind, core) in listed {
-                orders.push(CoreOrder { after, kind, core })?;
-            }
-        }
-        Orders::InTurn(count) if cores > 1 => {
-            for after in 0..count {
-                let kind = if after % 2 == 0 {
-                    OrderKind::Release
-                } else {
-                    OrderKind::Grant
-                };
-                let core = 1 + after / 2 % (cores - 1);
-                orders.push(CoreOrder { after, kind, core })?;
-            }
-        }
-        Orders::InTurn(_) => {}
-        Orders::Releases(last) => {
-            for before in 0..last {
-                let (after, kind, core) = (0, OrderKind::Release, before + 1);
-                orders.push(CoreOrder { after, kind, core })?;
-            }
-        }
+    for &(after, kind, core) in row.orders {
+        orders.push(CoreOrder { after, kind, core })?;
+    }
+    for before in 0..row.released {
+        let (after, kind, core) = (0, OrderKind::Release, before + 1);
+        orders.push(CoreOrder { after, kind, core })?;
+    }
+    if cores < 2 {
+        return Ok(orders);
+    }
+    for after in 0..row.in_turn {
+        let kind = if after % 2 == 0 {
+            OrderKind::Release
+        } else {
+            OrderKind::Grant
+        };
+        let core = 1 + after / 2 % (cores - 1);
+        orders.push(CoreOrder { after, kind, core })?;
     }
     Ok(orders)
 }

@@ -7,7 +7,6 @@ use super::Form;
 use super::facts::Fact;
 use super::facts::Fact::Value;
 use super::places::CHAIN;
-use super::rows::Orders::Listed;
 use super::rows::{Machine, ROW, Row, program_of, run_row, wrong_fact};
 use crate::choosers::SPREAD;
 use crate::gates::Watch;
@@ -62,7 +61,7 @@ const ON_FOUR: &[Row] = &[
     Row {
         expr: "(sweep add 2 (num 0) (num 8) (var 0))",
         machines: (&[4], &[1]),
-        orders: Listed(&[(0, Release, 1), (1, Release, 2), (2, Grant, 1)]),
+        orders: &[(0, Release, 1), (1, Release, 2), (2, Grant, 1)],
         facts: &[(Value, 28), (Fact::Threads, 4)],
         ..FORK
     },

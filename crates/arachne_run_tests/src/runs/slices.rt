@@ -3,7 +3,6 @@ use super::cores::FORK;
 use super::facts::Fact::{Applied, Counts, CountsUpTo, IsOver, Value};
 use super::facts::Telling;
 use super::places::{BESIDE, BESIDE_LONG};
-use super::rows::Orders::Listed;
 use super::rows::{LOCKED, QUANTA, ROW, Row, rows_hold};
 use crate::choosers::CORE_ONE;
 use crate::gates::Watching;
@@ -17,7 +16,7 @@ const HELD_BACK: Row = Row {
     expr: BESIDE,
     machines: (&[2], &[1, 7]),
     draws: CORE_ONE,
-    orders: Listed(&[(401, Release, 1)]),
+    orders: &[(401, Release, 1)],
     watching: Watching::Holding(400),
     facts: &[(Value, 0), (Applied, 1), (IsOver, 1)],
     ..ROW
@@ -33,7 +32,7 @@ const ENDS: &[Row] = &[
     Row {
         expr: BESIDE_LONG,
         machines: (&[2], &[10_000]),
-        orders: Listed(&[(4, Release, 1)]),
+        orders: &[(4, Release, 1)],
         watching: Watching::Holding(3),
         ..HELD_BACK
     },
@@ -54,7 +53,7 @@ const ENDS: &[Row] = &[
         shows: "a slice that ends its thread counts",
         expr: "(fold (num 0) (num 100) (num 0) (fork n (num 1) (num 0) (add (var 1) (var 2))))",
         machines: (&[2], &[1]),
-        orders: Listed(&[(0, Release, 1), (590, Grant, 1)]),
+        orders: &[(0, Release, 1), (590, Grant, 1)],
         watching: Watching::Cores,
         facts: &[(Value, 100), (Applied, 2)],
         ..ROW
@@ -84,7 +83,7 @@ const STOPPED: Row = Row {
     forms: LOCKED,
     machines: (&[5], QUANTA),
     draws: CORE_ONE,
-    orders: Listed(&[(0, Release, 3)]),
+    orders: &[(0, Release, 3)],
     watching: Watching::Stopping(0),
     told: (Telling::Nothing, "Worker(Token)"),
     ..ROW

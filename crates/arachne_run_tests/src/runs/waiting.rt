@@ -1,6 +1,5 @@
 //! Workers that wait, on a machine whose yields give a turn to other work. Counts are checked, not times.
 use super::facts::Fact::{Applied, Grants, IsOver, OversleepsUpTo, Slot, Value};
-use super::rows::Orders::Listed;
 use super::rows::{ROW, Row, rows_hold};
 use crate::choosers::{CORE_ONE, SPREAD};
 use crate::clocks::SlowClock;
@@ -56,7 +55,7 @@ const TELLS: &[Row] = &[
         expr: "(fork n (num 1) (fold (num 0) (num 1000) (num 0) (var 1)) (var 0))",
         machines: (&[2], &[1, 7, 100]),
         draws: CORE_ONE,
-        orders: Listed(&[(6, Release, 1)]),
+        orders: &[(6, Release, 1)],
         watching: Watching::Parking(2),
         facts: &[(Applied, 1), (IsOver, 1), (OversleepsUpTo(0), 1)],
         ..ROW
