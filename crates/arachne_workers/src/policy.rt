@@ -124,7 +124,12 @@ const LAST_YIELD: u32 = 40;
 pub(crate) fn spins(round: u32, may_yield: bool) -> bool
     ensures { IsTrue result ↔ (round ≤ (if may_yield then LAST_SPIN else LAST_SPIN_ALONE)) }
 {
-    round <= if may_yield { LAST_SPIN } else { LAST_SPIN_ALONE }
+    let last = if may_yield {
+        LAST_SPIN
+    } else {
+        LAST_SPIN_ALONE
+    };
+    round <= last
 }
 
 /// Returns how often a spinning worker looks at its core's word in this round.
@@ -140,7 +145,12 @@ pub(crate) fn spins_of(round: u32) -> u32
 pub(crate) fn sleeps(idle: u32, may_yield: bool) -> bool
     ensures { IsTrue result ↔ ((if may_yield then LAST_YIELD else LAST_SPIN_ALONE) < idle) }
 {
-    idle > if may_yield { LAST_YIELD } else { LAST_SPIN_ALONE }
+    let last = if may_yield {
+        LAST_YIELD
+    } else {
+        LAST_SPIN_ALONE
+    };
+    idle > last
 }
 
 /// Returns whether a round that found nothing also scans all occupied indexes. The first of several rounds that find
