@@ -1,19 +1,13 @@
 -- What comes of a job that is run.
-use Rattle.std.specs.Prelude.{◌≡◌, ◌+◌, ◌≤◌}
-use Rattle.arachne_core.specs.declared.layout.TheConstants.{CORES, SLOTS}
+use Rattle.std.specs.Prelude.{◌≡◌, ◌+◌, Result, Ok, Err}
 use Rattle.arachne_pool.specs.Leftover.{count_of}
 use Rattle.arachne_pool.specs.declared.running.RunFault.{RunFault}
 use Rattle.arachne_pool.specs.declared.running.RunFault.TheVariants.{KernelThread, Worker}
-use Rattle.arachne_pool.specs.declared.running.Setup.{Setup}
 use Rattle.arachne_pool.specs.declared.running.Unfinished.{Unfinished}
 use Rattle.arachne_pool.specs.declared.running.Unfinished.TheVariants.{NotSpawned, Stopped, Lost}
 use Rattle.arachne_pool.specs.declared.worker.PoolFault.TheVariants as worker
 use Rattle.arachne_team.specs.declared.team.TeamFault.{TeamFault}
 use Rattle.arachne_team.specs.declared.team.TeamFault.TheVariants as team
-
--- it has a core and places, and no more of these than a table may have
-abbrev pub FitsMachine : Setup → Type 0
-FitsMachine setup = (1 ≤ setup.cores) × (setup.cores ≤ CORES) × (1 ≤ setup.slots) × (setup.slots ≤ SLOTS)
 
 -- the fault of kernel threads that were not started
 abbrev pub of_team : TeamFault → RunFault
@@ -32,3 +26,8 @@ abbrev pub HandsBackRun : {Job Output : Type 0} → Job → Unfinished Job Outpu
 HandsBackRun job (NotSpawned why back) = back ≡ job
 HandsBackRun job (Stopped why tally left) = tally.spawned ≡ tally.ended + count_of left
 HandsBackRun job (Lost why) = Unit {0}
+
+-- the first job's handle, or the job where it is not spawned
+abbrev pub IsFirst : {Job : Type 0} → Job → Result Job Job → Type 0
+IsFirst asked (Ok handle) = handle ≡ asked
+IsFirst asked (Err job) = job ≡ asked

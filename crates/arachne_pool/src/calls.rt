@@ -1,15 +1,11 @@
-//! The calls of a worker: it spawns jobs, works, and gets results.
-ghost use Rattle.std.specs.Prelude.{◌≡◌, ◌+◌, ◌<◌, ◌↔◌, [], IfErr, IfOk, IfSome, IsNone, IsSome, IsTrue, OnOk};
+//! The calls by which a worker works on a core: one round, or rounds until all jobs have ended.
+ghost use Rattle.std.specs.Prelude.{◌≡◌, ◌<◌, ◌↔◌, IfSome, IsNone, IsSome, IsTrue, OnOk};
 
-use crate::handle::Handle;
 use crate::job::PoolJob;
-use crate::place::place;
 use crate::pool::Pool;
-use crate::posting::Disowned;
-use crate::rounds::{report, run, run_once, run_until};
+use crate::rounds::{run, run_once};
 use crate::seat::{Call, Seat, idle_seat};
 use crate::spawned::Spawned;
-use crate::spawning::{Refusal, Refused};
 use crate::worker::{PoolFault, Worker};
 use arachne_contexts::{Contexts, Seats};
 use arachne_workers::CoreWorker;
@@ -18,68 +14,9 @@ use std::sync::Wait;
 use std::time::Clock;
 
 impl<C: Seats> Pool<C> {
-    ghost use Rattle.std.specs.Prelude.{◌⊎◌, None};
     ghost use Rattle.arachne_pool.specs.Calls.{HasSeatAfter};
     ghost use Rattle.arachne_pool.specs.Grounds.{ground_at};
-    ghost use Rattle.arachne_pool.specs.Jobs.{one};
-    ghost use Rattle.arachne_pool.specs.Spawning.{HandsBack, IsRefusedUnkept, KeepsLast, KeepsOneAtMost};
     ghost use Rattle.arachne_pool.specs.Workers.{IsArbiterFor, IsIdleAt, IsWorkerOf, WorksFor};
-    ghost use Rattle.arachne_pool.specs.declared.worker.PoolFault.TheVariants.{Token};
-
-    /// Spawns a job and returns its handle. The job gets a place if a core has a free one, and waits with the worker
-    /// otherwise.
-    ///
-    /// The job is returned if memory is refused or the worker has no seat. The job is also returned if no core has a
-    /// free place and the worker has worked for no core: such a worker keeps no job (`try_spawn`), since it may never
-    /// make a round.
-    pub fn spawn<H: Wait, J: PoolJob>(
-        &self,
-        rt: &H,
-        worker: &mut Worker<C::Seat, J>,
-        job: J,
-    ) -> Result<Handle<J>, Refused<J>>
-    where
-        C: Contexts<Spawned<J>>,
-        requires worker { IsWorkerOf C.sits C.idle self.now.table self.now.cores worker.old }
-        requires fresh { J.awaits job [] }
-        ensures worker { IsWorkerOf C.sits C.idle self.now.table self.now.cores worker.new }
-        ensures handle { IfOk result (λ handle. handle ≡ job) }
-        ensures handed_back { IfErr result (λ back. HandsBack 0 self.now.cores self.now.slots job worker.old worker.new back.job back.why) }
-        ensures unkept { IfErr result (λ back. IsRefusedUnkept self.now.cores worker.old back.why) }
-        ensures spawned { OnOk result (worker.old.tally.spawned < u64.MAX → worker.new.tally.spawned ≡ worker.old.tally.spawned + 1) }
-        ensures ended { worker.new.tally.ended ≡ worker.old.tally.ended }
-        ensures near { KeepsOneAtMost self.now.cores worker.old worker.new }
-        ensures waiting { KeepsLast (one (J.tag_of job) job None) worker.old.waiting worker.new.waiting }
-        ensures told { OnOk result (worker.new.told ≡ worker.new.tally) }
-        ensures kept { worker.new ≡ record worker.old { seat = worker.new.seat; waiting = worker.new.waiting; near = worker.new.near; tally = worker.new.tally; told = worker.new.told } }
-    {
-        if worker.core >= self.cores {
-            return self.try_spawn(rt, worker, job);
-        }
-        let bench = &mut worker.bench;
-        let Some(seat) = &mut worker.seat else {
-            return Err(Refused::of(job, Refusal::NoSeat));
-        };
-        let (receiver, job) = match bench.begin(job) {
-            Ok(begun) => begun,
-            Err(job) => return Err(Refused::of(job, Refusal::Memory)),
-        };
-        // Before the job is posted: another worker may run it to its end at once, and its end must not be counted
-        // before its spawn.
-        self.live.add(worker.core, bench.news());
-        let handle = Handle::of(receiver);
-        match place::<H, J, C>(rt, self, seat, bench, job) {
-            Ok(Some(posted)) => {
-                posted.tell(&self.shared);
-                Ok(handle)
-            }
-            Ok(None) => Ok(handle),
-            Err(Disowned) => {
-                worker.seat = None;
-                Ok(handle)
-            }
-        }
-    }
 
     /// Makes one round on a core: carries out the orders to open or close cores that are due, gives each job that is
     /// ready on the core a slice, and gives a place to a job of the worker that waits for one. Returns whether there
@@ -146,50 +83,6 @@ impl<C: Seats> Pool<C> {
             Err(_) => self.stop(),
         }
         ended
-    }
-
-    /// Works on a core until the job of this handle has ended, and returns its result. If the pool is stopped first,
-    /// the handle is returned; any other fault stops the other workers too.
-    pub fn join<'a, H: Wait + Clock, J: PoolJob>(
-        &'a self,
-        rt: &'a H,
-        worker: &mut Worker<C::Seat, J>,
-        core: u8,
-        handle: Handle<J>,
-    ) -> Result<J::Output, (PoolFault, Handle<J>)>
-    where
-        C: Contexts<Spawned<J>>,
-        requires worker { IsWorkerOf C.sits C.idle self.now.table self.now.cores worker.old }
-        requires core { core < self.now.cores }
-        ensures worker { IsWorkerOf C.sits C.idle self.now.table self.now.cores worker.new }
-        ensures output { IfOk result (J.is_result handle) }
-        ensures handed_back { IfErr result (λ back. back.1 ≡ handle) }
-        ensures seat { IsSome worker.new.seat ⊎ IfErr result (λ back. back.0 ≡ Token) }
-        ensures same { WorksFor core worker.new }
-    {
-        let mut kernel = self.enter(rt, worker, core, Call::Join);
-        let Some(rounds) = &mut kernel else {
-            self.stop();
-            return Err((PoolFault::Token, handle));
-        };
-        let joined = run_until(rounds, handle);
-        let has_seat = self.leave(worker, core, &mut kernel);
-        match joined {
-            Ok(output) => {
-                self.wake_if_over();
-                Ok(output)
-            }
-            Err((fault, handle)) if has_seat => {
-                if fault != PoolFault::Stopped {
-                    self.stop();
-                }
-                Err((fault, handle))
-            }
-            Err((_, handle)) => {
-                self.stop();
-                Err((PoolFault::Token, handle))
-            }
-        }
     }
 
     /// Begins a call of a worker on a core, with all that the worker has. Returns `None` if the worker has no seat.
@@ -284,10 +177,9 @@ impl<C: Seats> Pool<C> {
         ensures same { WorksFor core worker.new }
         ensures seat { IsTrue result ↔ IsSome worker.new.seat }
     {
-        let Some(mut kernel) = kernel.take() else {
+        let Some(kernel) = kernel.take() else {
             unreachable!()
         };
-        report(&mut kernel, 0);
         let CoreWorker {
             agenda,
             pace,

@@ -1,20 +1,18 @@
-//! Makes a pool with its first worker, replaces its orders, and closes it, which returns the jobs that are left.
-ghost use Rattle.std.specs.Prelude.{◌≡◌, ◌+◌, ◌<◌, ◌≤◌, ◌↔◌, [], IfErr, IfOk, IfSome, IsSome, IsTrue, MatchOption, OnErr, OnOk, Some};
-ghost use Rattle.arachne_core.specs.declared.layout.TheConstants.{CORES, SLOTS};
+//! Replaces a pool's orders, and closes the pool, which returns the jobs that are left.
+ghost use Rattle.std.specs.Prelude.{◌≡◌, ◌+◌, ◌<◌, ◌≤◌, ◌↔◌, IfErr, IfOk, IfSome, IsSome, IsTrue, MatchOption, OnErr, OnOk};
 ghost use Rattle.arachne_policy.specs.Orders.{AreInOrder};
 ghost use Rattle.arachne_policy.specs.declared.orders.OrderKind.TheVariants.{Release};
 ghost use Rattle.arachne_pool.specs.Jobs.{count_near};
 ghost use Rattle.arachne_pool.specs.Leftover.{IsWhole, count_placed};
 
-use crate::bench::Bench;
+use crate::tally::Tally;
 use crate::job::PoolJob;
 use crate::orders::PoolOrders;
 use crate::pool::Pool;
 use crate::spawned::Spawned;
-use crate::tally::Tally;
-use crate::worker::Worker;
+use crate::worker::{Bench, Worker};
 use arachne_contexts::{Contexts, Seats};
-use arachne_core::{CORES, OccWord, SLOTS, ThreadId};
+use arachne_core::{OccWord, ThreadId};
 use arachne_policy::{CoreOrder, OrderKind};
 use std::alloc::{AllocError, Global};
 use std::collections::VecDeque;
@@ -52,39 +50,6 @@ pub enum NotClosed<C: Seats, J: PoolJob> {
     Lost(Left<J>),
 }
 
-impl<C: Seats + Drop> Pool<C> {
-    ghost use Rattle.arachne_pool.specs.Workers.{HasNoCore, IsWorkerOf};
-
-    /// Returns a pool without jobs, and its one worker, which has worked for no core. `orders` take cores back and
-    /// grant them again while the pool works.
-    pub fn new<J: PoolJob>(
-        alloc: Global,
-        cores: u8,
-        slots: u8,
-        orders: Vec<CoreOrder>,
-    ) -> Result<(Pool<C>, Worker<C::Seat, J>), AllocError>
-        requires some { 1 ≤ cores }
-        requires most { cores ≤ CORES }
-        requires some_slots { 1 ≤ slots }
-        requires most_slots { slots ≤ SLOTS }
-        requires orders { AreInOrder cores orders.items }
-        ensures cores { IfOk result (λ made. made.0.cores ≡ cores) }
-        ensures slots { IfOk result (λ made. made.0.slots ≡ slots) }
-        ensures worker { IfOk result (λ made. IsWorkerOf C.sits C.idle made.0.table made.0.cores made.1) }
-        ensures whole { IfOk result (λ made. IsWhole C.weight made.1.seat) }
-        ensures tally { IfOk result (λ made. (made.1.tally.spawned ≡ 0) × (made.1.tally.ended ≡ 0)) }
-        ensures near { IfOk result (λ made. (made.1.waiting ≡ []) × (made.1.near ≡ 0)) }
-        ensures orders { IfOk result (λ made. made.1.arbiter ≡ Some (record { list = orders.items; cores = cores; applied = 0 })) }
-        ensures core { IfOk result (λ made. HasNoCore made.0.cores made.1) }
-    {
-        let orders = PoolOrders::new(alloc, orders, cores)?;
-        let (pool, seat) = Pool::<C>::with_seat(alloc, cores, slots)?;
-        let mut worker = Worker::new(alloc, Some(seat), 0);
-        worker.bench.orders = orders;
-        Ok((pool, worker))
-    }
-}
-
 impl<C: Seats> Pool<C> {
     ghost use Rattle.arachne_pool.specs.Workers.{AreKept, IsWorkerOf};
     ghost use Rattle.arachne_pool.specs.Leftover.{count_of};
@@ -117,7 +82,8 @@ impl<C: Seats> Pool<C> {
                 orders.insert(0, closes_at_once(core))?;
             }
         }
-        worker.bench.orders = PoolOrders::new(worker.bench.alloc, orders, self.cores)?;
+        let orders = PoolOrders::new(worker.bench.alloc, orders, self.cores)?;
+        worker.bench.orders = Some(orders);
         Ok(())
     }
 

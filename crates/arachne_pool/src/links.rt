@@ -3,8 +3,8 @@ ghost use Rattle.std.specs.Prelude.{◌≡◌, ◌+◌, ◌∷◌, [], IfErr, If
 ghost use Rattle.std.specs.VecDeque.{deque_len};
 ghost use Rattle.arachne_pool.specs.Children.{LosesAside, LosesBegun, with_aside};
 
+use crate::handle::{Cells, ResultReceiver, ResultSender, WantedResult};
 use crate::job::PoolJob;
-use crate::outcome::{Cells, ResultReceiver, ResultSender, WantedResult};
 use std::alloc::Global;
 use std::collections::VecDeque;
 use std::marker::Model;

@@ -1,18 +1,12 @@
-//! The rounds of a worker in a call: one round, or as many as it takes until all jobs, or the job of a handle, have
-//! ended.
+//! The rounds of a worker in a call: one round, or as many as it takes until all jobs have ended.
 //!
 //! Like the worker's loop, the rounds are written over a trait, and not over tables and jobs.
-ghost use Rattle.std.specs.Prelude.{◌≡◌, IfErr, IfOk};
+ghost use Rattle.std.specs.Prelude.{◌≡◌};
 
-use crate::handle::Handle;
-use crate::job::PoolJob;
 use crate::worker::PoolFault;
 use arachne_workers::{CoreWorker, Desk, WorkerEvent};
 use std::sync::Wait;
 use std::time::Clock;
-
-/// The number of slices after which a worker reports its statistics at the latest.
-const MOST_UNTOLD: u64 = 1024;
 
 /// A worker's desk (its access to the table and to the job in hand), as the rounds use it in addition to the worker's
 /// loop. No call changes the pool to which the worker's seat belongs.
@@ -32,11 +26,6 @@ pub(crate) trait PoolDesk: Desk {
 
     /// Returns whether the core was seen closed and empty since the last call.
     fn take_drained(&mut self) -> bool
-        ensures { self.new ≡ self.old };
-
-    /// Adds to the pool's statistics of the core: `slices` slices, `rests` rounds that found nothing, and what else was
-    /// counted since the last report.
-    fn report(&mut self, slices: u64, rests: u64)
         ensures { self.new ≡ self.old };
 }
 
@@ -91,34 +80,6 @@ pub(crate) fn run<H: Wait + Clock, D: PoolDesk>(
     unreachable!()
 }
 
-/// Makes rounds until the job of a handle has ended, and returns its result.
-pub(crate) fn run_until<H: Wait + Clock, D: PoolDesk, J: PoolJob>(
-    kernel: &mut CoreWorker<'_, H, D>,
-    handle: Handle<J>,
-) -> Result<J::Output, (PoolFault, Handle<J>)>
-    ensures desk { kernel.new.desk ≡ kernel.old.desk }
-    ensures output { IfOk result (J.is_result handle) }
-    ensures handed_back { IfErr result (λ back. back.1 ≡ handle) }
-{
-    let mut handle = handle;
-    let mut idle: u32 = 0;
-    for _ in kernel.rt.forever() {
-        handle = match handle.poll() {
-            Ok(output) => return Ok(output),
-            Err(handle) => handle,
-        };
-        if kernel.shared.is_stopped() {
-            return Err((PoolFault::Stopped, handle));
-        }
-        idle = match round(kernel, idle) {
-            Ok(true) => 0,
-            Ok(false) => idle.saturating_add(1),
-            Err(fault) => return Err((fault, handle)),
-        };
-    }
-    unreachable!()
-}
-
 /// Makes one round, and waits if it found nothing to do. Returns whether it found something. `idle` is the number of
 /// consecutive rounds before this one that found nothing.
 fn round<H: Wait + Clock, D: PoolDesk>(
@@ -131,24 +92,8 @@ fn round<H: Wait + Clock, D: PoolDesk>(
     if kernel.desk.take_short() {
         return Err(PoolFault::Memory);
     }
-    if found {
-        if kernel.slices >= MOST_UNTOLD {
-            report(kernel, 0);
-        }
-        return Ok(true);
+    if !found {
+        kernel.rest_for(idle);
     }
-    report(kernel, 1);
-    kernel.rest_for(idle);
-    Ok(false)
-}
-
-/// Adds what was done on the core since the last report to the pool's statistics, with `rests` rounds that found
-/// nothing.
-pub(crate) fn report<H: Wait + Clock, D: PoolDesk>(kernel: &mut CoreWorker<'_, H, D>, rests: u64)
-    ensures desk { kernel.new.desk ≡ kernel.old.desk }
-    ensures told { kernel.new.slices ≡ 0 }
-{
-    let slices = kernel.slices;
-    kernel.slices = 0;
-    kernel.desk.report(slices, rests);
+    Ok(found)
 }

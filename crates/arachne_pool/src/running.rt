@@ -1,52 +1,27 @@
 //! A job that is run to its end, with all that it forks, on as many kernel threads as cores.
-ghost use Rattle.std.specs.Prelude.{◌≡◌, [], IfErr, IfOk, IfSome};
-ghost use Rattle.arachne_pool.specs.Running.{FitsMachine, HandsBackRun};
+ghost use Rattle.std.specs.Prelude.{◌≡◌, ◌≤◌, [], IfErr, IfOk, IfSome};
+ghost use Rattle.arachne_core.specs.declared.layout.TheConstants.{CORES};
+ghost use Rattle.arachne_pool.specs.Running.{HandsBackRun, IsFirst};
 ghost use Rattle.arachne_pool.specs.Workers.{IsWorkerOf};
 
 use crate::closing::Left;
-use crate::crew::{Crew, Share};
+use crate::tally::Tally;
+use crate::handle::Handle;
 use crate::job::PoolJob;
 use crate::pool::Pool;
 use crate::spawned::Spawned;
-use crate::statistics::Statistics;
-use crate::tally::Tally;
-use crate::worker::PoolFault;
-use arachne_contexts::Contexts;
+use crate::spawning::Refused;
+use crate::worker::{PoolFault, Worker};
+use arachne_contexts::{Contexts, Seats};
 use arachne_core::{CORES, SLOTS};
-use arachne_team::{TeamFault, work_together};
+use arachne_team::{Team, TeamFault, work_together};
 use arachne_words::WordContexts;
 use std::alloc::Global;
 use std::snapshot::Snapshot;
-use std::sync::Wait;
+use std::sync::{Mutex, Wait};
 use std::thread::{Threads, available_parallelism};
 use std::time::Clock;
 use thiserror::Error;
-
-/// The numbers of cores and places of the pool in which `Pool::run` runs a job.
-#[derive(Clone, Copy, Debug, PartialEq, Eq)]
-pub struct Setup {
-    /// The number of cores, 1 to 64. Each has a kernel thread.
-    pub cores: u8,
-    /// The number of places of each core, 1 to 56.
-    pub slots: u8,
-}
-
-impl Setup {
-    /// Returns a setup with a core for each processor that this process may use, at most 64, or with one core if the
-    /// system doesn't report their number. Each core has 56 places.
-    pub fn of_machine<R: Threads>(rt: &R) -> Setup
-        ensures { FitsMachine result }
-    {
-        let count = match available_parallelism(rt) {
-            Ok(count) => count.get(),
-            Err(_) => 1,
-        };
-        Setup {
-            cores: u8::try_from(count).unwrap_or(CORES).min(CORES),
-            slots: SLOTS,
-        }
-    }
-}
 
 /// A job that was run to its end. All jobs that it has forked have ended too.
 #[derive(Drop)]
@@ -55,8 +30,6 @@ pub struct Finished<O> {
     pub output: O,
     /// The numbers of jobs that were spawned, this one with them, and that have ended.
     pub tally: Tally,
-    /// The statistics of all cores together.
-    pub statistics: Statistics,
 }
 
 /// The reason why a job was not run to its end. If several kernel threads meet a fault, it is the first that was
@@ -131,38 +104,176 @@ where
         ensures all { IfOk result (λ done. done.tally.ended ≡ done.tally.spawned) }
         ensures handed_back { IfErr result (HandsBackRun job) }
     {
-        Pool::<WordContexts<Spawned<J>>>::run_on(rt, alloc, Setup::of_machine(rt), job)
+        Pool::<WordContexts<Spawned<J>>>::run_on(rt, alloc, processors(rt), job)
     }
 
-    /// Runs a job as `run` does, on the cores of this setup.
+    /// Runs a job as `run` does, on this number of cores, each with a kernel thread.
     pub fn run_on<R: Threads + Wait + Clock + Sync>(
         rt: &R,
         alloc: Global,
-        setup: Setup,
+        cores: u8,
         job: J,
     ) -> Result<Finished<J::Output>, Unfinished<J>>
-        requires setup { FitsMachine setup }
+        requires some { 1 ≤ cores }
+        requires most { cores ≤ CORES }
         requires fresh { J.awaits job [] }
         ensures output { IfOk result (λ done. J.is_result job done.output) }
         ensures all { IfOk result (λ done. done.tally.ended ≡ done.tally.spawned) }
         ensures handed_back { IfErr result (HandsBackRun job) }
     {
-        let Setup { cores, slots } = setup;
-        let made = Pool::<WordContexts<Spawned<J>>>::new::<J>(alloc, cores, slots, Vec::new(alloc));
+        let made = Pool::<WordContexts<Spawned<J>>>::new::<J>(alloc, cores, SLOTS, Vec::new(alloc));
         let Ok((pool, worker)) = made else {
             return Err(Unfinished::NotSpawned(RunFault::Worker(PoolFault::Memory), job));
         };
         // Until the job is spawned, by the first kernel thread once all have begun.
         pool.keep_open();
-        let (asked, crew) = (Snapshot::of(&job), Crew::of(&pool, &job));
-        let share = Share {
-            worker,
-            job: Some(job),
-            handle: None,
+        let asked = Snapshot::of(&job);
+        let crew = Crew {
+            pool: &pool,
+            asked: Snapshot::of(&job),
+            first_fault: Mutex::new(None),
         };
-        let share = work_together(rt, alloc, &crew, share);
+        let first = Some(Err(job));
+        let share = work_together(rt, alloc, &crew, Share { worker, first });
         let fault = crew.into_first_fault();
         end(rt, alloc, pool, share, fault, &asked)
+    }
+}
+
+/// Returns the number of processors that this process may use, at most 64, or 1 if the system doesn't report it.
+fn processors<R: Threads>(rt: &R) -> u8
+    ensures { (1 ≤ result) × (result ≤ CORES) }
+{
+    match available_parallelism(rt) {
+        Ok(count) => u8::try_from(count.get()).unwrap_or(CORES).min(CORES),
+        Err(_) => 1,
+    }
+}
+
+/// The kernel threads of a pool that run a job, one for each core.
+#[derive(Drop)]
+struct Crew<'p, C: Seats, J> {
+    pool: &'p Pool<C>,
+    /// The job before its first step. It has no bytes.
+    asked: Snapshot<J>,
+    first_fault: Mutex<Option<RunFault>>,
+}
+
+/// The share of one kernel thread: its worker, and for the first kernel thread also the job's handle, or the job if it
+/// is not spawned.
+#[derive(Drop)]
+struct Share<S, J: PoolJob> {
+    worker: Worker<S, J>,
+    first: Option<Result<Handle<J>, J>>,
+}
+
+impl<'p, C: Seats, J: PoolJob> Crew<'p, C, J> {
+    /// Stops all kernel threads for a fault, and records it if it is the first.
+    fn stop_for<R: Wait>(&self, rt: &R, fault: RunFault) {
+        let mut first = self.first_fault.lock(rt);
+        if first.is_none() {
+            *first = Some(fault);
+        }
+        self.pool.stop();
+    }
+
+    /// Returns the fault that was recorded first.
+    fn into_first_fault(self) -> Option<RunFault> {
+        let Crew { first_fault, .. } = self;
+        first_fault.into_inner()
+    }
+
+    /// Spawns the job, after which no more come. Returns the job if memory is refused, or if the pool was stopped since
+    /// the system refused to start a kernel thread.
+    fn spawn<R: Wait>(
+        &self,
+        rt: &R,
+        worker: &mut Worker<C::Seat, J>,
+        job: J,
+    ) -> Result<Handle<J>, J>
+    where
+        C: Contexts<Spawned<J>>,
+        requires worker { IsWorkerOf C.sits C.idle self.now.pool.now.table self.now.pool.now.cores worker.old }
+        requires fresh { J.awaits job [] }
+        ensures worker { IsWorkerOf C.sits C.idle self.now.pool.now.table self.now.pool.now.cores worker.new }
+        ensures first { IsFirst job result }
+    {
+        if self.pool.is_stopped() {
+            return Err(job);
+        }
+        match self.pool.spawn(rt, worker, job) {
+            Ok(handle) => {
+                self.pool.finish();
+                Ok(handle)
+            }
+            Err(refused) => {
+                let Refused { job, .. } = refused;
+                self.stop_for(rt, RunFault::Worker(PoolFault::Memory));
+                Err(job)
+            }
+        }
+    }
+}
+
+impl<'p, J: PoolJob, C: Contexts<Spawned<J>>> Team<Share<C::Seat, J>> for Crew<'p, C, J> {
+    ghost use Rattle.std.specs.Prelude.{◌≡◌, ◌<◌, [], IfSome};
+    ghost use Rattle.arachne_pool.specs.Running.{IsFirst};
+    ghost use Rattle.arachne_pool.specs.Workers.{IsWorkerOf};
+
+    ghost has = { λ crew share. IsWorkerOf C.sits C.idle crew.pool.now.table crew.pool.now.cores share.worker
+        × IfSome share.first (IsFirst crew.asked.value) × J.awaits crew.asked.value [] };
+
+    ghost size = { λ crew. crew.pool.now.cores };
+
+    fn size(&self) -> u8 {
+        self.pool.cores
+    }
+
+    fn part_off<R: Wait>(
+        &self,
+        rt: &R,
+        share: Share<C::Seat, J>,
+    ) -> (Share<C::Seat, J>, Option<Share<C::Seat, J>>) {
+        let Share { worker, first } = share;
+        let (worker, theirs) = self.pool.split(rt, worker);
+        let theirs = Share {
+            worker: theirs,
+            first: None,
+        };
+        (Share { worker, first }, Some(theirs))
+    }
+
+    fn work<R: Wait + Clock>(
+        &self,
+        rt: &R,
+        number: u8,
+        share: Share<C::Seat, J>,
+    ) -> Option<Share<C::Seat, J>> {
+        let Share { mut worker, first } = share;
+        let first = match first {
+            Some(Err(job)) => Some(self.spawn(rt, &mut worker, job)),
+            Some(Ok(handle)) => Some(Ok(handle)),
+            None => None,
+        };
+        if let Err(fault) = self.pool.work(rt, &mut worker, number) {
+            self.stop_for(rt, RunFault::Worker(fault));
+        }
+        Some(Share { worker, first })
+    }
+
+    fn join<R: Wait>(
+        &self,
+        rt: &R,
+        share: Share<C::Seat, J>,
+        other: Share<C::Seat, J>,
+    ) -> Option<Share<C::Seat, J>> {
+        let Share { worker, first } = share;
+        let worker = self.pool.join_workers(rt, worker, other.worker).ok()?;
+        Some(Share { worker, first })
+    }
+
+    fn fail<R: Wait>(&self, rt: &R, fault: TeamFault) {
+        self.stop_for(rt, RunFault::from(fault));
     }
 }
 
@@ -176,28 +287,21 @@ fn end<C: Contexts<Spawned<J>> + Drop, R: Wait, J: PoolJob>(
     asked: &Snapshot<J>,
 ) -> Result<Finished<J::Output>, Unfinished<J>>
     requires worker { IfSome share (λ share. IsWorkerOf C.sits C.idle pool.table pool.cores share.worker) }
-    requires job { IfSome share (λ share. IfSome share.job (λ job. job ≡ asked.now.value)) }
-    requires handle { IfSome share (λ share. IfSome share.handle (λ handle. handle ≡ asked.now.value)) }
+    requires first { IfSome share (λ share. IfSome share.first (IsFirst asked.now.value)) }
     ensures output { IfOk result (λ done. J.is_result asked.now.value done.output) }
     ensures all { IfOk result (λ done. done.tally.ended ≡ done.tally.spawned) }
     ensures handed_back { IfErr result (HandsBackRun asked.now.value) }
 {
     let why = fault.unwrap_or(RunFault::Worker(PoolFault::Stopped));
-    let Some(share) = share else {
+    let Some(Share { worker, first }) = share else {
         return Err(Unfinished::Lost(why));
     };
-    let Share {
-        worker,
-        job,
-        handle,
-    } = share;
-    if let Some(job) = job {
-        return Err(Unfinished::NotSpawned(why, job));
-    }
-    let Some(handle) = handle else {
-        return Err(Unfinished::Lost(why));
+    let handle = match first {
+        Some(Ok(handle)) => handle,
+        Some(Err(job)) => return Err(Unfinished::NotSpawned(why, job)),
+        None => return Err(Unfinished::Lost(why)),
     };
-    let (tally, statistics) = (worker.tally(), pool.all_statistics());
+    let tally = worker.tally();
     let Ok(left) = pool.close(rt, alloc, worker) else {
         return Err(Unfinished::Lost(why));
     };
@@ -205,11 +309,7 @@ fn end<C: Contexts<Spawned<J>> + Drop, R: Wait, J: PoolJob>(
         return Err(Unfinished::Stopped(why, tally, left));
     }
     match handle.poll() {
-        Ok(output) => Ok(Finished {
-            output,
-            tally,
-            statistics,
-        }),
+        Ok(output) => Ok(Finished { output, tally }),
         Err(_) => Err(Unfinished::Stopped(why, tally, left)),
     }
 }

@@ -1,19 +1,18 @@
 //! A worker's seat at the table of a pool. Between two calls the seat has the job in hand, and nothing else.
-ghost use Rattle.std.specs.Prelude.{◌≡◌, ◌≤◌, IfSome, false};
+ghost use Rattle.std.specs.Prelude.{◌≡◌, ◌≤◌, IfSome, false, if◌then◌else◌};
 ghost use Rattle.arachne_pool.specs.Grounds.{in_hand};
+ghost use Rattle.arachne_pool.specs.Stops.{rests_as};
 ghost use Rattle.arachne_pool.specs.Workers.{IsIdleAt};
 
-use crate::bench::Bench;
 use crate::job::PoolJob;
 use crate::place::{end, place_oldest, post_oldest};
 use crate::pool::Pool;
-use crate::posting::{Disowned, Posted};
 use crate::rounds::PoolDesk;
 use crate::spawned::{Ended, Spawned};
-use crate::stop::{JobStop, rest_of, rests_so};
-use crate::worker::PoolFault;
+use crate::stack::JobStop;
+use crate::worker::{Bench, disowned};
 use arachne_arbiter::Pace;
-use arachne_contexts::{Contexts, Held, Moved, Taken, Woken};
+use arachne_contexts::{Contexts, Held, Moved, Rested, Taken, Woken};
 use arachne_core::{MarkWord, OccWord, Place, Rest, ThreadId};
 use arachne_workers::{Desk, Grip, Halt, ThreadStop, TicketResult, WorkerEvent, is_drained};
 use std::marker::Model;
@@ -28,8 +27,6 @@ pub(crate) enum Call {
     Turn,
     /// Rounds until all jobs have ended. The worker parks if its core is closed.
     Work,
-    /// Rounds until one job has ended. Nobody signals that end.
-    Join,
 }
 
 /// A worker's desk at the table. Contracts see the pool to which the desk belongs; its invariant says which job the
@@ -91,29 +88,19 @@ impl<'a, H: Wait, J: PoolJob, C: Contexts<Spawned<J>>> Desk for Seat<'a, H, J, C
 
     fn quantum(&self) -> u32 {
         match &self.held {
-            Some(held) => held.value.bound().max(1),
+            Some(held) => held.value.stack.job().bound().max(1),
             None => 1,
         }
     }
 
     #[inline(always)]
     fn advance(&mut self, _pace: &mut Pace, left: &mut u32) -> Result<ThreadStop, Halt> {
-        let before = *left;
         let mut stop = self.go_on(left);
         if stop == JobStop::LetsGo && self.let_go() {
             stop = self.go_on(left);
         }
-        let done = &mut self.bench.done;
-        done.steps = done
-            .steps
-            .wrapping_add(u64::from(before.wrapping_sub(*left)));
         if stop == JobStop::Sleeps {
             stop = self.fall_asleep(left);
-        }
-        if stop == JobStop::Short {
-            // Subtracts all: the next slice tries again.
-            *left = 0;
-            self.bench.is_short = true;
         }
         if stop == JobStop::Ends {
             // The job's end is counted in `end`, once the place is free and the result is left.
@@ -124,7 +111,13 @@ impl<'a, H: Wait, J: PoolJob, C: Contexts<Spawned<J>>> Desk for Seat<'a, H, J, C
         self.pool.live.add(self.core, self.bench.news());
         match stop {
             JobStop::Waits | JobStop::Sleeps => Ok(ThreadStop::Blocks),
-            JobStop::LetsGo | JobStop::Short => Ok(ThreadStop::Goes),
+            JobStop::LetsGo => Ok(ThreadStop::Goes),
+            JobStop::Short => {
+                // Subtracts all: the next slice tries again.
+                *left = 0;
+                self.bench.is_short = true;
+                Ok(ThreadStop::Goes)
+            }
             _ => self.post_oldest(),
         }
     }
@@ -137,10 +130,10 @@ impl<'a, H: Wait, J: PoolJob, C: Contexts<Spawned<J>>> Desk for Seat<'a, H, J, C
     #[inline(always)]
     fn rest(&mut self) -> Result<Rest, Halt> {
         if self.is_broken {
-            return Err(Halt::from(PoolFault::Token));
+            return Err(disowned());
         }
         let Some(held) = self.held.take() else {
-            return Err(Halt::from(PoolFault::Token));
+            return Err(disowned());
         };
         let asked = rest_of(self.blocks);
         let table = &self.pool.table;
@@ -148,7 +141,7 @@ impl<'a, H: Wait, J: PoolJob, C: Contexts<Spawned<J>>> Desk for Seat<'a, H, J, C
             Ok(rested) => Ok(rests_so(rested, asked)),
             Err(held) => {
                 self.held = Some(held);
-                Err(Halt::from(PoolFault::Token))
+                Err(disowned())
             }
         }
     }
@@ -156,13 +149,13 @@ impl<'a, H: Wait, J: PoolJob, C: Contexts<Spawned<J>>> Desk for Seat<'a, H, J, C
     #[inline(always)]
     fn end(&mut self, _before: OccWord) -> Result<Option<ThreadId>, Halt> {
         if self.is_broken {
-            return Err(Halt::from(PoolFault::Token));
+            return Err(disowned());
         }
         let Some(held) = &self.held else {
-            return Err(Halt::from(PoolFault::Token));
+            return Err(disowned());
         };
         let Some(_) = held.value.taken_from(0) else {
-            return Err(Halt::from(PoolFault::Token));
+            return Err(disowned());
         };
         let Some(held) = self.held.take() else {
             unreachable!()
@@ -173,7 +166,7 @@ impl<'a, H: Wait, J: PoolJob, C: Contexts<Spawned<J>>> Desk for Seat<'a, H, J, C
             Err(ended) => {
                 self.is_broken = true;
                 self.count_end(ended);
-                Err(Halt::from(PoolFault::Token))
+                Err(disowned())
             }
         }
     }
@@ -210,11 +203,7 @@ impl<'a, H: Wait, J: PoolJob, C: Contexts<Spawned<J>>> Desk for Seat<'a, H, J, C
 
     fn try_wake(&mut self, id: ThreadId) -> Woken {
         let table = &self.pool.table;
-        let woken = table.wake(self.rt, &mut self.seat, id);
-        if woken == Woken::Woken {
-            self.bench.done.wakes = self.bench.done.wakes.wrapping_add(1);
-        }
-        woken
+        table.wake(self.rt, &mut self.seat, id)
     }
 
     fn pull(&mut self, place: Place) -> bool {
@@ -235,7 +224,7 @@ impl<'a, H: Wait, J: PoolJob, C: Contexts<Spawned<J>>> Desk for Seat<'a, H, J, C
 
     fn take_ticket(&mut self) -> Result<TicketResult, Halt> {
         if self.is_broken {
-            return Err(Halt::from(PoolFault::Token));
+            return Err(disowned());
         }
         self.is_broken = true;
         let bench = &mut self.bench;
@@ -257,19 +246,28 @@ impl<'a, H: Wait, J: PoolJob, C: Contexts<Spawned<J>>> Desk for Seat<'a, H, J, C
     fn tend(&mut self) -> (Option<usize>, u64) {
         let pool = self.pool;
         let cores = pool.cores::<H, Spawned<J>>(self.rt);
-        self.bench.orders.tend(&cores, &mut self.seat, &pool.shared)
+        match &mut self.bench.orders {
+            Some(orders) => orders.tend(&cores, &mut self.seat, &pool.shared),
+            None => (None, 0),
+        }
     }
 
     #[inline(always)]
     fn has_orders(&self) -> bool {
-        self.bench.orders.has_any()
+        match &self.bench.orders {
+            Some(orders) => orders.has_any(),
+            None => false,
+        }
     }
 
     fn is_waited_for(&self) -> bool {
         if self.call != Call::Work || !self.bench.near.is_empty() {
             return true;
         }
-        self.bench.orders.has_more()
+        match &self.bench.orders {
+            Some(orders) => orders.has_more(),
+            None => false,
+        }
     }
 
     fn is_drained(&mut self) -> bool {
@@ -282,7 +280,7 @@ impl<'a, H: Wait, J: PoolJob, C: Contexts<Spawned<J>>> Desk for Seat<'a, H, J, C
     #[inline(always)]
     fn told(&self, event: WorkerEvent) {
         if matches!(event, WorkerEvent::Overslept) {
-            self.pool.live.add_overslept(self.core);
+            self.pool.count_overslept();
         }
     }
 }
@@ -304,12 +302,6 @@ impl<'a, H: Wait, J: PoolJob, C: Contexts<Spawned<J>>> PoolDesk for Seat<'a, H, 
 
     fn take_drained(&mut self) -> bool {
         replace(&mut self.is_drained, false)
-    }
-
-    fn report(&mut self, slices: u64, rests: u64) {
-        self.pool
-            .live
-            .add_done(self.core, self.bench.take_done(slices, rests));
     }
 }
 
@@ -346,28 +338,21 @@ impl<'a, H: Wait, J: PoolJob, C: Contexts<Spawned<J>>> Seat<'a, H, J, C> {
         ensures { self.new ≡ self.old }
     {
         if self.is_broken {
-            return Err(Halt::from(PoolFault::Token));
+            return Err(disowned());
         }
         let Some(held) = &mut self.held else {
-            return Err(Halt::from(PoolFault::Token));
+            return Err(disowned());
         };
         self.is_broken = true;
         let bench = &mut self.bench;
         let posted = post_oldest::<H, J, C>(self.rt, self.pool, &mut self.seat, bench, held)?;
         self.is_broken = false;
-        Ok(self.stop_after(posted))
-    }
-
-    /// Returns how the slice goes on after a child was posted (put at a place of its own). A child on the worker's own
-    /// core is noted as ready. A child on another core is left to that core's worker, which is signalled.
-    #[inline(always)]
-    fn stop_after(&self, posted: Option<Posted<J>>) -> ThreadStop {
         let Some(posted) = posted else {
-            return ThreadStop::Goes;
+            return Ok(ThreadStop::Goes);
         };
         match posted.tell_unless_on(self.core, &self.pool.shared) {
-            Some(post) => ThreadStop::Posted(post),
-            None => ThreadStop::Goes,
+            Some(post) => Ok(ThreadStop::Posted(post)),
+            None => Ok(ThreadStop::Goes),
         }
     }
 
@@ -379,11 +364,11 @@ impl<'a, H: Wait, J: PoolJob, C: Contexts<Spawned<J>>> Seat<'a, H, J, C> {
         let Some(held) = &self.held else {
             return JobStop::Waits;
         };
-        if held.value.has_aside() {
+        if held.value.stack.has_aside() {
             *left = 0;
             return JobStop::Goes;
         }
-        held.value.sleeps_as(held.id());
+        held.value.stack.job().sleeps_as(held.id());
         JobStop::Sleeps
     }
 
@@ -405,26 +390,15 @@ impl<'a, H: Wait, J: PoolJob, C: Contexts<Spawned<J>>> Seat<'a, H, J, C> {
             return false;
         }
         for core in 0..self.pool.cores {
-            if self.fetch_from(core) {
+            if let Some(place) = self.waiting_on(core)
+                && self.move_here(place)
+            {
+                let hints = self.pool.shared.hints();
+                hints.hint(self.core, self.occupied(self.core));
                 return true;
             }
         }
         false
-    }
-
-    /// Moves a job that waits on `core` to the worker's own core. Returns whether there was such a job.
-    fn fetch_from(&mut self, core: u8) -> bool
-        ensures { self.new ≡ self.old }
-    {
-        let Some(place) = self.waiting_on(core) else {
-            return false;
-        };
-        let was_moved = self.move_here(place);
-        if was_moved {
-            let hints = self.pool.shared.hints();
-            hints.hint(self.core, self.occupied(self.core));
-        }
-        was_moved
     }
 
     /// Moves the job at a place of another core to the worker's own core, unless the job runs or has its core to
@@ -506,14 +480,21 @@ pub(crate) fn idle_seat<J: PoolJob, C: Contexts<Spawned<J>>>(
     }
 }
 
-impl From<Disowned> for Halt {
-    ghost use Rattle.std.specs.Prelude.{◌≡◌};
-    ghost use Rattle.arachne_pool.specs.Faults.{number_of};
-    ghost use Rattle.arachne_pool.specs.declared.worker.PoolFault.TheVariants.{Token};
+/// Returns the state in which a job is put back: blocked if `blocks`, else ready.
+#[inline(always)]
+fn rest_of(blocks: bool) -> Rest
+    ensures { result ≡ (if blocks then Rest.Blocked else Rest.Ready) }
+{
+    if blocks { Rest::Blocked } else { Rest::Ready }
+}
 
-    ghost from_gives = { λ _ halt. halt.why ≡ number_of Token };
-
-    fn from(_: Disowned) -> Halt {
-        Halt::from(PoolFault::Token)
+/// Returns the state of a job that was put back as `asked`: a job that was woken before is ready.
+#[inline(always)]
+fn rests_so(rested: Rested, asked: Rest) -> Rest
+    ensures { result ≡ rests_as rested asked }
+{
+    match rested {
+        Rested::AsAsked => asked,
+        Rested::WokenMeanwhile => Rest::Ready,
     }
 }

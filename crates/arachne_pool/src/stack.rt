@@ -2,18 +2,51 @@
 ghost use Rattle.std.specs.Prelude.{◌≡◌, ◌+◌, ◌<◌, ◌≤◌, [], ◌∷◌, List, None, IfSome, IsSome, MatchOption, length, false, true};
 ghost use Rattle.arachne_pool.specs.Frames.{CountsEach, IsServed, KeepsMany, count_none, unless_ended};
 ghost use Rattle.arachne_pool.specs.Jobs.{children_of};
+ghost use Rattle.arachne_pool.specs.Stops.{blocks_after};
 
+use crate::tally::Tally;
+use crate::handle::{Cells, ResultSender};
 use crate::job::{PoolJob, Step};
 use crate::links::Links;
-use crate::outcome::{Cells, ResultSender};
-use crate::stop::JobStop;
-use crate::tally::Tally;
 use arachne_core::ThreadId;
 use std::alloc::Global;
 use std::collections::VecDeque;
 use std::marker::Model;
 use std::mem::replace;
 use std::snapshot::Snapshot;
+
+/// The reason why a slice of a job stops.
+#[derive(Clone, Copy, Debug, PartialEq, Eq)]
+pub(crate) enum JobStop {
+    /// The job goes on.
+    Goes,
+    /// The job awaits a child that has begun elsewhere and has not ended.
+    Waits,
+    /// The job rests until it is woken.
+    Sleeps,
+    /// The job goes on, and has forked a child while a place may be free.
+    Forks,
+    /// A job has ended without joining all of its children, which must be released.
+    LetsGo,
+    /// The job has ended.
+    Ends,
+    /// Memory was refused. Nothing has changed.
+    Short,
+}
+
+impl JobStop {
+    /// Returns whether the job is put back as blocked: if it waits or sleeps.
+    #[inline(always)]
+    pub(crate) fn blocks(self) -> bool
+        ensures { result ≡ blocks_after self }
+    {
+        match self {
+            JobStop::Waits | JobStop::Sleeps => true,
+            JobStop::Goes | JobStop::Forks | JobStop::LetsGo | JobStop::Ends | JobStop::Short =>
+                false,
+        }
+    }
+}
 
 /// A job in a place: as it was forked, as it is now, and the number of its children that were forked and not joined,
 /// except for a child that runs in the job's place.
@@ -60,7 +93,7 @@ pub(crate) struct Stack<J: PoolJob> {
     /// The jobs below the topmost one, the first job first.
     below: Vec<JobFrame<J>>,
     /// The children of all jobs in this place, except for children that run in this place.
-    links: Links<J>,
+    pub(crate) links: Links<J>,
     /// A child that the topmost job has forked, and that has to wait in this place.
     child: Option<J>,
     /// The result of the topmost job, if it has ended.
@@ -106,29 +139,14 @@ impl<J: PoolJob> Stack<J> {
         }
     }
 
-    /// Returns whether the topmost job wants a core for itself.
-    pub(crate) fn is_exclusive(&self) -> bool {
-        self.top.job.is_exclusive()
-    }
-
-    /// Returns the most steps of a slice.
-    pub(crate) fn bound(&self) -> u32 {
-        self.top.job.bound()
-    }
-
-    /// Reports to the topmost job the id under which it rests.
-    pub(crate) fn sleeps_as(&self, id: ThreadId) {
-        self.top.job.sleeps_as(id);
+    /// Returns the topmost job.
+    pub(crate) fn job(&self) -> &J {
+        &self.top.job
     }
 
     /// Returns whether a child waits in this place to begin.
     pub(crate) fn has_aside(&self) -> bool {
         self.links.aside() > 0
-    }
-
-    /// Returns whether the oldest child that waits in this place wants a core for itself.
-    pub(crate) fn is_oldest_exclusive(&self) -> bool {
-        self.links.is_oldest_exclusive()
     }
 
     /// Subtracts the number of jobs in this place that have not ended from `count`. Returns `None` if that number is
