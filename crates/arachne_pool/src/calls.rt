@@ -1,14 +1,16 @@
-//! The calls by which a worker works on a core: one round, or rounds until all jobs have ended.
-ghost use Rattle.std.specs.Prelude.{◌≡◌, ◌<◌, ◌↔◌, IfSome, IsNone, IsSome, IsTrue, OnOk};
+//! The calls by which a worker works on a core, one round or until all jobs have ended, and wakes jobs that sleep.
+//!
+//! Like the worker's loop, the rounds are written over a trait, and not over tables and jobs.
+ghost use Rattle.std.specs.Prelude.{◌≡◌, ◌<◌, ◌↔◌, IfSome, IsNone, IsSome, IsTrue, MatchOption, None, OnOk};
 
 use crate::job::PoolJob;
 use crate::pool::Pool;
-use crate::rounds::{run, run_once};
 use crate::seat::{Call, Seat, idle_seat};
 use crate::spawned::Spawned;
 use crate::worker::{PoolFault, Worker};
-use arachne_contexts::{Contexts, Seats};
-use arachne_workers::CoreWorker;
+use arachne_contexts::{Contexts, Seats, Woken};
+use arachne_core::{MarkWord, ThreadId};
+use arachne_workers::{CoreWorker, Desk, WorkerEvent};
 use std::mem::replace;
 use std::sync::Wait;
 use std::time::Clock;
@@ -16,6 +18,7 @@ use std::time::Clock;
 impl<C: Seats> Pool<C> {
     ghost use Rattle.arachne_pool.specs.Calls.{HasSeatAfter};
     ghost use Rattle.arachne_pool.specs.Grounds.{ground_at};
+    ghost use Rattle.arachne_pool.specs.Waking.{HasWoken};
     ghost use Rattle.arachne_pool.specs.Workers.{IsArbiterFor, IsIdleAt, IsWorkerOf, WorksFor};
 
     /// Makes one round on a core: carries out the orders to open or close cores that are due, gives each job that is
@@ -45,8 +48,17 @@ impl<C: Seats> Pool<C> {
             return Err(PoolFault::Token);
         };
         let found = run_once(rounds);
-        if !self.leave(worker, core, &mut kernel) {
+        let has_seat = self.leave(worker, core, &mut kernel);
+        let is_short = replace(&mut worker.bench.is_short, false);
+        // Even if the round failed: a job may have ended in the round.
+        if replace(&mut worker.bench.has_ended, false) {
+            self.wake_if_over();
+        }
+        if !has_seat {
             return Err(PoolFault::Token);
+        }
+        if is_short {
+            return Err(PoolFault::Memory);
         }
         found
     }
@@ -73,7 +85,7 @@ impl<C: Seats> Pool<C> {
             self.stop();
             return Err(PoolFault::Token);
         };
-        let ended = run(rounds);
+        let ended = run(rounds, self);
         if !self.leave(worker, core, &mut kernel) {
             self.stop();
             return Err(PoolFault::Token);
@@ -83,6 +95,61 @@ impl<C: Seats> Pool<C> {
             Err(_) => self.stop(),
         }
         ended
+    }
+
+    /// Wakes the job of this id, and returns the answer of the table, or `None` if the worker has no seat. A kernel
+    /// thread that is no worker, such as a timer, may have a worker for its wakes (`split`).
+    ///
+    /// `Woken`: either the job was blocked, and its core's worker is signalled; or a worker has the job in hand, and
+    /// the job won't rest then. `Already`: the job was woken before, or goes on without a wake. `Gone`: the job of the
+    /// id has ended. No other job ever gets the id, except for jobs that ran in the same place at the same time.
+    pub fn wake<H: Wait, J: PoolJob>(
+        &self,
+        rt: &H,
+        worker: &mut Worker<C::Seat, J>,
+        id: ThreadId,
+    ) -> Option<Woken>
+    where
+        C: Contexts<Spawned<J>>,
+        requires { IsWorkerOf C.sits C.idle self.now.table self.now.cores worker.old }
+        ensures worker { IsWorkerOf C.sits C.idle self.now.table self.now.cores worker.new }
+        ensures answer { MatchOption result (worker.old.seat ≡ None) (HasWoken id) }
+        ensures seat { IsSome worker.old.seat → IsSome worker.new.seat }
+        ensures kept { worker.new ≡ record worker.old { seat = worker.new.seat } }
+    {
+        let mut seat = worker.seat.take()?;
+        let woken = self.wake_by::<H, J>(rt, &mut seat, id);
+        worker.seat = Some(seat);
+        Some(woken)
+    }
+
+    /// Wakes the job of this id, by this seat, and signals the worker of the core on which the job is now. If the job
+    /// is moved meanwhile, the arbiter signals its new core's worker.
+    fn wake_by<H: Wait, J: PoolJob>(&self, rt: &H, seat: &mut C::Seat, id: ThreadId) -> Woken
+    where
+        C: Contexts<Spawned<J>>,
+        requires { IsIdleAt C.sits C.idle self.now.table seat.old }
+        ensures seat { IsIdleAt C.sits C.idle self.now.table seat.new }
+        ensures answer { HasWoken id result }
+    {
+        for _ in rt.forever() {
+            match self.table.wake(rt, seat, id) {
+                Woken::Woken => {
+                    if id.context < u32::from(self.cores) * u32::from(self.slots) {
+                        let word = self.table.look_mark(rt, seat, id.context);
+                        if let Some(mark) = MarkWord::from_word(word) {
+                            self.shared.hint(mark.place());
+                        }
+                    }
+                    return Woken::Woken;
+                }
+                Woken::Already(word) => return Woken::Already(word),
+                Woken::Gone => return Woken::Gone,
+                // Another kernel thread was faster.
+                Woken::Lost(_) => {}
+            }
+        }
+        unreachable!()
     }
 
     /// Begins a call of a worker on a core, with all that the worker has. Returns `None` if the worker has no seat.
@@ -203,4 +270,82 @@ impl<C: Seats> Pool<C> {
         };
         worker.seat.is_some()
     }
+}
+
+/// A worker's desk (its access to the table and to the job in hand), as the rounds use it in addition to the worker's
+/// loop. No call changes the pool to which the worker's seat belongs.
+///
+/// The trait has no associated types, so that the functions over it are proved in a fraction of the time.
+pub(crate) trait PoolDesk: Desk {
+    /// Returns whether memory was refused since the last call.
+    fn take_short(&mut self) -> bool
+        ensures { self.new ≡ self.old };
+
+    /// Returns whether the core was seen closed and empty since the last call.
+    fn take_drained(&mut self) -> bool
+        ensures { self.new ≡ self.old };
+}
+
+/// Makes one round, and a second one if the first only moved a job to this core. Returns whether the last round found
+/// anything to do.
+pub(crate) fn run_once<H: Wait + Clock, D: PoolDesk>(
+    kernel: &mut CoreWorker<'_, H, D>,
+) -> Result<bool, PoolFault>
+    ensures { kernel.new.desk ≡ kernel.old.desk }
+{
+    kernel.tend();
+    let mut found = kernel.round(0);
+    // The job that was moved to this core or got a place has had no slice yet.
+    if kernel.slices == 0
+        && let Ok(true) = found
+        && let Err(halt) = kernel.round(0)
+    {
+        found = Err(halt);
+    }
+    Ok(found?)
+}
+
+/// Makes rounds until the pool has finished or its workers are stopped.
+pub(crate) fn run<H: Wait + Clock, C: Seats, D: PoolDesk>(
+    kernel: &mut CoreWorker<'_, H, D>,
+    pool: &Pool<C>,
+) -> Result<(), PoolFault>
+    ensures { kernel.new.desk ≡ kernel.old.desk }
+{
+    // The number of consecutive rounds that have found nothing.
+    let mut idle: u32 = 0;
+    let mut may_be_over = true;
+    for _ in kernel.rt.forever() {
+        if kernel.shared.is_stopped() || may_be_over && pool.is_over() {
+            if idle > 0 && kernel.shared.hints().is_asleep(kernel.core) {
+                // The worker's sleep timed out: nobody has woken the worker at the end.
+                kernel.desk.told(WorkerEvent::Overslept);
+            }
+            return Ok(());
+        }
+        let found = round(kernel, idle)?;
+        idle = if found { 0 } else { idle.saturating_add(1) };
+        // A round that parked has found something, and the worker may have been unparked because all jobs have ended.
+        let was_drained = kernel.desk.take_drained();
+        may_be_over = !found || was_drained;
+    }
+    unreachable!()
+}
+
+/// Makes one round, and waits if it found nothing to do. Returns whether it found something. `idle` is the number of
+/// consecutive rounds before this one that found nothing.
+fn round<H: Wait + Clock, D: PoolDesk>(
+    kernel: &mut CoreWorker<'_, H, D>,
+    idle: u32,
+) -> Result<bool, PoolFault>
+    ensures { kernel.new.desk ≡ kernel.old.desk }
+{
+    let found = kernel.round(idle)?;
+    if kernel.desk.take_short() {
+        return Err(PoolFault::Memory);
+    }
+    if !found {
+        kernel.rest_for(idle);
+    }
+    Ok(found)
 }

@@ -1,7 +1,6 @@
 //! Replaces a pool's orders, and closes the pool, which returns the jobs that are left.
 ghost use Rattle.std.specs.Prelude.{◌≡◌, ◌+◌, ◌<◌, ◌≤◌, ◌↔◌, IfErr, IfOk, IfSome, IsSome, IsTrue, MatchOption, OnErr, OnOk};
 ghost use Rattle.arachne_policy.specs.Orders.{AreInOrder};
-ghost use Rattle.arachne_policy.specs.declared.orders.OrderKind.TheVariants.{Release};
 ghost use Rattle.arachne_pool.specs.Jobs.{count_near};
 ghost use Rattle.arachne_pool.specs.Leftover.{IsWhole, count_placed};
 
@@ -79,7 +78,12 @@ impl<C: Seats> Pool<C> {
         let mut orders = orders;
         for core in 1..self.cores {
             if self.is_closed::<H, J>(rt, core) {
-                orders.insert(0, closes_at_once(core))?;
+                let closes = CoreOrder {
+                    after: 0,
+                    kind: OrderKind::Release,
+                    core: u64::from(core),
+                };
+                orders.insert(0, closes)?;
             }
         }
         let orders = PoolOrders::new(worker.bench.alloc, orders, self.cores)?;
@@ -143,17 +147,6 @@ impl<C: Seats> Pool<C> {
             Some(seat) => self.table.is_whole(seat),
             None => false,
         }
-    }
-}
-
-/// Returns the order that closes a core, due at once.
-fn closes_at_once(core: u8) -> CoreOrder
-    ensures { result ≡ record { after = 0; kind = Release; core = core } }
-{
-    CoreOrder {
-        after: 0,
-        kind: OrderKind::Release,
-        core: u64::from(core),
     }
 }
 

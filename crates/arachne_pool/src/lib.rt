@@ -13,14 +13,12 @@ mod links;
 mod orders;
 mod place;
 mod pool;
-mod rounds;
 mod running;
 mod seat;
 mod spawned;
 mod spawning;
 mod stack;
 mod tally;
-mod waking;
 mod worker;
 
 pub use arachne_contexts::Tagged;

@@ -36,7 +36,7 @@ pub struct Pool<C: Seats> {
     /// 1 while the pool is kept open.
     open: AtomicU64,
     /// The number of sleeps that timed out although there was something to do.
-    overslept: AtomicU64,
+    pub(crate) overslept: AtomicU64,
     ghost counted: { C.core_count table ≡ cores },
     ghost few: { cores ≤ CORES },
     ghost placed: { C.slot_count table ≡ slots },
@@ -108,11 +108,6 @@ impl<C: Seats> Pool<C> {
     /// that becomes free is not signalled. Many of them show that a signal is missing.
     pub fn overslept(&self) -> u64 {
         self.overslept.load(Ordering::SeqCst)
-    }
-
-    /// Counts such a sleep.
-    pub(crate) fn count_overslept(&self) {
-        self.overslept.fetch_add(1, Ordering::SeqCst);
     }
 
     /// Stops all workers after their current slices, also the workers that sleep or are parked.

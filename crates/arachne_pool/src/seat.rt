@@ -4,10 +4,10 @@ ghost use Rattle.arachne_pool.specs.Grounds.{in_hand};
 ghost use Rattle.arachne_pool.specs.Stops.{rests_as};
 ghost use Rattle.arachne_pool.specs.Workers.{IsIdleAt};
 
+use crate::calls::PoolDesk;
 use crate::job::PoolJob;
 use crate::place::{end, place_oldest, post_oldest};
 use crate::pool::Pool;
-use crate::rounds::PoolDesk;
 use crate::spawned::{Ended, Spawned};
 use crate::stack::JobStop;
 use crate::worker::{Bench, disowned};
@@ -280,22 +280,12 @@ impl<'a, H: Wait, J: PoolJob, C: Contexts<Spawned<J>>> Desk for Seat<'a, H, J, C
     #[inline(always)]
     fn told(&self, event: WorkerEvent) {
         if matches!(event, WorkerEvent::Overslept) {
-            self.pool.count_overslept();
+            self.pool.overslept.fetch_add(1, Ordering::SeqCst);
         }
     }
 }
 
 impl<'a, H: Wait, J: PoolJob, C: Contexts<Spawned<J>>> PoolDesk for Seat<'a, H, J, C> {
-    fn is_over(&self) -> bool {
-        self.pool.is_over()
-    }
-
-    fn wake_if_over(&mut self) {
-        if replace(&mut self.bench.has_ended, false) {
-            self.pool.wake_if_over();
-        }
-    }
-
     fn take_short(&mut self) -> bool {
         replace(&mut self.bench.is_short, false)
     }
@@ -317,8 +307,8 @@ impl<'a, H: Wait, J: PoolJob, C: Contexts<Spawned<J>>> Seat<'a, H, J, C> {
         };
         let bench = &mut self.bench;
         let may_post = self.pool.has_room();
-        held.value
-            .slice(&mut bench.cells, &mut bench.tally, left, may_post)
+        let stack = &mut held.value.stack;
+        stack.slice(&mut bench.cells, &mut bench.tally, left, may_post)
     }
 
     /// Counts the jobs that began and ended until the job in hand ended. Returns the parent of that job, if the parent

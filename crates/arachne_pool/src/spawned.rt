@@ -1,11 +1,9 @@
 //! A job in a pool, with the jobs that run in its place, and the sending end of the cell for its result.
-ghost use Rattle.std.specs.Prelude.{◌≡◌, ◌+◌, ◌<◌, ◌≤◌, [], IfSome, IsSome, MatchOption, Some, None, length, true};
-ghost use Rattle.arachne_pool.specs.Frames.{CountsEach};
+ghost use Rattle.std.specs.Prelude.{◌≡◌, ◌+◌, ◌<◌, [], IfSome, IsSome, MatchOption, Some, None, length, true};
 
-use crate::tally::Tally;
 use crate::handle::{Cells, ResultSender, leave_at};
 use crate::job::PoolJob;
-use crate::stack::{JobStop, Jobs, Stack};
+use crate::stack::{Jobs, Stack};
 use arachne_contexts::Tagged;
 use arachne_core::ThreadId;
 use std::alloc::Global;
@@ -76,21 +74,6 @@ impl<J: PoolJob> Spawned<J> {
         self.stack.taken_from(count)
     }
 
-    /// Runs the job as `Stack::slice` does.
-    pub(crate) fn slice(
-        &mut self,
-        cells: &mut Cells<J>,
-        tally: &mut Tally,
-        left: &mut u32,
-        may_post: bool,
-    ) -> JobStop
-        ensures same { self.new ≡ record self.old { many = self.new.many; jobs = self.new.jobs } }
-        ensures left { left.new ≤ left.old }
-        ensures counts { CountsEach tally.old tally.new self.old.many self.new.many }
-    {
-        self.stack.slice(cells, tally, left, may_post)
-    }
-
     /// Releases one child as `Stack::let_go` does. If the child had not begun, returns it as a job of its own, whose
     /// result is dropped.
     pub(crate) fn let_go(&mut self, alloc: Global, has_room: bool) -> Option<Spawned<J>>
@@ -114,7 +97,7 @@ impl<J: PoolJob> Spawned<J> {
         ensures many { MatchOption result (self.new ≡ self.old) (λ child. self.new.many + child.many ≡ self.old.many) }
         ensures child { IfSome result (λ child. child ≡ one child.tag child.asked (Some me)) }
     {
-        let (job, sender) = self.stack.part_oldest(alloc, cells)?;
+        let (job, sender) = self.stack.links.part_oldest(alloc, cells)?;
         Some(Spawned::begin(alloc, job, Some(sender), Some(me)))
     }
 

@@ -5,7 +5,7 @@ ghost use Rattle.arachne_pool.specs.Jobs.{children_of};
 ghost use Rattle.arachne_pool.specs.Stops.{blocks_after};
 
 use crate::tally::Tally;
-use crate::handle::{Cells, ResultSender};
+use crate::handle::Cells;
 use crate::job::{PoolJob, Step};
 use crate::links::Links;
 use arachne_core::ThreadId;
@@ -358,20 +358,6 @@ impl<J: PoolJob> Stack<J> {
         }
         self.top.awaited = self.top.awaited.checked_sub(1)?;
         self.links.forget_newest()
-    }
-
-    /// Takes the oldest child that waits in this place, to begin elsewhere, with the sending end of the cell for the
-    /// child's result. Returns `None` if no child waits or memory is refused.
-    pub(crate) fn part_oldest(
-        &mut self,
-        alloc: Global,
-        cells: &mut Cells<J>,
-    ) -> Option<(J, ResultSender<J>)>
-        ensures asked { self.new.asked ≡ self.old.asked }
-        ensures many { MatchOption result (self.new ≡ self.old) (λ parted. self.new.many + 1 ≡ self.old.many) }
-        ensures child { IfSome result (λ parted. (parted.1.key.job.value ≡ parted.0) × J.awaits parted.0 []) }
-    {
-        self.links.part_oldest(alloc, cells)
     }
 
     /// Returns the result of the first job, if it has ended. The first job has ended if no job is left in this place.

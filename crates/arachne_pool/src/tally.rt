@@ -40,17 +40,6 @@ impl Tally {
     {
         self.ended = self.ended.saturating_add(1);
     }
-
-    /// Returns the sum of two workers' counts.
-    pub(crate) fn with(self, other: Tally) -> Tally
-        ensures spawned { self.spawned + other.spawned ≤ u64.MAX → result.spawned ≡ self.spawned + other.spawned }
-        ensures ended { self.ended + other.ended ≤ u64.MAX → result.ended ≡ self.ended + other.ended }
-    {
-        Tally {
-            spawned: self.spawned.saturating_add(other.spawned),
-            ended: self.ended.saturating_add(other.ended),
-        }
-    }
 }
 
 /// The counts that the workers of one core have reported.

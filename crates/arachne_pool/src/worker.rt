@@ -281,7 +281,11 @@ impl<C: Seats> Pool<C> {
             return Err((worker, other));
         }
         // Both workers have reported their counts to the pool.
-        worker.bench.tally = worker.bench.tally.with(other.bench.tally);
+        let (own, theirs) = (worker.bench.tally, other.bench.tally);
+        worker.bench.tally = Tally {
+            spawned: own.spawned.saturating_add(theirs.spawned),
+            ended: own.ended.saturating_add(theirs.ended),
+        };
         worker.bench.told = worker.bench.tally;
         worker.bench.orders = worker.bench.orders.take().or(other.bench.orders.take());
         worker.seat = self.join_seats(rt, worker.seat.take(), other.seat.take());
