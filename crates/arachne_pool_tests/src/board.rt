@@ -17,6 +17,8 @@ pub(crate) struct Board {
     pub(crate) alloc: Global,
     /// The number of jobs that have made a step.
     pub(crate) begun: AtomicU64,
+    /// The number of steps that jobs have made.
+    pub(crate) steps: AtomicU64,
     /// The number of times that a job was about to sleep.
     pub(crate) sleeps: AtomicU64,
     /// The number of times that a kernel thread has returned from its work.
@@ -34,6 +36,7 @@ impl Board {
         let board = Board {
             alloc,
             begun: AtomicU64::new(0),
+            steps: AtomicU64::new(0),
             sleeps: AtomicU64::new(0),
             returns: AtomicU64::new(0),
             turns: AtomicU64::new(0),
@@ -44,9 +47,12 @@ impl Board {
         Arc::new(alloc, board).ok()
     }
 
-    /// Counts a job that makes its first step.
-    pub(crate) fn begins(&self) {
-        self.begun.fetch_add(1, Ordering::SeqCst);
+    /// Counts a step of a job, and the job if the step is its first.
+    pub(crate) fn counts_step(&self, is_first: bool) {
+        self.steps.fetch_add(1, Ordering::SeqCst);
+        if is_first {
+            self.begun.fetch_add(1, Ordering::SeqCst);
+        }
     }
 
     /// Notes the id of a job that is about to sleep. Then a moment passes, in which the job may be woken.

@@ -58,13 +58,13 @@ impl<'p, C: Contexts<Spawned<Task>>> Team<Share<C::Seat>> for Crew<'p, C> {
         number: u8,
         share: Share<C::Seat>,
     ) -> Option<Share<C::Seat>> {
-        let Share { worker, .. } = share;
+        let Share { mut worker, .. } = share;
         let spell = if number == 0 {
             self.spells.0
         } else {
             self.spells.1
         };
-        let worker = work::<C, R>(rt, self.pool, self.board, worker, number, spell)?;
+        work::<C, R>(rt, self.pool, self.board, &mut worker, number, spell);
         let busy = usize::from(worker.tally().ended > 0);
         Some(Share { worker, busy })
     }

@@ -2,8 +2,8 @@
 use crate::board::Board;
 use crate::crew::{Crew, Share};
 use crate::orders::{GRANT, Order, RELEASE};
-use crate::rounds::{Act, Comes, Is, On, Row, begin, end};
-use crate::spells::{Spell, Until};
+use crate::rounds::{Act, Is, Row, begin, end};
+use crate::spells::Spell;
 use crate::tasks::{Joins, LEAF, PARENT, Sort, Task};
 use arachne_pool::Spawned;
 use arachne_team::work_together;
@@ -109,10 +109,9 @@ const ROWS: &[Row] = &[
             Act::Works(0),
             Act::Works(1),
             Act::Lives(5),
-            Act::Joins(LEAF, None),
         ],
-        left: (2, 3),
-        alive: 6,
+        left: (2, 2),
+        alive: 5,
         ..NOTHING
     },
     Row {
@@ -202,51 +201,32 @@ const ROWS: &[Row] = &[
         cores: 1,
         slots: 1,
         acts: &[
-            Act::Joins(
-                Sort {
-                    depth: 3,
-                    forks: 3,
-                    ..LEAF
-                },
-                Some(40),
-            ),
-            Act::Joins(
-                Sort {
-                    depth: 3,
-                    forks: 3,
-                    joins: Joins::InTurn,
-                    ..LEAF
-                },
-                Some(40),
-            ),
+            Act::Works(0),
+            Act::Spawns(TREE),
+            Act::Spawns(Sort {
+                joins: Joins::InTurn,
+                ..TREE
+            }),
+            Act::Works(0),
+            Act::Counts(242),
             Act::Lives(0),
         ],
         ..NOTHING
     },
     Row {
-        shows: "a job that joins one of two children gets the result of that one alone",
+        shows: "a job that joins one of two children ends, and the other one goes on",
         cores: 1,
         slots: 3,
         acts: &[
-            Act::Joins(
-                Sort {
-                    forks: 2,
-                    joins: Joins::Newest,
-                    ..PARENT
-                },
-                Some(2),
-            ),
+            Act::Spawns(Sort {
+                forks: 2,
+                joins: Joins::Newest,
+                ..PARENT
+            }),
             Act::Works(0),
             Act::Lives(0),
             Act::Counts(3),
         ],
-        ..NOTHING
-    },
-    Row {
-        shows: "in a pool that is stopped a join gives the result of a job that has ended",
-        cores: 1,
-        slots: 1,
-        acts: &[Act::JoinsLate(LEAF, 1)],
         ..NOTHING
     },
     Row {
@@ -276,29 +256,25 @@ const ROWS: &[Row] = &[
         cores: 2,
         slots: 1,
         acts: &[
-            Act::Tries(
-                On::Core(0),
-                Sort {
-                    joins: Joins::Never,
-                    forks: 2,
-                    steps: 1,
-                    is_first_exclusive: true,
-                    ..PARENT
-                },
-                Comes::Begins,
-            ),
-            Act::Tries(On::Core(1), LEAF, Comes::Begins),
-            Act::Turns(0, true),
-            Act::Turns(0, true),
-            Act::Turns(0, true),
-            Act::Turns(0, true),
+            Act::Spawns(ALONE),
+            Act::Spawns(Sort {
+                joins: Joins::Never,
+                forks: 2,
+                steps: 1,
+                is_first_exclusive: true,
+                ..PARENT
+            }),
+            Act::Turns(1, true),
+            Act::Turns(1, true),
+            Act::Turns(1, true),
+            Act::Turns(1, true),
             Act::Lives(4),
-            Act::Turns(1, true),
-            Act::Has(1, 0, Is::Open),
             Act::Turns(0, true),
-            Act::Has(1, 1, Is::Alone),
+            Act::Has(0, 0, Is::Open),
             Act::Turns(1, true),
-            Act::Turns(1, true),
+            Act::Has(0, 1, Is::Alone),
+            Act::Turns(0, true),
+            Act::Turns(0, true),
             Act::Lives(2),
             Act::Works(0),
             Act::Lives(0),
@@ -394,10 +370,12 @@ const ROWS: &[Row] = &[
         slots: 2,
         orders: &[(0, RELEASE, 1), (0, RELEASE, 2)],
         acts: &[
-            Act::Tries(On::Core(0), LEAF, Comes::Begins),
-            Act::Tries(On::Core(2), LEAF, Comes::Begins),
             Act::Spawns(ALONE),
+            Act::Spawns(ALONE),
+            Act::Spawns(LEAF),
             Act::Has(1, 1, Is::Alone),
+            Act::Has(2, 1, Is::Open),
+            Act::Turns(0, true),
             Act::Turns(0, true),
             Act::Has(2, 0, Is::Closed),
             Act::Lives(1),
@@ -581,21 +559,8 @@ const ROWS: &[Row] = &[
             Act::Has(1, 0, Is::Closed),
             Act::Spawns(LONG),
         ],
-        spells: (Spell::TurnsOut, Spell::ToTheEnd),
+        spells: (Spell::Rounds(u32::MAX), Spell::ToTheEnd),
         then: &[Act::Lives(0)],
-        ..NOTHING
-    },
-    Row {
-        shows: "the last end wakes a kernel thread that is parked, where it comes in a join",
-        cores: 2,
-        slots: 1,
-        orders: &[(0, RELEASE, 1)],
-        acts: &[Act::Turns(0, false), Act::Has(1, 0, Is::Closed)],
-        spells: (
-            Spell::JoinsThere(1, LONG, Until::WorkReturns),
-            Spell::ToTheStop,
-        ),
-        then: &[Act::Answered(1), Act::Lives(0)],
         ..NOTHING
     },
     Row {
@@ -604,25 +569,17 @@ const ROWS: &[Row] = &[
         slots: 1,
         orders: &[(5, RELEASE, 1)],
         acts: &[
-            Act::Tries(
-                On::Core(0),
-                Sort {
-                    steps: 3_000_000,
-                    bound: 1_000,
-                    ..LEAF
-                },
-                Comes::Begins,
-            ),
-            Act::Tries(
-                On::Core(1),
-                Sort {
-                    forks: 2,
-                    steps: 1_000,
-                    joins: Joins::Never,
-                    ..PARENT
-                },
-                Comes::Begins,
-            ),
+            Act::Spawns(Sort {
+                steps: 3_000_000,
+                bound: 1_000,
+                ..ALONE
+            }),
+            Act::Spawns(Sort {
+                forks: 2,
+                steps: 1_000,
+                joins: Joins::Never,
+                ..PARENT
+            }),
         ],
         spells: TO_THE_END,
         then: &[Act::Lives(0), Act::Counts(4)],
@@ -687,17 +644,6 @@ const ROWS: &[Row] = &[
         slots: 1,
         acts: &[Act::Spawns(ALONE_PARENT), Act::Spawns(ENDLESS)],
         spells: (Spell::InNeed, Spell::ToTheEnd),
-        then: &[Act::Answered(0), Act::Lives(3)],
-        left: (2, 0),
-        alive: 3,
-        ..NOTHING
-    },
-    Row {
-        shows: "a kernel thread that works returns once the other one is refused memory for a fork in a join",
-        cores: 2,
-        slots: 1,
-        acts: &[Act::Tries(On::Core(1), ENDLESS, Comes::Begins)],
-        spells: (Spell::JoinsInNeed, Spell::ToTheEnd),
         then: &[Act::Answered(0), Act::Lives(3)],
         left: (2, 0),
         alive: 3,

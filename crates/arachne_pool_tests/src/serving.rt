@@ -1,11 +1,12 @@
 //! Rows of what a server wants of a pool: sleeps and wakes, refusals, statistics, and kernel threads that are woken at
 //! once.
 use crate::orders::{GRANT, RELEASE};
-use crate::rounds::{Act, Comes, Is, On, Row, Wakes};
+use crate::rounds::{Act, Is, Row, Wakes};
 use crate::rows::{ALONE, ALONE_PARENT, ELEVEN, NOTHING, TO_THE_END, holds};
-use crate::spells::{Spell, Until};
+use crate::spells::Spell;
 use crate::tasks::{Joins, LEAF, PARENT, Sort};
 use arachne_core::CORES;
+use arachne_pool::Refusal;
 use std::test::Fail;
 
 /// A job that sleeps until an answer was counted.
@@ -143,10 +144,10 @@ const ROWS: &[Row] = &[
             Act::Spawns(BESIDE),
             Act::Spawns(Sort { bound: 4, ..BESIDE }),
             Act::Turns(0, true),
-            Act::Did(0, 3, 4, 0, 0),
+            Act::Stepped(4),
             Act::Turns(0, true),
             Act::Turns(0, true),
-            Act::Did(0, 7, 8, 0, 0),
+            Act::Stepped(8),
             Act::Has(0, 3, Is::Open),
             Act::Lives(5),
             Act::Answers,
@@ -156,7 +157,7 @@ const ROWS: &[Row] = &[
             Act::Lives(4),
             Act::Turns(0, true),
             Act::Turns(0, true),
-            Act::Did(0, 14, 15, 1, 0),
+            Act::Stepped(15),
         ],
         left: (3, 0),
         alive: 4,
@@ -190,40 +191,29 @@ const ROWS: &[Row] = &[
         orders: &[(0, RELEASE, 2)],
         acts: &[
             Act::Turns(0, false),
-            Act::Tries(On::Any, ALONE, Comes::Begins),
-            Act::Tries(On::Any, LEAF, Comes::Begins),
+            Act::Tries(ALONE, None),
+            Act::Tries(LEAF, None),
             Act::Has(1, 1, Is::Open),
-            Act::Tries(On::Any, LEAF, Comes::NoPlace(2, 1)),
-            Act::Tries(On::Any, ALONE, Comes::NoPlace(2, 1)),
-            Act::Tries(On::Core(0), LEAF, Comes::NoPlace(1, 0)),
-            Act::Tries(On::Core(1), LEAF, Comes::NoPlace(1, 0)),
-            Act::Tries(On::Core(2), LEAF, Comes::NoPlace(0, 1)),
+            Act::Tries(LEAF, Some(Refusal::NoPlace)),
+            Act::Tries(ALONE, Some(Refusal::NoPlace)),
             Act::Lives(2),
             Act::Counts(2),
             Act::Turns(1, true),
-            Act::Tries(On::Core(1), LEAF, Comes::Begins),
-            Act::Has(1, 1, Is::Open),
-            Act::Turns(1, true),
-            Act::Tries(On::Any, LEAF, Comes::Begins),
+            Act::Tries(LEAF, None),
             Act::Has(1, 1, Is::Open),
             Act::Turns(0, true),
             Act::Turns(1, true),
             Act::Lives(0),
-            Act::Counts(4),
+            Act::Counts(3),
         ],
         ..NOTHING
     },
     Row {
-        shows: "jobs that name no core come to each of two, and a job's place is told",
+        shows: "jobs come to each of two cores",
         cores: 2,
         slots: 8,
         acts: &[
-            Act::Tries(On::At(0, 0), LEAF, Comes::Begins),
-            Act::Tries(On::At(0, 1), LEAF, Comes::Begins),
-            Act::Tries(On::At(1, 0), LEAF, Comes::Begins),
-            Act::Tries(On::Any, LEAF, Comes::Begins),
-            Act::Tries(On::Any, LEAF, Comes::Begins),
-            Act::Tries(On::Any, LEAF, Comes::Begins),
+            Act::SpawnsMany(6, LEAF),
             Act::Has(0, 3, Is::Open),
             Act::Has(1, 3, Is::Open),
         ],
@@ -240,31 +230,6 @@ const ROWS: &[Row] = &[
         then: &[Act::Lives(2), Act::Counts(2), Act::Spawns(LEAF)],
         left: (2, 1),
         alive: 3,
-        ..NOTHING
-    },
-    Row {
-        shows: "each core's slices, steps, wakes by ends and rests are told",
-        cores: 2,
-        slots: 1,
-        acts: &[
-            Act::Tries(On::Core(1), Sort { bound: 4, ..ELEVEN }, Comes::Begins),
-            Act::Turns(1, true),
-            Act::Did(1, 1, 4, 0, 0),
-            Act::Turns(1, true),
-            Act::Turns(1, true),
-            Act::Turns(1, false),
-            Act::Did(1, 3, 11, 0, 0),
-            Act::Did(0, 0, 0, 0, 0),
-            Act::Spawns(ALONE_PARENT),
-            Act::Turns(0, true),
-            Act::Turns(0, true),
-            Act::Turns(0, true),
-            Act::Turns(1, true),
-            Act::Did(1, 4, 12, 1, 0),
-            Act::Works(0),
-            Act::Lives(0),
-            Act::Did(0, 4, 3, 0, 1),
-        ],
         ..NOTHING
     },
     Row {
@@ -290,12 +255,11 @@ const ROWS: &[Row] = &[
         slots: 3,
         acts: &[
             Act::Hoards,
-            Act::Tries(On::Any, LEAF, Comes::NoMemory),
-            Act::Tries(On::Core(0), LEAF, Comes::NoMemory),
+            Act::Tries(LEAF, Some(Refusal::Memory)),
             Act::Has(0, 0, Is::Open),
             Act::Lives(0),
             Act::Frees,
-            Act::Tries(On::Any, SLEEPER, Comes::Begins),
+            Act::Tries(SLEEPER, None),
             Act::Hoards,
             Act::Turns(0, true),
             Act::Answers,
@@ -308,49 +272,15 @@ const ROWS: &[Row] = &[
         ..NOTHING
     },
     Row {
-        shows: "a wake counts at the core on which the job is, and one by which nothing is done counts nowhere",
-        cores: 2,
-        slots: 1,
-        acts: &[
-            Act::Tries(On::Core(1), SLEEPER, Comes::Begins),
-            Act::Wakes(1, 0, Wakes::Awake),
-            Act::Turns(1, true),
-            Act::Did(1, 1, 1, 0, 0),
-            Act::Answers,
-            Act::Wakes(1, 0, Wakes::It),
-            Act::Did(1, 1, 1, 1, 0),
-            Act::Wakes(1, 0, Wakes::Awake),
-            Act::Turns(1, true),
-            Act::Wakes(1, 0, Wakes::Nobody),
-            Act::Did(1, 2, 2, 1, 0),
-            Act::Did(0, 0, 0, 0, 0),
-        ],
-        ..NOTHING
-    },
-    Row {
-        shows: "each of many slices is told",
-        cores: 1,
-        slots: 1,
-        acts: &[
-            Act::Spawns(Sort {
-                steps: 4_999,
-                ..LEAF
-            }),
-            Act::Works(0),
-            Act::Did(0, 5_000, 5_000, 0, 1),
-        ],
-        ..NOTHING
-    },
-    Row {
         shows: "an exclusive job gets a core alone, by whichever call it is spawned",
         cores: 3,
         slots: 2,
         acts: &[
-            Act::Tries(On::Any, ALONE, Comes::Begins),
+            Act::Tries(ALONE, None),
             Act::Has(0, 1, Is::Alone),
-            Act::Tries(On::Any, ALONE, Comes::Begins),
+            Act::Spawns(ALONE),
             Act::Has(1, 1, Is::Alone),
-            Act::Tries(On::AnyKept, ALONE, Comes::Begins),
+            Act::Tries(ALONE, None),
             Act::Has(2, 1, Is::Alone),
         ],
         left: (3, 0),
@@ -361,30 +291,30 @@ const ROWS: &[Row] = &[
         shows: "a job that sleeps on a core whose kernel thread does is woken at once, each time",
         cores: 2,
         slots: 1,
-        acts: &[Act::Tries(
-            On::Core(1),
-            Sort {
+        acts: &[
+            Act::Spawns(ALONE),
+            Act::Spawns(Sort {
                 answers: OFTEN as u64,
                 ..LEAF
-            },
-            Comes::Begins,
-        )],
+            }),
+            Act::Turns(0, true),
+        ],
         spells: (Spell::Wakes(OFTEN, true), Spell::ToTheEnd),
-        then: &[Act::Lives(0), Act::Overslept(FEW)],
+        then: &[Act::Lives(0), Act::Overslept(0, FEW)],
         ..NOTHING
     },
     Row {
         shows: "a wake that comes before the rest is not lost",
         cores: 2,
         slots: 1,
-        acts: &[Act::Tries(
-            On::Core(1),
-            Sort {
+        acts: &[
+            Act::Spawns(ALONE),
+            Act::Spawns(Sort {
                 answers: 2 * OFTEN as u64,
                 ..LEAF
-            },
-            Comes::Begins,
-        )],
+            }),
+            Act::Turns(0, true),
+        ],
         spells: (Spell::Wakes(2 * OFTEN, false), Spell::ToTheEnd),
         then: &[Act::Lives(0)],
         ..NOTHING
@@ -398,7 +328,7 @@ const ROWS: &[Row] = &[
         then: &[
             Act::Lives(0),
             Act::Counts(3 * OFTEN as u64 + 1),
-            Act::Overslept(FEW),
+            Act::Overslept(0, FEW),
         ],
         ..NOTHING
     },
@@ -407,7 +337,7 @@ const ROWS: &[Row] = &[
         cores: 2,
         slots: 1,
         spells: (Spell::Finishes(OFTEN), Spell::ToTheStop),
-        then: &[Act::Overslept(FEW)],
+        then: &[Act::Overslept(0, FEW)],
         ..NOTHING
     },
     Row {
@@ -426,7 +356,7 @@ const ROWS: &[Row] = &[
         then: &[
             Act::Lives(0),
             Act::Counts(OFTEN as u64 + 1),
-            Act::Overslept(FEW),
+            Act::Overslept(0, FEW),
         ],
         ..NOTHING
     },
@@ -440,7 +370,7 @@ const ROWS: &[Row] = &[
         then: &[
             Act::Lives(0),
             Act::Counts(10 * OFTEN as u64),
-            Act::Overslept(FEW / 5),
+            Act::Overslept(0, FEW / 5),
         ],
         ..NOTHING
     },
@@ -448,10 +378,7 @@ const ROWS: &[Row] = &[
         shows: "once no job lives each result is there",
         cores: 2,
         slots: 2,
-        spells: (
-            Spell::Polls(5 * OFTEN, LADEN, Until::NoneLives),
-            Spell::ToTheStop,
-        ),
+        spells: (Spell::Polls(5 * OFTEN, LADEN, false), Spell::ToTheStop),
         then: &[Act::Answered(5 * OFTEN as u64)],
         ..NOTHING
     },
@@ -459,17 +386,8 @@ const ROWS: &[Row] = &[
         shows: "a round takes over a job to which the kernel thread that works for another core has not come",
         cores: 2,
         slots: 2,
-        acts: &[Act::Tries(On::Core(1), HELD, Comes::Begins)],
-        spells: (Spell::Fetches(0), Spell::ToTheEnd),
-        then: &[Act::Answered(1), Act::Lives(0)],
-        ..NOTHING
-    },
-    Row {
-        shows: "a round takes over a job of a core before its own",
-        cores: 3,
-        slots: 2,
-        acts: &[Act::Tries(On::Core(1), HELD, Comes::Begins)],
-        spells: (Spell::Fetches(2), Spell::ToTheEnd),
+        acts: &[Act::Spawns(ALONE), Act::Spawns(HELD)],
+        spells: (Spell::Fetches, Spell::ToTheEnd),
         then: &[Act::Answered(1), Act::Lives(0)],
         ..NOTHING
     },
@@ -479,13 +397,16 @@ const ROWS: &[Row] = &[
         slots: 1,
         acts: &[
             Act::Works(63),
-            Act::Tries(On::Core(63), ELEVEN, Comes::Begins),
+            Act::SpawnsMany(63, ALONE),
+            Act::Spawns(ELEVEN),
+            Act::Has(63, 1, Is::Open),
             Act::Turns(63, true),
             Act::Turns(0, true),
+            Act::Turns(0, true),
             Act::Has(63, 0, Is::Open),
-            Act::Works(0),
-            Act::Lives(0),
         ],
+        left: (63, 0),
+        alive: 63,
         ..NOTHING
     },
     Row {
@@ -494,37 +415,31 @@ const ROWS: &[Row] = &[
         slots: 1,
         acts: &[
             Act::Turns(0, false),
-            Act::Tries(On::Core(0), SLEEPER, Comes::Begins),
+            Act::Spawns(Sort {
+                is_exclusive: true,
+                ..SLEEPER
+            }),
             Act::Turns(0, true),
-            Act::Tries(On::Core(1), LONGEST, Comes::Begins),
+            Act::Spawns(LONGEST),
             Act::Spawns(LEAF),
         ],
         spells: (Spell::ToTheEnd, Spell::WakesLast),
-        then: &[Act::OversleptAtLeast(1), Act::Lives(0)],
-        ..NOTHING
-    },
-    Row {
-        shows: "a join on a core that is closed and empty returns, with the result of a job of another core",
-        cores: 2,
-        slots: 2,
-        orders: &[(0, RELEASE, 1)],
-        acts: &[Act::Turns(0, false), Act::KeepsOpen],
-        spells: (
-            Spell::ToTheEnd,
-            Spell::JoinsThere(3, LONG, Until::NoneLives),
-        ),
-        then: &[Act::Answered(3), Act::Lives(0)],
+        then: &[Act::Overslept(1, u64::MAX), Act::Lives(0)],
         ..NOTHING
     },
     Row {
         shows: "a round takes over no job of a core for which no kernel thread works",
         cores: 2,
         slots: 1,
+        orders: &[(0, RELEASE, 1)],
         acts: &[
             Act::Turns(0, false),
-            Act::Tries(On::Core(0), ELEVEN, Comes::Begins),
+            Act::Spawns(ELEVEN),
+            Act::Orders(&[(0, GRANT, 1)]),
+            Act::Turns(0, true),
             Act::Turns(1, false),
             Act::Has(0, 1, Is::Open),
+            Act::Has(1, 0, Is::Open),
             Act::Works(0),
         ],
         then: &[Act::Lives(0)],
@@ -534,11 +449,8 @@ const ROWS: &[Row] = &[
         shows: "the last end wakes a kernel thread that sleeps, and once it returns from its work each result is there",
         cores: 2,
         slots: 2,
-        spells: (
-            Spell::Polls(OFTEN, LONG, Until::WorkReturns),
-            Spell::ToTheStop,
-        ),
-        then: &[Act::Answered(OFTEN as u64), Act::Overslept(FEW)],
+        spells: (Spell::Polls(OFTEN, LONG, true), Spell::ToTheStop),
+        then: &[Act::Answered(OFTEN as u64), Act::Overslept(0, FEW)],
         ..NOTHING
     },
 ];

@@ -4,6 +4,7 @@ use arachne_contexts::Tagged;
 use arachne_core::ThreadId;
 use arachne_pool::{PoolJob, Step};
 use std::alloc::Global;
+use std::mem::replace;
 use std::sync::Arc;
 
 /// A kind of job: it forks children, joins them, sleeps until answers were counted, goes on for some steps and ends.
@@ -149,12 +150,10 @@ impl PoolJob for Task {
     ghost awaits = { λ task children. Unit {0} };
 
     fn step(&mut self) -> Step<Task, u64> {
-        if !self.has_begun {
-            self.has_begun = true;
-            self.board.begins();
-            if self.sort.is_held {
-                self.board.await_answer();
-            }
+        let is_first = !replace(&mut self.has_begun, true);
+        self.board.counts_step(is_first);
+        if is_first && self.sort.is_held {
+            self.board.await_answer();
         }
         if self.is_to_join() {
             return Step::Waits;

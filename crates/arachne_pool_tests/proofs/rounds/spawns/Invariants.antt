@@ -1,5 +1,5 @@
 use Rattle.arachne_pool.specs.Workers.{IsWorkerOf}
-use Rattle.arachne_pool_tests.proofs.rounds.spawns_many.Given as goal
+use Rattle.arachne_pool_tests.proofs.rounds.spawns.Given as goal
 
 -- between two spawns the worker is the pool's
 abbrev pub invariant-loop : goal.invariant-loop
