@@ -5,7 +5,7 @@ ghost use Rattle.std.specs.Prelude.{◌≡◌, ◌<◌, ◌↔◌, IfSome, IsNon
 
 use crate::job::PoolJob;
 use crate::pool::Pool;
-use crate::seat::{Call, Seat, idle_seat};
+use crate::seat::{Seat, idle_seat};
 use crate::spawned::Spawned;
 use crate::worker::{PoolFault, Worker};
 use arachne_contexts::{Contexts, Seats, Woken};
@@ -43,7 +43,7 @@ impl<C: Seats> Pool<C> {
         ensures fault { HasSeatAfter worker.new.seat result }
         ensures same { WorksFor core worker.new }
     {
-        let mut kernel = self.enter(rt, worker, core, Call::Turn);
+        let mut kernel = self.enter(rt, worker, core, false);
         let Some(rounds) = &mut kernel else {
             return Err(PoolFault::Token);
         };
@@ -80,7 +80,7 @@ impl<C: Seats> Pool<C> {
         ensures same { WorksFor core worker.new }
     {
         self.live.works_for(core);
-        let mut kernel = self.enter(rt, worker, core, Call::Work);
+        let mut kernel = self.enter(rt, worker, core, true);
         let Some(rounds) = &mut kernel else {
             self.stop();
             return Err(PoolFault::Token);
@@ -158,7 +158,7 @@ impl<C: Seats> Pool<C> {
         rt: &'a H,
         worker: &mut Worker<C::Seat, J>,
         core: u8,
-        call: Call,
+        works: bool,
     ) -> Option<CoreWorker<'a, H, Seat<'a, H, J, C>>>
     where
         C: Contexts<Spawned<J>>,
@@ -174,7 +174,7 @@ impl<C: Seats> Pool<C> {
             self.shared.hint_cores(1 << u32::from(before));
         }
         let seat = worker.seat.take()?;
-        Some(self.open(rt, worker, seat, call))
+        Some(self.open(rt, worker, seat, works))
     }
 
     /// Returns the loop that makes the rounds of a call, with the worker's seat and data. As long as the loop has the
@@ -184,7 +184,7 @@ impl<C: Seats> Pool<C> {
         rt: &'a H,
         worker: &mut Worker<C::Seat, J>,
         seat: C::Seat,
-        call: Call,
+        works: bool,
     ) -> CoreWorker<'a, H, Seat<'a, H, J, C>>
     where
         C: Contexts<Spawned<J>>,
@@ -214,7 +214,7 @@ impl<C: Seats> Pool<C> {
                 rt,
                 pool: self,
                 core,
-                call,
+                works,
                 is_broken: false,
                 seat,
                 held: None,

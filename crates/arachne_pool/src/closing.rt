@@ -11,7 +11,7 @@ use crate::pool::Pool;
 use crate::spawned::Spawned;
 use crate::worker::{Bench, Worker};
 use arachne_contexts::{Contexts, Seats};
-use arachne_core::{OccWord, ThreadId};
+use arachne_core::ThreadId;
 use arachne_policy::{CoreOrder, OrderKind};
 use std::alloc::{AllocError, Global};
 use std::collections::VecDeque;
@@ -77,7 +77,7 @@ impl<C: Seats> Pool<C> {
     {
         let mut orders = orders;
         for core in 1..self.cores {
-            if self.is_closed::<H, J>(rt, core) {
+            if self.glance::<H, J>(rt, core).is_closed() {
                 let closes = CoreOrder {
                     after: 0,
                     kind: OrderKind::Release,
@@ -89,19 +89,6 @@ impl<C: Seats> Pool<C> {
         let orders = PoolOrders::new(worker.bench.alloc, orders, self.cores)?;
         worker.bench.orders = Some(orders);
         Ok(())
-    }
-
-    /// Returns whether the core's occupancy word, at this moment, says that the core is closed. Only orders close a
-    /// core.
-    fn is_closed<H: Wait, J: PoolJob>(&self, rt: &H, core: u8) -> bool
-    where
-        C: Contexts<Spawned<J>>,
-        requires { core < self.now.cores }
-    {
-        match OccWord::from_word(self.table.glance(rt, core)) {
-            Some(occupancy) => occupancy.is_closed(),
-            None => false,
-        }
     }
 
     /// Closes the pool. Returns the jobs that were spawned and have not ended: their number and the number of jobs that

@@ -15,26 +15,16 @@ use arachne_contexts::{Contexts, Held, Placed};
 use arachne_workers::{Halt, PostedThread, SharedWords};
 use rand_xoshiro::Xoshiro256PlusPlus;
 use std::alloc::AllocError;
-use std::marker::Model;
 use std::snapshot::Snapshot;
 use std::sync::Wait;
+use std::sync::atomic::Ordering;
 
 /// A job that was put at a place, with that place. Only `post` returns a value of this type, for a job that it has
 /// given to the table. The type is not `Drop`, so that the caller must signal the worker of the job's core.
-///
-/// Contracts see the job.
 pub(crate) struct Posted<J: PoolJob> {
     at: PostedThread,
     /// The job. The field has no bytes.
     job: Snapshot<Spawned<J>>,
-}
-
-impl<J: PoolJob> Model for Posted<J> {
-    ghost use Rattle.arachne_pool.specs.Jobs.{Being};
-
-    ghost Value = { Being J };
-
-    ghost view = { λ p. p.job.value };
 }
 
 impl<J: PoolJob> Posted<J> {
@@ -72,7 +62,7 @@ pub(crate) fn post<H: Wait, J: PoolJob, C: Contexts<Spawned<J>>>(
     requires out { HasOut (C.has pool.now.table) (Claim claim) seat.old }
     ensures seat { C.sits pool.now.table seat.new }
     ensures out { OnOk result (IsSpent (C.has pool.now.table) (Claim claim) seat.old seat.new) }
-    ensures posted { IfOk result (λ posted. posted ≡ job) }
+    ensures posted { IfOk result (λ posted. posted.job.value ≡ job) }
 {
     let place = claim.place();
     let posted = Snapshot::of(&job);
@@ -101,14 +91,17 @@ pub(crate) fn claim<H: Wait, J: PoolJob, C: Contexts<Spawned<J>>>(
 {
     let cores = pool.cores::<H, Spawned<J>>(rt);
     if is_exclusive {
-        pool.exclusive_comes();
+        if !pool.has_exclusive() {
+            pool.exclusive.store(1, Ordering::SeqCst);
+        }
         if let Ok(Some(claim)) = cores.claim_exclusive(seat) {
             return Ok(Some(claim));
         }
     }
     let place = cores.claim_normal(seat, chooser);
     if let Ok(None) = place {
-        pool.no_room_was_seen();
+        // The next worker that frees a place, or that sees a free one while it looks for work, notes that there is one.
+        pool.room.store(0, Ordering::SeqCst);
     }
     place
 }
@@ -125,7 +118,7 @@ pub(crate) fn place_oldest<H: Wait, J: PoolJob, C: Contexts<Spawned<J>>>(
     ensures seat { C.sits pool.now.table seat.new }
     ensures out { OnOk result (KeepsOut (C.has pool.now.table) seat.old seat.new) }
     ensures same { bench.new ≡ record bench.old { near = bench.new.near; chooser = bench.new.chooser } }
-    ensures near { IfOk result (λ posted. MatchOption posted (bench.new.near.items ≡ bench.old.near.items) (λ at. bench.old.near.items ≡ at ∷ bench.new.near.items)) }
+    ensures near { IfOk result (λ posted. MatchOption posted (bench.new.near.items ≡ bench.old.near.items) (λ at. bench.old.near.items ≡ at.job.value ∷ bench.new.near.items)) }
 {
     let Some(job) = bench.near.front() else {
         return Ok(None);
@@ -156,7 +149,7 @@ pub(crate) fn post_oldest<H: Wait, J: PoolJob, C: Contexts<Spawned<J>>>(
     requires out { C.has pool.now.table seat.old (thread_in (λ s. s.tag) held.old ∷ []) }
     ensures seat { C.sits pool.now.table seat.new }
     ensures out { OnOk result (C.has pool.now.table seat.new (thread_in (λ s. s.tag) held.new ∷ [])) }
-    ensures parted { IfOk result (PartsOne (C.Hold.id_of held.old.hold) held.old.value held.new.value) }
+    ensures parted { IfOk result (λ posted. MatchOption posted (held.new.value ≡ held.old.value) (λ p. PartsOne (C.Hold.id_of held.old.hold) held.old.value held.new.value p.job.value)) }
     ensures hold { held.new.hold ≡ held.old.hold }
     ensures same { bench.new ≡ record bench.old { cells = bench.new.cells; chooser = bench.new.chooser; is_short = bench.new.is_short } }
 {
@@ -195,8 +188,8 @@ pub(crate) fn end<H: Wait, J: PoolJob, C: Contexts<Spawned<J>>>(
     requires over { held.value.many ≡ 0 }
     ensures seat { C.sits pool.now.table seat.new }
     ensures out { OnOk result (C.has pool.now.table seat.new []) }
-    ensures ended { IfOk result (λ ended. ended ≡ held.value) }
-    ensures disowned { IfErr result (λ ended. ended ≡ held.value) }
+    ensures ended { IfOk result (λ ended. ended.job.value ≡ held.value) }
+    ensures disowned { IfErr result (λ ended. ended.job.value ≡ held.value) }
 {
     match pool.table.finish(rt, seat, held) {
         Ok(job) => {

@@ -7,15 +7,17 @@ ghost use Rattle.arachne_pool.specs.Leftover.{IsWhole};
 use crate::tally::Live;
 use crate::job::PoolJob;
 use crate::orders::PoolOrders;
+use crate::spawned::Spawned;
 use crate::worker::Worker;
 use arachne_arbiter::Cores;
-use arachne_contexts::Seats;
-use arachne_core::{CORES, Place, SLOTS};
+use arachne_contexts::{Contexts, Seats};
+use arachne_core::{CORES, OccWord, Place, SLOTS};
 use arachne_policy::CoreOrder;
 use arachne_workers::SharedWords;
 use crossbeam_utils::CachePadded;
 use std::alloc::{AllocError, Global};
 use std::marker::PhantomData;
+use std::sync::Wait;
 use std::sync::atomic::{AtomicU64, Ordering};
 
 /// The state that the workers of a pool share: the table, the counts of jobs, and the words that end all work.
@@ -30,9 +32,9 @@ pub struct Pool<C: Seats> {
     pub(crate) shared: SharedWords,
     pub(crate) live: Live,
     /// 1 while a place may be free.
-    room: CachePadded<AtomicU64>,
+    pub(crate) room: CachePadded<AtomicU64>,
     /// 1 once a job has wanted a core for itself.
-    exclusive: AtomicU64,
+    pub(crate) exclusive: AtomicU64,
     /// 1 while the pool is kept open.
     open: AtomicU64,
     /// The number of sleeps that timed out although there was something to do.
@@ -163,22 +165,18 @@ impl<C: Seats> Pool<C> {
         }
     }
 
-    /// Notes that no core had a free place. The next worker that frees a place, or that sees a free place while it
-    /// looks for work, notes that a place may be free again.
-    pub(crate) fn no_room_was_seen(&self) {
-        self.room.store(0, Ordering::SeqCst);
-    }
-
-    /// Notes that a job wants a core for itself.
-    pub(crate) fn exclusive_comes(&self) {
-        if !self.has_exclusive() {
-            self.exclusive.store(1, Ordering::SeqCst);
-        }
-    }
-
     /// Returns whether a job has wanted a core for itself.
     pub(crate) fn has_exclusive(&self) -> bool {
         self.exclusive.load(Ordering::SeqCst) != 0
+    }
+
+    /// Returns which places of a core are occupied at this moment, and whether the core is closed or exclusive.
+    pub(crate) fn glance<H: Wait, J: PoolJob>(&self, rt: &H, core: u8) -> OccWord
+    where
+        C: Contexts<Spawned<J>>,
+        requires { core < self.now.cores }
+    {
+        OccWord::from_word(self.table.glance(rt, core)).unwrap_or(OccWord::empty())
     }
 
     /// Returns the cores of the table, for a kernel thread that uses them.

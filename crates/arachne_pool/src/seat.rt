@@ -1,5 +1,5 @@
 //! A worker's seat at the table of a pool. Between two calls the seat has the job in hand, and nothing else.
-ghost use Rattle.std.specs.Prelude.{◌≡◌, ◌≤◌, IfSome, false, if◌then◌else◌};
+ghost use Rattle.std.specs.Prelude.{◌≡◌, ◌<◌, ◌≤◌, IfSome, false, if◌then◌else◌};
 ghost use Rattle.arachne_pool.specs.Grounds.{in_hand};
 ghost use Rattle.arachne_pool.specs.Stops.{rests_as};
 ghost use Rattle.arachne_pool.specs.Workers.{IsIdleAt};
@@ -20,15 +20,6 @@ use std::mem::replace;
 use std::sync::Wait;
 use std::sync::atomic::Ordering;
 
-/// The call of the pool that a worker is in.
-#[derive(Clone, Copy, Debug, PartialEq, Eq)]
-pub(crate) enum Call {
-    /// One round, in which each job has one slice. The worker doesn't wait.
-    Turn,
-    /// Rounds until all jobs have ended. The worker parks if its core is closed.
-    Work,
-}
-
 /// A worker's desk at the table. Contracts see the pool to which the desk belongs; its invariant says which job the
 /// seat has in hand.
 #[derive(Drop)]
@@ -36,7 +27,9 @@ pub(crate) struct Seat<'a, H, J: PoolJob, C: Contexts<Spawned<J>>> {
     pub(crate) rt: &'a H,
     pub(crate) pool: &'a Pool<C>,
     pub(crate) core: u8,
-    pub(crate) call: Call,
+    /// True in `work`, in which the worker parks if its core is closed. In `turn` each job has one slice, and the worker
+    /// doesn't wait.
+    pub(crate) works: bool,
     /// True if the table did not know a place or a job of the worker's. If true, the seat may still have a place or a
     /// job, and the worker must stop.
     pub(crate) is_broken: bool,
@@ -96,9 +89,6 @@ impl<'a, H: Wait, J: PoolJob, C: Contexts<Spawned<J>>> Desk for Seat<'a, H, J, C
     #[inline(always)]
     fn advance(&mut self, _pace: &mut Pace, left: &mut u32) -> Result<ThreadStop, Halt> {
         let mut stop = self.go_on(left);
-        if stop == JobStop::LetsGo && self.let_go() {
-            stop = self.go_on(left);
-        }
         if stop == JobStop::Sleeps {
             stop = self.fall_asleep(left);
         }
@@ -212,7 +202,7 @@ impl<'a, H: Wait, J: PoolJob, C: Contexts<Spawned<J>>> Desk for Seat<'a, H, J, C
 
     #[inline(always)]
     fn may_take_ticket(&mut self) -> bool {
-        if self.held.is_some() && (self.call == Call::Turn || self.bench.is_short) {
+        if self.held.is_some() && (!self.works || self.bench.is_short) {
             // The job has had its slice: others must run.
             return true;
         }
@@ -261,7 +251,7 @@ impl<'a, H: Wait, J: PoolJob, C: Contexts<Spawned<J>>> Desk for Seat<'a, H, J, C
     }
 
     fn is_waited_for(&self) -> bool {
-        if self.call != Call::Work || !self.bench.near.is_empty() {
+        if !self.works || !self.bench.near.is_empty() {
             return true;
         }
         match &self.bench.orders {
@@ -296,7 +286,8 @@ impl<'a, H: Wait, J: PoolJob, C: Contexts<Spawned<J>>> PoolDesk for Seat<'a, H, 
 }
 
 impl<'a, H: Wait, J: PoolJob, C: Contexts<Spawned<J>>> Seat<'a, H, J, C> {
-    /// Runs the job in hand for at most `left` steps. Returns `Waits` if no job is in hand.
+    /// Runs the job in hand for at most `left` steps. If a job ends without joining all of its children, releases these
+    /// first. Returns `Waits` if no job is in hand.
     #[inline(always)]
     fn go_on(&mut self, left: &mut u32) -> JobStop
         ensures desk { self.new ≡ self.old }
@@ -307,8 +298,14 @@ impl<'a, H: Wait, J: PoolJob, C: Contexts<Spawned<J>>> Seat<'a, H, J, C> {
         };
         let bench = &mut self.bench;
         let may_post = self.pool.has_room();
-        let stack = &mut held.value.stack;
-        stack.slice(&mut bench.cells, &mut bench.tally, left, may_post)
+        let stop = held
+            .value
+            .slice(&mut bench.cells, &mut bench.tally, left, may_post);
+        if stop != JobStop::LetsGo || !bench.let_go(&mut held.value) {
+            return stop;
+        }
+        held.value
+            .slice(&mut bench.cells, &mut bench.tally, left, may_post)
     }
 
     /// Counts the jobs that began and ended until the job in hand ended. Returns the parent of that job, if the parent
@@ -319,7 +316,7 @@ impl<'a, H: Wait, J: PoolJob, C: Contexts<Spawned<J>>> Seat<'a, H, J, C> {
         ensures parent { result ≡ ended.parent }
     {
         self.pool.live.add(self.core, self.bench.news());
-        ended.parent()
+        ended.parent
     }
 
     /// Posts the oldest child that waits with the job in hand, if there is a place and memory is not refused.
@@ -384,7 +381,7 @@ impl<'a, H: Wait, J: PoolJob, C: Contexts<Spawned<J>>> Seat<'a, H, J, C> {
                 && self.move_here(place)
             {
                 let hints = self.pool.shared.hints();
-                hints.hint(self.core, self.occupied(self.core));
+                hints.hint(self.core, self.pool.glance::<H, J>(self.rt, self.core).mask());
                 return true;
             }
         }
@@ -412,14 +409,16 @@ impl<'a, H: Wait, J: PoolJob, C: Contexts<Spawned<J>>> Seat<'a, H, J, C> {
     /// Returns a place of another core at which a job may be ready, if that core's worker is awake and has not reached
     /// the place yet. In a `turn` only those cores count for which a kernel thread has called `work`. This worker may
     /// make the rounds of the other cores itself, and would move jobs to and fro between them.
-    fn waiting_on(&self, core: u8) -> Option<Place> {
-        if core == self.core || self.call == Call::Turn && !self.pool.live.is_worked(core) {
+    fn waiting_on(&self, core: u8) -> Option<Place>
+        requires { core < self.now.cores }
+    {
+        if core == self.core || !self.works && !self.pool.live.is_worked(core) {
             return None;
         }
         let word = self.pool.shared.hints().word(core)?;
         let seen = word.load(Ordering::SeqCst);
         // The lowest bit says that the worker sleeps. The other bits are for the indexes.
-        let waiting = seen >> 1 & self.occupied(core);
+        let waiting = seen >> 1 & self.pool.glance::<H, J>(self.rt, core).mask();
         if seen & 1 != 0 || waiting == 0 {
             return None;
         }
@@ -427,27 +426,6 @@ impl<'a, H: Wait, J: PoolJob, C: Contexts<Spawned<J>>> Seat<'a, H, J, C> {
         Some(Place { core, index })
     }
 
-    /// Returns the indexes of a core that are occupied, a bit for each.
-    fn occupied(&self, core: u8) -> u64 {
-        if core >= self.pool.cores {
-            return 0;
-        }
-        match OccWord::from_word(self.pool.table.glance(self.rt, core)) {
-            Some(now) => now.mask(),
-            None => 0,
-        }
-    }
-
-    /// Releases the children that were not joined before their parent (the job in hand or a job in its place) ended.
-    /// Returns false if memory was refused.
-    fn let_go(&mut self) -> bool
-        ensures { self.new ≡ self.old }
-    {
-        match &mut self.held {
-            Some(held) => self.bench.let_go(&mut held.value),
-            None => true,
-        }
-    }
 }
 
 /// Returns the seat of a worker whose rounds are over, unless the seat still has a place or a job.

@@ -1,9 +1,11 @@
 //! A job in a pool, with the jobs that run in its place, and the sending end of the cell for its result.
-ghost use Rattle.std.specs.Prelude.{◌≡◌, ◌+◌, ◌<◌, [], IfSome, IsSome, MatchOption, Some, None, length, true};
+ghost use Rattle.std.specs.Prelude.{◌≡◌, ◌+◌, ◌<◌, ◌≤◌, [], IfSome, IsSome, MatchOption, Some, None, length, true};
+ghost use Rattle.arachne_pool.specs.Frames.{CountsEach};
 
 use crate::handle::{Cells, ResultSender, leave_at};
 use crate::job::PoolJob;
-use crate::stack::{Jobs, Stack};
+use crate::stack::{JobStop, Jobs, Stack};
+use crate::tally::Tally;
 use arachne_contexts::Tagged;
 use arachne_core::ThreadId;
 use std::alloc::Global;
@@ -74,6 +76,22 @@ impl<J: PoolJob> Spawned<J> {
         self.stack.taken_from(count)
     }
 
+    /// Runs the job as `Stack::slice` does.
+    #[inline(always)]
+    pub(crate) fn slice(
+        &mut self,
+        cells: &mut Cells<J>,
+        tally: &mut Tally,
+        left: &mut u32,
+        may_post: bool,
+    ) -> JobStop
+        ensures same { self.new ≡ record self.old { many = self.new.many; jobs = self.new.jobs } }
+        ensures left { left.new ≤ left.old }
+        ensures counts { CountsEach tally.old tally.new self.old.many self.new.many }
+    {
+        self.stack.slice(cells, tally, left, may_post)
+    }
+
     /// Releases one child as `Stack::let_go` does. If the child had not begun, returns it as a job of its own, whose
     /// result is dropped.
     pub(crate) fn let_go(&mut self, alloc: Global, has_room: bool) -> Option<Spawned<J>>
@@ -104,7 +122,7 @@ impl<J: PoolJob> Spawned<J> {
     /// Ends the job, once all jobs in its place have ended. Its handle or its parent gets the result.
     pub(crate) fn leave(self) -> Ended<J>
         requires { self.many ≡ 0 }
-        ensures { result ≡ self }
+        ensures { result.job.value ≡ self }
     {
         let job = Snapshot::of(&self);
         let Spawned {
@@ -135,32 +153,11 @@ impl<J: PoolJob> Spawned<J> {
 }
 
 /// A job that has ended and whose result was left. Only `Spawned::leave` returns a value of this type.
-///
-/// Contracts see the job as it ended.
+#[derive(Drop)]
 pub(crate) struct Ended<J: PoolJob> {
     /// The job as it ended. The field has no bytes.
     job: Snapshot<Spawned<J>>,
-    parent: Option<ThreadId>,
-}
-
-impl<J: PoolJob> Model for Ended<J> {
-    ghost use Rattle.std.specs.Prelude.{◌≡◌};
-    ghost use Rattle.arachne_pool.specs.Jobs.{Being};
-
-    ghost Value = { Being J };
-
-    ghost view = { λ e. e.job.value };
-
-    ghost invariant = { λ e. e.parent ≡ e.job.value.parent };
-}
-
-impl<J: PoolJob> Ended<J> {
-    /// Returns the id under which the parent runs, if the parent has to be woken.
-    #[inline(always)]
-    pub(crate) fn parent(self) -> Option<ThreadId>
-        ensures { result ≡ self.parent }
-    {
-        let Ended { job: _, parent } = self;
-        parent
-    }
+    /// The id under which the parent runs, if the parent has to be woken.
+    pub(crate) parent: Option<ThreadId>,
+    ghost own: { parent ≡ job.value.parent },
 }
