@@ -2,7 +2,7 @@
 use arachne_core::ThreadId;
 use std::alloc::Global;
 use std::sync::atomic::{AtomicU64, Ordering};
-use std::sync::{Arc, Wait};
+use std::sync::Arc;
 use std::thread::yield_now;
 
 /// The number of looks at a word before a job rests, which take some microseconds.
@@ -24,7 +24,7 @@ pub(crate) struct Board {
     /// The number of times that a kernel thread has returned from its work.
     pub(crate) returns: AtomicU64,
     /// The number of times that the turn was passed to the kernel thread that waits for it.
-    turns: AtomicU64,
+    pub(crate) turns: AtomicU64,
     context: AtomicU64,
     generation: AtomicU64,
     answers: AtomicU64,
@@ -81,17 +81,6 @@ impl Board {
     /// Passes the turn to the kernel thread that waits for it.
     pub(crate) fn pass_turn(&self) {
         self.turns.fetch_add(1, Ordering::SeqCst);
-        self.turns.wake_one();
-    }
-
-    /// Returns the number of times that the turn was passed.
-    pub(crate) fn turns(&self) -> u64 {
-        self.turns.load(Ordering::SeqCst)
-    }
-
-    /// Waits until the turn was passed more than `turns` times. May also return earlier, for no reason.
-    pub(crate) fn await_turn<R: Wait>(&self, rt: &R, turns: u64) {
-        self.turns.park(rt, (turns & 0xffff_ffff) as u32);
     }
 
     /// Counts an answer.

@@ -1,15 +1,15 @@
 //! The acts of one worker on a pool, one after another, and the checks of their results.
 ghost use Rattle.std.specs.Prelude.{◌≡◌, ◌<◌, ◌≤◌, IfSome};
 ghost use Rattle.arachne_core.specs.declared.layout.TheConstants.{CORES, SLOTS};
+ghost use Rattle.arachne_policy.specs.Orders.{AreInOrder};
 ghost use Rattle.arachne_pool.specs.Workers.{IsWorkerOf};
 
 use crate::board::Board;
-use crate::crew::Share;
-use crate::orders::{Order, orders_of};
 use crate::spells::Spell;
-use crate::tasks::{LEAF, Sort, Task};
+use crate::tasks::{Sort, Task};
 use arachne_contexts::{Contexts, Woken};
 use arachne_core::{CORES, OccWord, SLOTS, ThreadId};
+use arachne_policy::{CoreOrder, OrderKind, check_orders};
 use arachne_pool::{Left, Pool, PoolFault, Refusal, Spawned, Worker};
 use arachne_shortage::Hoard;
 use std::alloc::Global;
@@ -22,6 +22,25 @@ const FEW: usize = 40;
 
 /// The most attempts of `ends_in_need`, spawns and rounds together.
 const TRIES: u32 = 100_000;
+
+/// The number of slices after which a core is granted or released, and the core.
+pub(crate) type Order = (u64, OrderKind, u64);
+
+pub(crate) const GRANT: OrderKind = OrderKind::Grant;
+
+pub(crate) const RELEASE: OrderKind = OrderKind::Release;
+
+/// Returns these orders, if they are in order and memory is not refused.
+pub(crate) fn orders_of(alloc: Global, orders: &[Order], cores: u8) -> Option<Vec<CoreOrder>>
+    ensures { IfSome result (λ orders. AreInOrder cores orders.items) }
+{
+    let mut list = Vec::new(alloc);
+    for &(after, kind, core) in orders {
+        list.push(CoreOrder { after, kind, core }).ok()?;
+    }
+    check_orders(&list, u64::from(cores)).ok()?;
+    Some(list)
+}
 
 /// An act of a row: the worker does something, or checks something. The row fails if the result is not the one that the
 /// act states.
@@ -39,8 +58,8 @@ pub(crate) enum Act {
     Answers,
     /// This number of answers were counted.
     Answered(u64),
-    /// A round on a core. The round must find something if the second value is true, and nothing if it is false.
-    Turns(u8, bool),
+    /// This number of rounds on a core, each of which must find something, or one that must find nothing if it is 0.
+    Turns(u8, u32),
     /// A round on a core. The round must fail because memory is refused.
     TurnsInNeed(u8),
     /// This number of a core's places are taken, and the core is in this state.
@@ -56,8 +75,6 @@ pub(crate) enum Act {
     /// Sleeps of kernel threads have timed out, although there was something for them to do, at least the first number
     /// of times, and at most the second.
     Overslept(u64, u64),
-    /// Jobs are spawned until each place has one. A spawn may only fail because no place is free.
-    Fills,
     /// The worker works on a core until no job is left, or it must stop.
     Works(u8),
     /// A job and the jobs that it forks end while memory is used up.
@@ -109,6 +126,13 @@ pub(crate) struct Row {
     pub(crate) then: &'static [Act],
     pub(crate) left: (usize, usize),
     pub(crate) alive: usize,
+}
+
+/// A kernel thread's worker, and the number of kernel threads that have ended a job so far.
+#[derive(Drop)]
+pub(crate) struct Share<S> {
+    pub(crate) worker: Worker<S, Task>,
+    pub(crate) busy: usize,
 }
 
 /// Makes a row's pool and its worker, and does the row's first acts. Returns `None` if the pool can't be made, or if
@@ -238,8 +262,12 @@ fn holds<C: Contexts<Spawned<Task>>, R: Wait + Clock>(
             };
             is_woken(pool.wake(rt, worker, id), wakes)
         }
-        Act::Turns(core, _) | Act::TurnsInNeed(core) if core < pool.cores => {
-            is_wanted(act, pool.turn(rt, worker, core))
+        Act::Turns(core, 0) if core < pool.cores => pool.turn(rt, worker, core) == Ok(false),
+        Act::Turns(core, rounds) if core < pool.cores => {
+            turns::<C, R>(rt, pool, worker, core, rounds)
+        }
+        Act::TurnsInNeed(core) if core < pool.cores => {
+            pool.turn(rt, worker, core) == Err(PoolFault::Memory)
         }
         Act::Works(core) if core < pool.cores => pool.work(rt, worker, core).is_ok(),
         Act::EndsInNeed(sort) if pool.cores > 0 => {
@@ -250,7 +278,6 @@ fn holds<C: Contexts<Spawned<Task>>, R: Wait + Clock>(
             None => false,
         },
         Act::Counts(count) => worker.tally().spawned == count,
-        Act::Fills => fills::<C, R>(rt, pool, board, worker),
         act => is_so::<C, R>(rt, pool, board, act),
     }
 }
@@ -265,12 +292,24 @@ fn is_woken(woken: Option<Woken>, wakes: Wakes) -> bool {
     }
 }
 
-/// Returns true if the result of a round is the one that its act states.
-fn is_wanted(act: Act, turned: Result<bool, PoolFault>) -> bool {
-    match act {
-        Act::Turns(_, finds) => turned == Ok(finds),
-        _ => turned == Err(PoolFault::Memory),
+/// Makes `rounds` rounds on a core. Returns true if each has found something to do.
+fn turns<C: Contexts<Spawned<Task>>, R: Wait + Clock>(
+    rt: &R,
+    pool: &Pool<C>,
+    worker: &mut Worker<C::Seat, Task>,
+    core: u8,
+    rounds: u32,
+) -> bool
+    requires worker { IsWorkerOf C.sits C.idle pool.now.table pool.now.cores worker.old }
+    requires core { core < pool.now.cores }
+    ensures worker { IsWorkerOf C.sits C.idle pool.now.table pool.now.cores worker.new }
+{
+    for _ in 0..rounds {
+        if pool.turn(rt, worker, core) != Ok(true) {
+            return false;
+        }
     }
+    true
 }
 
 /// Does an act that needs no worker. Returns true if the result is the one that the act states.
@@ -354,30 +393,6 @@ fn tries<C: Contexts<Spawned<Task>>, R: Wait>(
         Ok(_) => wanted.is_none(),
         Err(refused) => wanted == Some(refused.why),
     }
-}
-
-/// Spawns jobs by both calls until each place is taken. Returns true if each job was spawned as long as there was a
-/// free place.
-fn fills<C: Contexts<Spawned<Task>>, R: Wait>(
-    rt: &R,
-    pool: &Pool<C>,
-    board: &Arc<Board>,
-    worker: &mut Worker<C::Seat, Task>,
-) -> bool
-    requires worker { IsWorkerOf C.sits C.idle pool.now.table pool.now.cores worker.old }
-    ensures worker { IsWorkerOf C.sits C.idle pool.now.table pool.now.cores worker.new }
-{
-    let places = u32::from(pool.cores) * u32::from(pool.slots);
-    if !spawns::<C, R>(rt, pool, board, worker, places / 2, LEAF) {
-        return false;
-    }
-    for _ in places / 2..places {
-        if !tries::<C, R>(rt, pool, board, worker, LEAF, None) {
-            return false;
-        }
-    }
-    worker.tally().spawned == u64::from(places)
-        && tries::<C, R>(rt, pool, board, worker, LEAF, Some(Refusal::NoPlace))
 }
 
 /// Spawns a job while memory is used up, and makes rounds on core 0 until all jobs have ended. After a refusal, tries

@@ -33,41 +33,38 @@ struct Row {
     comes: Comes,
 }
 
+const TREE_ON_TWO: Row = Row {
+    shows: "a tree ends on two kernel threads",
+    cores: 2,
+    sort: TREE,
+    free: None,
+    comes: Comes::Ends(121),
+};
+
 const ROWS: &[Row] = &[
     Row {
         shows: "a job is returned if a kernel thread is refused",
-        cores: 2,
         sort: PARENT,
         free: Some(700_000),
         comes: Comes::NotSpawned(RunFault::KernelThread),
+        ..TREE_ON_TWO
     },
     Row {
         shows: "a tree ends on one kernel thread",
         cores: 1,
-        sort: TREE,
-        free: None,
-        comes: Comes::Ends(121),
+        ..TREE_ON_TWO
     },
-    Row {
-        shows: "a tree ends on two kernel threads",
-        cores: 2,
-        sort: TREE,
-        free: None,
-        comes: Comes::Ends(121),
-    },
+    TREE_ON_TWO,
     Row {
         shows: "a tree ends on more kernel threads than there are processors",
         cores: 16,
-        sort: TREE,
-        free: None,
-        comes: Comes::Ends(121),
+        ..TREE_ON_TWO
     },
     Row {
         shows: "a child that wants a core for itself ends on the second kernel thread",
-        cores: 2,
         sort: ALONE_PARENT,
-        free: None,
         comes: Comes::Ends(2),
+        ..TREE_ON_TWO
     },
 ];
 

@@ -1,13 +1,11 @@
 //! Rows of what a server wants of a pool: sleeps and wakes, refusals, statistics, and kernel threads that are woken at
 //! once.
-use crate::orders::{GRANT, RELEASE};
-use crate::rounds::{Act, Is, Row, Wakes};
-use crate::rows::{ALONE, ALONE_PARENT, ELEVEN, NOTHING, TO_THE_END, holds};
+use crate::rounds::{Act, GRANT, Is, RELEASE, Row, Wakes};
+use crate::rows::{ALONE, ALONE_PARENT, ELEVEN, NOTHING, TO_THE_END};
 use crate::spells::Spell;
 use crate::tasks::{Joins, LEAF, PARENT, Sort};
 use arachne_core::CORES;
 use arachne_pool::Refusal;
-use std::test::Fail;
 
 /// A job that sleeps until an answer was counted.
 const SLEEPER: Sort = Sort { answers: 1, ..LEAF };
@@ -58,7 +56,7 @@ const OFTEN: u32 = 100;
 /// all signals of one kind are lost, sleeps time out nearly as often as such a signal is sent.
 const FEW: u64 = OFTEN as u64 / 4;
 
-const ROWS: &[Row] = &[
+pub(crate) const ROWS: &[Row] = &[
     Row {
         shows: "a job that sleeps has no slice until it is woken, and a late wake hits no later job at its place",
         cores: 1,
@@ -66,40 +64,23 @@ const ROWS: &[Row] = &[
         acts: &[
             Act::Spawns(SLEEPER),
             Act::Wakes(0, 0, Wakes::Awake),
-            Act::Turns(0, true),
-            Act::Turns(0, false),
+            Act::Turns(0, 1),
+            Act::Turns(0, 0),
             Act::Answers,
-            Act::Turns(0, false),
+            Act::Turns(0, 0),
             Act::Wakes(0, 0, Wakes::It),
             Act::Wakes(0, 0, Wakes::Awake),
-            Act::Turns(0, true),
+            Act::Turns(0, 1),
             Act::Lives(0),
             Act::Wakes(0, 0, Wakes::Nobody),
             Act::Spawns(Sort { answers: 2, ..LEAF }),
-            Act::Turns(0, true),
+            Act::Turns(0, 1),
             Act::Answers,
             Act::Wakes(0, 0, Wakes::Nobody),
-            Act::Turns(0, false),
+            Act::Turns(0, 0),
             Act::Lives(1),
             Act::Wakes(0, 1, Wakes::It),
-            Act::Turns(0, true),
-            Act::Lives(0),
-        ],
-        ..NOTHING
-    },
-    Row {
-        shows: "a job that is woken before its answer has come sleeps again",
-        cores: 1,
-        slots: 1,
-        acts: &[
-            Act::Spawns(SLEEPER),
-            Act::Turns(0, true),
-            Act::Wakes(0, 0, Wakes::It),
-            Act::Turns(0, true),
-            Act::Turns(0, false),
-            Act::Answers,
-            Act::Wakes(0, 0, Wakes::It),
-            Act::Turns(0, true),
+            Act::Turns(0, 1),
             Act::Lives(0),
         ],
         ..NOTHING
@@ -113,24 +94,22 @@ const ROWS: &[Row] = &[
                 answers: 2,
                 ..PARENT
             }),
-            Act::Turns(0, true),
-            Act::Turns(0, true),
-            Act::Turns(0, true),
-            Act::Turns(0, false),
+            Act::Turns(0, 3),
+            Act::Turns(0, 0),
             Act::Lives(2),
             Act::Answers,
             Act::Wakes(0, 0, Wakes::It),
-            Act::Turns(0, true),
+            Act::Turns(0, 1),
             Act::Lives(1),
-            Act::Turns(0, true),
-            Act::Turns(0, false),
+            Act::Turns(0, 1),
+            Act::Turns(0, 0),
             Act::Wakes(0, 0, Wakes::It),
-            Act::Turns(0, true),
-            Act::Turns(0, false),
+            Act::Turns(0, 1),
+            Act::Turns(0, 0),
             Act::Lives(1),
             Act::Answers,
             Act::Wakes(0, 0, Wakes::It),
-            Act::Turns(0, true),
+            Act::Turns(0, 1),
             Act::Lives(0),
         ],
         ..NOTHING
@@ -143,20 +122,18 @@ const ROWS: &[Row] = &[
             Act::Spawns(SLEEPER),
             Act::Spawns(BESIDE),
             Act::Spawns(Sort { bound: 4, ..BESIDE }),
-            Act::Turns(0, true),
+            Act::Turns(0, 1),
             Act::Stepped(4),
-            Act::Turns(0, true),
-            Act::Turns(0, true),
+            Act::Turns(0, 2),
             Act::Stepped(8),
             Act::Has(0, 3, Is::Open),
             Act::Lives(5),
             Act::Answers,
             Act::Wakes(0, 0, Wakes::It),
-            Act::Turns(0, true),
+            Act::Turns(0, 1),
             Act::Has(0, 3, Is::Open),
             Act::Lives(4),
-            Act::Turns(0, true),
-            Act::Turns(0, true),
+            Act::Turns(0, 2),
             Act::Stepped(15),
         ],
         left: (3, 0),
@@ -169,15 +146,15 @@ const ROWS: &[Row] = &[
         slots: 1,
         orders: &[(0, RELEASE, 1)],
         acts: &[
-            Act::Turns(0, false),
+            Act::Turns(0, 0),
             Act::Spawns(SLEEPER),
             Act::Spawns(LEAF),
-            Act::Turns(0, true),
+            Act::Turns(0, 1),
             Act::Has(1, 0, Is::Closed),
             Act::Orders(&[(0, GRANT, 1)]),
-            Act::Turns(0, false),
-            Act::Turns(1, false),
-            Act::Turns(1, true),
+            Act::Turns(0, 0),
+            Act::Turns(1, 0),
+            Act::Turns(1, 1),
             Act::Lives(1),
         ],
         left: (1, 0),
@@ -190,7 +167,7 @@ const ROWS: &[Row] = &[
         slots: 1,
         orders: &[(0, RELEASE, 2)],
         acts: &[
-            Act::Turns(0, false),
+            Act::Turns(0, 0),
             Act::Tries(ALONE, None),
             Act::Tries(LEAF, None),
             Act::Has(1, 1, Is::Open),
@@ -198,55 +175,14 @@ const ROWS: &[Row] = &[
             Act::Tries(ALONE, Some(Refusal::NoPlace)),
             Act::Lives(2),
             Act::Counts(2),
-            Act::Turns(1, true),
+            Act::Turns(1, 1),
             Act::Tries(LEAF, None),
             Act::Has(1, 1, Is::Open),
-            Act::Turns(0, true),
-            Act::Turns(1, true),
+            Act::Turns(0, 1),
+            Act::Turns(1, 1),
             Act::Lives(0),
             Act::Counts(3),
         ],
-        ..NOTHING
-    },
-    Row {
-        shows: "jobs come to each of two cores",
-        cores: 2,
-        slots: 8,
-        acts: &[
-            Act::SpawnsMany(6, LEAF),
-            Act::Has(0, 3, Is::Open),
-            Act::Has(1, 3, Is::Open),
-        ],
-        left: (6, 0),
-        alive: 6,
-        ..NOTHING
-    },
-    Row {
-        shows: "a worker that was split off and has worked for no core keeps no job, and the first one keeps it",
-        cores: 2,
-        slots: 1,
-        acts: &[Act::Works(0)],
-        spells: (Spell::Not, Spell::Spawns(4)),
-        then: &[Act::Lives(2), Act::Counts(2), Act::Spawns(LEAF)],
-        left: (2, 1),
-        alive: 3,
-        ..NOTHING
-    },
-    Row {
-        shows: "a stop leaves jobs that sleep, which are handed back",
-        cores: 2,
-        slots: 2,
-        acts: &[
-            Act::Spawns(SLEEPER),
-            Act::Spawns(SLEEPER),
-            Act::Spawns(SLEEPER),
-            Act::Turns(0, true),
-            Act::Turns(1, true),
-        ],
-        spells: (Spell::Rounds(10_000), Spell::ToTheEnd),
-        then: &[Act::Lives(3)],
-        left: (3, 0),
-        alive: 3,
         ..NOTHING
     },
     Row {
@@ -261,7 +197,7 @@ const ROWS: &[Row] = &[
             Act::Frees,
             Act::Tries(SLEEPER, None),
             Act::Hoards,
-            Act::Turns(0, true),
+            Act::Turns(0, 1),
             Act::Answers,
             Act::Wakes(0, 0, Wakes::It),
             Act::Counts(1),
@@ -272,19 +208,15 @@ const ROWS: &[Row] = &[
         ..NOTHING
     },
     Row {
-        shows: "an exclusive job gets a core alone, by whichever call it is spawned",
-        cores: 3,
-        slots: 2,
+        shows: "with ample memory each of many places gets a job",
+        cores: CORES,
+        slots: 56,
         acts: &[
-            Act::Tries(ALONE, None),
-            Act::Has(0, 1, Is::Alone),
-            Act::Spawns(ALONE),
-            Act::Has(1, 1, Is::Alone),
-            Act::Tries(ALONE, None),
-            Act::Has(2, 1, Is::Alone),
+            Act::SpawnsMany(3584, LEAF),
+            Act::Tries(LEAF, Some(Refusal::NoPlace)),
         ],
-        left: (3, 0),
-        alive: 3,
+        left: (3584, 0),
+        alive: 3584,
         ..NOTHING
     },
     Row {
@@ -297,7 +229,7 @@ const ROWS: &[Row] = &[
                 answers: OFTEN as u64,
                 ..LEAF
             }),
-            Act::Turns(0, true),
+            Act::Turns(0, 1),
         ],
         spells: (Spell::Wakes(OFTEN, true), Spell::ToTheEnd),
         then: &[Act::Lives(0), Act::Overslept(0, FEW)],
@@ -313,7 +245,7 @@ const ROWS: &[Row] = &[
                 answers: 2 * OFTEN as u64,
                 ..LEAF
             }),
-            Act::Turns(0, true),
+            Act::Turns(0, 1),
         ],
         spells: (Spell::Wakes(2 * OFTEN, false), Spell::ToTheEnd),
         then: &[Act::Lives(0)],
@@ -400,9 +332,8 @@ const ROWS: &[Row] = &[
             Act::SpawnsMany(63, ALONE),
             Act::Spawns(ELEVEN),
             Act::Has(63, 1, Is::Open),
-            Act::Turns(63, true),
-            Act::Turns(0, true),
-            Act::Turns(0, true),
+            Act::Turns(63, 1),
+            Act::Turns(0, 2),
             Act::Has(63, 0, Is::Open),
         ],
         left: (63, 0),
@@ -414,12 +345,12 @@ const ROWS: &[Row] = &[
         cores: 2,
         slots: 1,
         acts: &[
-            Act::Turns(0, false),
+            Act::Turns(0, 0),
             Act::Spawns(Sort {
                 is_exclusive: true,
                 ..SLEEPER
             }),
-            Act::Turns(0, true),
+            Act::Turns(0, 1),
             Act::Spawns(LONGEST),
             Act::Spawns(LEAF),
         ],
@@ -433,11 +364,11 @@ const ROWS: &[Row] = &[
         slots: 1,
         orders: &[(0, RELEASE, 1)],
         acts: &[
-            Act::Turns(0, false),
+            Act::Turns(0, 0),
             Act::Spawns(ELEVEN),
             Act::Orders(&[(0, GRANT, 1)]),
-            Act::Turns(0, true),
-            Act::Turns(1, false),
+            Act::Turns(0, 1),
+            Act::Turns(1, 0),
             Act::Has(0, 1, Is::Open),
             Act::Has(1, 0, Is::Open),
             Act::Works(0),
@@ -454,43 +385,3 @@ const ROWS: &[Row] = &[
         ..NOTHING
     },
 ];
-
-#[test]
-fn each_row_of_a_server_holds(rt: HostRuntime) -> Result<(), Fail> {
-    for row in ROWS {
-        assert!(rt; holds(&rt, rt.alloc(), row), "{}", row.shows);
-    }
-    Ok(())
-}
-
-const AMPLE: &[Row] = &[Row {
-    shows: "with ample memory each place gets a job",
-    acts: &[Act::Fills],
-    ..NOTHING
-}];
-
-/// The numbers of places of a core. Each number is tried with each number of cores.
-const SLOTS_OF: [u8; 4] = [1, 8, 30, 56];
-
-#[test]
-fn with_ample_memory_each_place_gets_a_job(rt: HostRuntime) -> Result<(), Fail> {
-    for cores in 1..=CORES {
-        for slots in SLOTS_OF {
-            let places = usize::from(cores) * usize::from(slots);
-            for row in AMPLE {
-                let row = Row {
-                    cores,
-                    slots,
-                    left: (places, 0),
-                    alive: places,
-                    ..*row
-                };
-                assert!(rt;
-                    holds(&rt, rt.alloc(), &row),
-                    "{cores} cores of {slots} places"
-                );
-            }
-        }
-    }
-    Ok(())
-}

@@ -19,51 +19,42 @@ const LOOKS: u32 = 1_000;
 /// How often a kernel thread checks, every 5 ms, for something that happens soon or never.
 const GLANCES: u32 = 2000;
 
-/// An act of one of a test case's kernel threads.
+/// What one of a test case's kernel threads does.
 #[derive(Clone, Copy)]
 pub(crate) enum Spell {
-    /// The kernel thread does nothing.
+    /// Does nothing.
     Not,
-    /// The kernel thread works on its core until no job is left, or the pool is stopped.
+    /// Works on its core until no job is left, or the pool is stopped.
     ToTheEnd,
-    /// Works on this core until all jobs have ended, as `ToTheEnd` does on the thread's own core.
+    /// Does the same on this core.
     ToTheEndOn(u8),
-    /// The kernel thread works as in `ToTheEnd` each time that the turn is passed to it, until the pool is stopped.
+    /// Works as in `ToTheEnd` each time that the turn is passed to it, until the pool is stopped.
     ToTheStop,
-    /// The kernel thread makes this number of rounds, and never calls `work`. If a job is left then, stops the pool. If
-    /// no job is left, ends at once.
+    /// Makes this number of rounds, and then stops the pool. Ends earlier once no job is left.
     Rounds(u32),
-    /// The kernel thread makes rounds on this core until its own core is open, for ten seconds at most. Then the kernel
-    /// thread stops the pool.
+    /// Makes rounds on this core until its own core is open, for ten seconds at most, and then stops the pool.
     TurnsUntilOpen(u8),
-    /// Once a job has begun elsewhere, the kernel thread works on its core while memory is used up, until memory is
-    /// refused. If `work` does not report the refusal, or if the refusal does not stop the pool, the kernel thread
-    /// counts an answer and stops the pool.
+    /// Once a job has begun elsewhere, works on its core while memory is used up, until memory is refused. Counts an
+    /// answer and stops the pool if `work` does not report that, or if the refusal does not stop the pool.
     InNeed,
-    /// The kernel thread spawns this number of leaves, which no worker may keep, and works for no core.
-    Spawns(u32),
-    /// The kernel thread spawns this number of leaves for core 1, each once that core's kernel thread sleeps and only
-    /// one job has not ended. Then the kernel thread calls `finish`, since no more leaves follow, and works to the end.
+    /// Spawns this number of leaves for core 1, each once that core's kernel thread sleeps and only one job has not
+    /// ended. Then calls `finish`, since no more leaves follow, and works to the end.
     Feeds(u32),
-    /// This number of times the kernel thread keeps a pool without a job open, and passes the turn. Once core 1's
-    /// kernel thread sleeps, this kernel thread calls `finish`, and waits until core 1's returns from its work. At last
-    /// this kernel thread stops the pool.
+    /// This number of times keeps a pool without a job open, passes the turn, calls `finish` once core 1's kernel
+    /// thread sleeps, and waits until that thread returns from its work. At last stops the pool.
     Finishes(u32),
-    /// This number of times an answer is counted once the job that wants it is about to sleep, and then the job is
-    /// woken. If the second value is true, the answer is counted only once the kernel thread of core 1 sleeps too.
+    /// This number of times counts an answer once the job that wants it is about to sleep, and wakes the job. If the
+    /// second value is true, it waits first until the kernel thread of core 1 sleeps too.
     Wakes(u32, bool),
-    /// This number of times the kernel thread spawns a job and passes the turn. Once that job has begun on core 1, the
-    /// kernel thread works to the end if the last value is true, or looks until all jobs have ended. Then the kernel
-    /// thread polls the handle, and counts an answer if the handle gives the result. At last the kernel thread stops
-    /// the pool.
+    /// This number of times spawns a job and passes the turn. Once that job has begun on core 1, works to the end if the
+    /// last value is true, or looks until all jobs have ended. Then polls the handle, and counts an answer if it gives
+    /// the result. At last stops the pool.
     Polls(u32, Sort, bool),
-    /// Once a job has begun on core 1, the kernel thread spawns a leaf there, ends the job that is alone on core 0, and
-    /// makes rounds on core 0 until the leaf has begun or an answer was counted. The kernel thread counts an answer if
-    /// a round has found something to do and the leaf has not begun. After the rounds it counts an answer in any case,
-    /// and works to the end.
+    /// Once a job has begun on core 1, spawns a leaf there, ends the job that is alone on core 0, and makes rounds on
+    /// core 0 until the leaf has begun or an answer was counted. Counts an answer if a round has found something to do
+    /// and the leaf has not begun, and one after the rounds; then works to the end.
     Fetches,
-    /// The kernel thread makes rounds on its core until only one job has not ended, which sleeps, and wakes that job
-    /// with an answer.
+    /// Makes rounds on its core until only one job has not ended, which sleeps, and wakes that job with an answer.
     WakesLast,
 }
 
@@ -97,7 +88,6 @@ pub(crate) fn work<C: Contexts<Spawned<Task>>, R: Wait + Clock>(
             turns_until_open::<C, R>(rt, pool, worker, other, core);
         }
         Spell::InNeed if core < pool.cores => in_need::<C, R>(rt, pool, board, worker, core),
-        Spell::Spawns(jobs) => spawns::<C, R>(rt, pool, board, worker, jobs),
         Spell::Feeds(jobs) if pool.cores > 1 => feeds::<C, R>(rt, pool, board, worker, jobs),
         Spell::Finishes(times) if pool.cores > 1 => finishes::<C, R>(rt, pool, board, times),
         Spell::Wakes(times, sleeps) => wakes::<C, R>(rt, pool, board, worker, times, sleeps),
@@ -127,11 +117,11 @@ fn to_the_stop<C: Contexts<Spawned<Task>>, R: Wait + Clock>(
 {
     let mut turns: u64 = 0;
     for _ in rt.forever() {
+        await_sign(rt, pool, board, Sign::Turns(turns));
         if pool.is_stopped() {
             return;
         }
-        board.await_turn(rt, turns);
-        turns = board.turns();
+        turns = board.turns.load(Ordering::SeqCst);
         let _ = pool.work(rt, worker, core);
         board.comes_back();
     }
@@ -203,24 +193,6 @@ fn in_need<C: Contexts<Spawned<Task>>, R: Wait + Clock>(
     if hoard.is_err() || worked != Err(PoolFault::Memory) || !pool.is_stopped() {
         board.answer();
         pool.stop();
-    }
-}
-
-/// Does `Spell::Spawns`.
-fn spawns<C: Contexts<Spawned<Task>>, R: Wait>(
-    rt: &R,
-    pool: &Pool<C>,
-    board: &Arc<Board>,
-    worker: &mut Worker<C::Seat, Task>,
-    jobs: u32,
-)
-    requires worker { IsWorkerOf C.sits C.idle pool.now.table pool.now.cores worker.old }
-    ensures worker { IsWorkerOf C.sits C.idle pool.now.table pool.now.cores worker.new }
-{
-    for _ in 0..jobs {
-        if let Some(task) = Task::new(LEAF, board) {
-            let _ = pool.spawn(rt, worker, task);
-        }
     }
 }
 
@@ -361,6 +333,8 @@ enum Sign {
     Begun(u64),
     /// Jobs were about to sleep more than this number of times.
     Sleeps(u64),
+    /// The turn was passed more than this number of times.
+    Turns(u64),
     /// Kernel threads have returned from their work more than this number of times.
     Returns(u64),
     /// At most this number of jobs have not ended.
@@ -377,6 +351,7 @@ fn await_sign<C: Seats, R: Wait>(rt: &R, pool: &Pool<C>, board: &Board, sign: Si
         let is_so = match sign {
             Sign::Begun(than) => board.begun.load(Ordering::SeqCst) > than,
             Sign::Sleeps(than) => board.sleeps.load(Ordering::SeqCst) > than,
+            Sign::Turns(than) => board.turns.load(Ordering::SeqCst) > than,
             Sign::Returns(than) => board.returns.load(Ordering::SeqCst) > than,
             Sign::Live(most) => pool.live() <= most,
             Sign::Asleep => pool.is_asleep(1),

@@ -39,8 +39,6 @@ pub(crate) enum Joins {
     InTurn,
     /// The job joins all children once it has forked the last one.
     AtLast,
-    /// The job joins only the last child, once it has forked that child.
-    Newest,
     /// The job joins no child.
     Never,
 }
@@ -119,7 +117,6 @@ impl Task {
         match self.sort.joins {
             Joins::InTurn => self.awaited > 0,
             Joins::AtLast => self.awaited > 0 && self.forked == self.sort.forks,
-            Joins::Newest => self.awaited > 0 && self.awaited == self.sort.forks,
             Joins::Never => false,
         }
     }

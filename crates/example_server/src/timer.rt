@@ -1,10 +1,10 @@
 //! The slow part for which some requests wait: a timer, which has their jobs woken after a while.
-ghost use Rattle.arachne_pool.specs.Workers.{IsIdleAt};
+ghost use Rattle.arachne_pool.specs.Workers.{IsWorkerOf};
 
 use crate::job::Job;
 use crate::server::Server;
 use arachne_core::ThreadId;
-use arachne_pool::{Spawned, Waker};
+use arachne_pool::{Spawned, Worker};
 use arachne_table::Contexts;
 use std::alloc::{AllocError, Global};
 use std::sync::Wait;
@@ -77,16 +77,16 @@ impl Timer {
 pub fn wake_due<R: Wait, C: Contexts<Spawned<Job>>>(
     rt: &R,
     server: &Server<'_, C>,
-    waker: &mut Waker<C::Seat>,
+    worker: &mut Worker<C::Seat, Job>,
     now: u64,
 )
-    requires { IsIdleAt C.sits C.idle server.now.pool.table waker.old }
-    ensures { IsIdleAt C.sits C.idle server.now.pool.table waker.new }
+    requires { IsWorkerOf C.sits C.idle server.now.pool.table server.now.pool.cores worker.old }
+    ensures { IsWorkerOf C.sits C.idle server.now.pool.table server.now.pool.cores worker.new }
 {
     let contexts = u32::from(server.pool.cores) * u32::from(server.pool.slots);
     for context in 0..contexts {
         if let Some(id) = server.timer.take_due(context, now) {
-            let _ = server.pool.wake::<R, Job>(rt, waker, id);
+            let _ = server.pool.wake(rt, worker, id);
         }
     }
 }
