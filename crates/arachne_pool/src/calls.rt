@@ -1,6 +1,4 @@
 //! The calls by which a worker works on a core, one round or until all jobs have ended, and wakes jobs that sleep.
-//!
-//! Like the worker's loop, the rounds are written over a trait, and not over tables and jobs.
 ghost use Rattle.std.specs.Prelude.{◌≡◌, ◌<◌, ◌↔◌, IfSome, IsNone, IsSome, IsTrue, MatchOption, None, OnOk};
 
 use crate::job::PoolJob;
@@ -13,6 +11,7 @@ use arachne_core::{MarkWord, ThreadId};
 use arachne_workers::{CoreWorker, Desk, WorkerEvent};
 use std::mem::replace;
 use std::sync::Wait;
+use std::sync::atomic::Ordering;
 use std::time::Clock;
 
 impl<C: Seats> Pool<C> {
@@ -79,7 +78,7 @@ impl<C: Seats> Pool<C> {
         ensures seat { HasSeatAfter worker.new.seat result }
         ensures same { WorksFor core worker.new }
     {
-        self.live.works_for(core);
+        self.worked.fetch_or(1 << u32::from(core), Ordering::SeqCst);
         let mut kernel = self.enter(rt, worker, core, true);
         let Some(rounds) = &mut kernel else {
             self.stop();
@@ -220,7 +219,6 @@ impl<C: Seats> Pool<C> {
                 held: None,
                 blocks: false,
                 has_taken: false,
-                is_drained: false,
                 bench,
             },
         }
@@ -272,17 +270,12 @@ impl<C: Seats> Pool<C> {
     }
 }
 
-/// A worker's desk (its access to the table and to the job in hand), as the rounds use it in addition to the worker's
-/// loop. No call changes the pool to which the worker's seat belongs.
+/// A worker's desk (its access to the table and to the job in hand), as the rounds use it beside the worker's loop.
 ///
 /// The trait has no associated types, so that the functions over it are proved in a fraction of the time.
 pub(crate) trait PoolDesk: Desk {
     /// Returns whether memory was refused since the last call.
     fn take_short(&mut self) -> bool
-        ensures { self.new ≡ self.old };
-
-    /// Returns whether the core was seen closed and empty since the last call.
-    fn take_drained(&mut self) -> bool
         ensures { self.new ≡ self.old };
 }
 
@@ -323,11 +316,11 @@ pub(crate) fn run<H: Wait + Clock, C: Seats, D: PoolDesk>(
             }
             return Ok(());
         }
+        let slices = kernel.slices;
         let found = round(kernel, idle)?;
         idle = if found { 0 } else { idle.saturating_add(1) };
-        // A round that parked has found something, and the worker may have been unparked because all jobs have ended.
-        let was_drained = kernel.desk.take_drained();
-        may_be_over = !found || was_drained;
+        // A round without a slice may have parked, and the worker may have been unparked because all jobs have ended.
+        may_be_over = !found || kernel.slices == slices;
     }
     unreachable!()
 }

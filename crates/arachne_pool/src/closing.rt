@@ -4,11 +4,11 @@ ghost use Rattle.arachne_policy.specs.Orders.{AreInOrder};
 ghost use Rattle.arachne_pool.specs.Jobs.{count_near};
 ghost use Rattle.arachne_pool.specs.Leftover.{IsWhole, count_placed};
 
-use crate::tally::Tally;
 use crate::job::PoolJob;
 use crate::orders::PoolOrders;
 use crate::pool::Pool;
 use crate::spawned::Spawned;
+use crate::tally::Tally;
 use crate::worker::{Bench, Worker};
 use arachne_contexts::{Contexts, Seats};
 use arachne_core::ThreadId;
@@ -40,7 +40,7 @@ impl<J: PoolJob> Left<J> {
 /// The reason why `close` has not closed the pool, with what it gives back.
 #[derive(Drop)]
 pub enum NotClosed<C: Seats, J: PoolJob> {
-    /// Another worker or a waker has a part of the seat, or this worker has no seat. Pool and worker are returned.
+    /// Another worker has a part of the seat, or this worker has no seat. Pool and worker are returned.
     NotWhole(Pool<C>, Worker<C::Seat, J>),
     /// Memory was refused. The table, its seat and the jobs that had no place are returned.
     Memory(C, C::Seat, VecDeque<Spawned<J>>),

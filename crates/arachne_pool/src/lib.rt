@@ -26,7 +26,7 @@ pub use closing::{Left, NotClosed};
 pub use handle::Handle;
 pub use job::{PoolJob, Step};
 pub use pool::Pool;
-pub use running::{Finished, RunFault, Unfinished};
+pub use running::{Finished, Unfinished};
 pub use spawned::Spawned;
 pub use spawning::{Refusal, Refused};
 pub use stack::Jobs;

@@ -12,9 +12,7 @@ use std::snapshot::Snapshot;
 
 /// The children of jobs in one place that were forked and not joined. Each child that has begun elsewhere has a cell
 /// for its result. The children that have not begun are kept in this value, and are newer than those that have begun.
-///
-/// Contracts see all these children, each as it was forked, the newest first, and the number of those that have not
-/// begun.
+/// Contracts see all of them as they were forked, the newest first, and the number of those that have not begun.
 #[derive(Drop)]
 pub(crate) struct Links<J: PoolJob> {
     begun: Vec<ResultReceiver<J>>,

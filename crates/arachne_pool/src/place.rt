@@ -1,6 +1,4 @@
 //! Claims a free place for a job and puts the job there, and frees the place when the job has ended.
-//!
-//! The functions of this module may use the table, by the seat that they are given.
 ghost use Rattle.std.specs.Prelude.{◌≡◌, ◌∷◌, [], IfErr, IfOk, IfSome, MatchOption, OnErr, OnOk};
 ghost use Rattle.arachne_arbiter.specs.Placed.{GetsPlace};
 ghost use Rattle.arachne_contexts.specs.Out.{Claim, HasOut, KeepsOut};
@@ -28,14 +26,8 @@ pub(crate) struct Posted<J: PoolJob> {
 }
 
 impl<J: PoolJob> Posted<J> {
-    /// Signals the core's worker at once, since the thread that has posted the job may make no round of its own.
-    pub(crate) fn tell(self, shared: &SharedWords) {
-        let Posted { at, job: _ } = self;
-        shared.hint(at.place);
-    }
-
-    /// Signals the worker of the job's core. If that core is `core`, whose worker has posted the job, returns the job's
-    /// id and place instead.
+    /// Signals the worker of the job's core. If that core is `core`, whose worker has posted the job and makes the next
+    /// round, returns the job's id and place instead.
     #[inline(always)]
     pub(crate) fn tell_unless_on(self, core: u8, shared: &SharedWords) -> Option<PostedThread>
         ensures { IfSome result (λ post. post.place.core ≡ core) }

@@ -4,10 +4,10 @@ ghost use Rattle.arachne_core.specs.declared.layout.TheConstants.{CORES, SLOTS};
 ghost use Rattle.arachne_policy.specs.Orders.{AreInOrder};
 ghost use Rattle.arachne_pool.specs.Leftover.{IsWhole};
 
-use crate::tally::Live;
 use crate::job::PoolJob;
 use crate::orders::PoolOrders;
 use crate::spawned::Spawned;
+use crate::tally::Live;
 use crate::worker::Worker;
 use arachne_arbiter::Cores;
 use arachne_contexts::{Contexts, Seats};
@@ -37,6 +37,8 @@ pub struct Pool<C: Seats> {
     pub(crate) exclusive: AtomicU64,
     /// 1 while the pool is kept open.
     open: AtomicU64,
+    /// A bit for each core for which a kernel thread has called `work`.
+    pub(crate) worked: AtomicU64,
     /// The number of sleeps that timed out although there was something to do.
     pub(crate) overslept: AtomicU64,
     ghost counted: { C.core_count table ≡ cores },
@@ -84,6 +86,7 @@ impl<C: Seats + Drop> Pool<C> {
             room: CachePadded::new(AtomicU64::new(1)),
             exclusive: AtomicU64::new(0),
             open: AtomicU64::new(0),
+            worked: AtomicU64::new(0),
             overslept: AtomicU64::new(0),
         };
         let mut worker = Worker::new(alloc, Some(seat), 0);

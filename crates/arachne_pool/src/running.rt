@@ -5,12 +5,12 @@ ghost use Rattle.arachne_pool.specs.Running.{HandsBackRun, IsFirst};
 ghost use Rattle.arachne_pool.specs.Workers.{IsWorkerOf};
 
 use crate::closing::Left;
-use crate::tally::Tally;
 use crate::handle::Handle;
 use crate::job::PoolJob;
 use crate::pool::Pool;
 use crate::spawned::Spawned;
 use crate::spawning::Refused;
+use crate::tally::Tally;
 use crate::worker::{PoolFault, Worker};
 use arachne_contexts::{Contexts, Seats};
 use arachne_core::{CORES, SLOTS};
@@ -21,7 +21,6 @@ use std::snapshot::Snapshot;
 use std::sync::{Mutex, Wait};
 use std::thread::{Threads, available_parallelism};
 use std::time::Clock;
-use thiserror::Error;
 
 /// A job that was run to its end. All jobs that it has forked have ended too.
 #[derive(Drop)]
@@ -32,50 +31,38 @@ pub struct Finished<O> {
     pub tally: Tally,
 }
 
-/// The reason why a job was not run to its end. If several kernel threads meet a fault, it is the first that was
-/// recorded.
-#[derive(Clone, Copy, Debug, PartialEq, Eq, Error)]
-pub enum RunFault {
-    /// The system started no kernel thread for a core.
-    #[error("a kernel thread was refused")]
-    KernelThread,
-    /// The fault of a worker, or memory was refused before one worked.
-    #[error("{0}")]
-    Worker(PoolFault),
-}
-
-impl From<TeamFault> for RunFault {
+impl From<TeamFault> for PoolFault {
     ghost use Rattle.std.specs.Prelude.{◌≡◌};
     ghost use Rattle.arachne_pool.specs.Running.{of_team};
 
     ghost from_gives = { λ fault e. e ≡ of_team fault };
 
-    fn from(fault: TeamFault) -> RunFault {
+    fn from(fault: TeamFault) -> PoolFault {
         match fault {
-            TeamFault::Memory => RunFault::Worker(PoolFault::Memory),
-            TeamFault::KernelThread => RunFault::KernelThread,
+            TeamFault::Memory => PoolFault::Memory,
+            TeamFault::KernelThread => PoolFault::KernelThread,
         }
     }
 }
 
-/// The error of `Pool::run` if the job has not ended: the fault, and the jobs that are left.
+/// The error of `Pool::run` if the job has not ended: the fault that was recorded first, and the jobs that are left.
 #[derive(Drop)]
 pub enum Unfinished<J: PoolJob> {
     /// Memory or a kernel thread was refused before the job was spawned. The job is returned.
-    NotSpawned(RunFault, J),
+    NotSpawned(PoolFault, J),
     /// All kernel threads were stopped for a fault. The jobs that have not ended are returned; with those that have,
     /// they are as many as were spawned.
-    Stopped(RunFault, Tally, Left<J>),
+    Stopped(PoolFault, Tally, Left<J>),
     /// All kernel threads were stopped for a fault, and the jobs that have not ended are dropped: memory was refused
     /// once more as they were put together, or the table didn't know a place or a job that a worker had of it.
-    Lost(RunFault),
+    Lost(PoolFault),
 }
 
 impl<J: PoolJob> Unfinished<J> {
     ghost use Rattle.arachne_pool.specs.Running.{fault_of};
 
     /// Returns why the job was not run to its end.
-    pub fn why(&self) -> RunFault
+    pub fn why(&self) -> PoolFault
         ensures { result ≡ fault_of self.now }
     {
         match self {
@@ -123,7 +110,7 @@ where
     {
         let made = Pool::<WordContexts<Spawned<J>>>::new::<J>(alloc, cores, SLOTS, Vec::new(alloc));
         let Ok((pool, worker)) = made else {
-            return Err(Unfinished::NotSpawned(RunFault::Worker(PoolFault::Memory), job));
+            return Err(Unfinished::NotSpawned(PoolFault::Memory, job));
         };
         // Until the job is spawned, by the first kernel thread once all have begun.
         pool.keep_open();
@@ -156,7 +143,7 @@ struct Crew<'p, C: Seats, J> {
     pool: &'p Pool<C>,
     /// The job before its first step. It has no bytes.
     asked: Snapshot<J>,
-    first_fault: Mutex<Option<RunFault>>,
+    first_fault: Mutex<Option<PoolFault>>,
 }
 
 /// The share of one kernel thread: its worker, and for the first kernel thread also the job's handle, or the job if it
@@ -169,7 +156,7 @@ struct Share<S, J: PoolJob> {
 
 impl<'p, C: Seats, J: PoolJob> Crew<'p, C, J> {
     /// Stops all kernel threads for a fault, and records it if it is the first.
-    fn stop_for<R: Wait>(&self, rt: &R, fault: RunFault) {
+    fn stop_for<R: Wait>(&self, rt: &R, fault: PoolFault) {
         let mut first = self.first_fault.lock(rt);
         if first.is_none() {
             *first = Some(fault);
@@ -178,7 +165,7 @@ impl<'p, C: Seats, J: PoolJob> Crew<'p, C, J> {
     }
 
     /// Returns the fault that was recorded first.
-    fn into_first_fault(self) -> Option<RunFault> {
+    fn into_first_fault(self) -> Option<PoolFault> {
         let Crew { first_fault, .. } = self;
         first_fault.into_inner()
     }
@@ -208,7 +195,7 @@ impl<'p, C: Seats, J: PoolJob> Crew<'p, C, J> {
             }
             Err(refused) => {
                 let Refused { job, .. } = refused;
-                self.stop_for(rt, RunFault::Worker(PoolFault::Memory));
+                self.stop_for(rt, PoolFault::Memory);
                 Err(job)
             }
         }
@@ -256,7 +243,7 @@ impl<'p, J: PoolJob, C: Contexts<Spawned<J>>> Team<Share<C::Seat, J>> for Crew<'
             None => None,
         };
         if let Err(fault) = self.pool.work(rt, &mut worker, number) {
-            self.stop_for(rt, RunFault::Worker(fault));
+            self.stop_for(rt, fault);
         }
         Some(Share { worker, first })
     }
@@ -273,7 +260,7 @@ impl<'p, J: PoolJob, C: Contexts<Spawned<J>>> Team<Share<C::Seat, J>> for Crew<'
     }
 
     fn fail<R: Wait>(&self, rt: &R, fault: TeamFault) {
-        self.stop_for(rt, RunFault::from(fault));
+        self.stop_for(rt, PoolFault::from(fault));
     }
 }
 
@@ -283,7 +270,7 @@ fn end<C: Contexts<Spawned<J>> + Drop, R: Wait, J: PoolJob>(
     alloc: Global,
     pool: Pool<C>,
     share: Option<Share<C::Seat, J>>,
-    fault: Option<RunFault>,
+    fault: Option<PoolFault>,
     asked: &Snapshot<J>,
 ) -> Result<Finished<J::Output>, Unfinished<J>>
     requires worker { IfSome share (λ share. IsWorkerOf C.sits C.idle pool.table pool.cores share.worker) }
@@ -292,7 +279,7 @@ fn end<C: Contexts<Spawned<J>> + Drop, R: Wait, J: PoolJob>(
     ensures all { IfOk result (λ done. done.tally.ended ≡ done.tally.spawned) }
     ensures handed_back { IfErr result (HandsBackRun asked.now.value) }
 {
-    let why = fault.unwrap_or(RunFault::Worker(PoolFault::Stopped));
+    let why = fault.unwrap_or(PoolFault::Stopped);
     let Some(Share { worker, first }) = share else {
         return Err(Unfinished::Lost(why));
     };

@@ -39,8 +39,6 @@ pub(crate) struct Seat<'a, H, J: PoolJob, C: Contexts<Spawned<J>>> {
     pub(crate) blocks: bool,
     /// True if a job was taken since the worker last checked whether others have too many jobs.
     pub(crate) has_taken: bool,
-    /// True if the last look at the core found the core closed and empty, and no call has read this field since.
-    pub(crate) is_drained: bool,
     pub(crate) bench: Bench<J>,
 }
 
@@ -261,8 +259,7 @@ impl<'a, H: Wait, J: PoolJob, C: Contexts<Spawned<J>>> Desk for Seat<'a, H, J, C
     }
 
     fn is_drained(&mut self) -> bool {
-        self.is_drained = is_drained(self.look());
-        self.is_drained
+        is_drained(self.look())
     }
 
     fn begins(&self, _nth: u64) {}
@@ -278,10 +275,6 @@ impl<'a, H: Wait, J: PoolJob, C: Contexts<Spawned<J>>> Desk for Seat<'a, H, J, C
 impl<'a, H: Wait, J: PoolJob, C: Contexts<Spawned<J>>> PoolDesk for Seat<'a, H, J, C> {
     fn take_short(&mut self) -> bool {
         replace(&mut self.bench.is_short, false)
-    }
-
-    fn take_drained(&mut self) -> bool {
-        replace(&mut self.is_drained, false)
     }
 }
 
@@ -381,7 +374,10 @@ impl<'a, H: Wait, J: PoolJob, C: Contexts<Spawned<J>>> Seat<'a, H, J, C> {
                 && self.move_here(place)
             {
                 let hints = self.pool.shared.hints();
-                hints.hint(self.core, self.pool.glance::<H, J>(self.rt, self.core).mask());
+                hints.hint(
+                    self.core,
+                    self.pool.glance::<H, J>(self.rt, self.core).mask(),
+                );
                 return true;
             }
         }
@@ -407,12 +403,13 @@ impl<'a, H: Wait, J: PoolJob, C: Contexts<Spawned<J>>> Seat<'a, H, J, C> {
     }
 
     /// Returns a place of another core at which a job may be ready, if that core's worker is awake and has not reached
-    /// the place yet. In a `turn` only those cores count for which a kernel thread has called `work`. This worker may
-    /// make the rounds of the other cores itself, and would move jobs to and fro between them.
+    /// the place yet. In a `turn` only cores for which a kernel thread has called `work` count: this worker may make the
+    /// rounds of the others itself.
     fn waiting_on(&self, core: u8) -> Option<Place>
         requires { core < self.now.cores }
     {
-        if core == self.core || !self.works && !self.pool.live.is_worked(core) {
+        let worked = self.pool.worked.load(Ordering::SeqCst) >> u32::from(core) & 1 != 0;
+        if core == self.core || !self.works && !worked {
             return None;
         }
         let word = self.pool.shared.hints().word(core)?;
@@ -425,7 +422,6 @@ impl<'a, H: Wait, J: PoolJob, C: Contexts<Spawned<J>>> Seat<'a, H, J, C> {
         let index = u8::try_from(waiting.trailing_zeros()).ok()?;
         Some(Place { core, index })
     }
-
 }
 
 /// Returns the seat of a worker whose rounds are over, unless the seat still has a place or a job.

@@ -16,9 +16,8 @@ use std::snapshot::Snapshot;
 /// child that the job has forked while no place was free waits in this value, and runs in the job's place once the job
 /// awaits the child.
 ///
-/// Contracts see the job's tag; the job as it was spawned; and the id under which its parent runs, if the parent has to
-/// be woken. Contracts also see the jobs that have not ended and run or wait in the job's place, as they are now, and
-/// the number of these jobs.
+/// Contracts see the job's tag, the job as it was spawned, the id under which its parent runs, if the parent has to be
+/// woken, and the jobs that have not ended and run or wait in the job's place, as they are now, with their number.
 #[derive(Drop)]
 pub struct Spawned<J: PoolJob> {
     tag: u64,

@@ -164,7 +164,8 @@ impl<C: Seats> Pool<C> {
                 self.live.add(worker.core, worker.bench.news());
                 match post::<H, J, C>(rt, self, &mut seat, claim, job) {
                     Ok(posted) => {
-                        posted.tell(&self.shared);
+                        // Also the worker's own core: it may make no round.
+                        posted.tell_unless_on(u8::MAX, &self.shared);
                         worker.seat = Some(seat);
                         Ok(handle)
                     }

@@ -4,10 +4,10 @@ ghost use Rattle.arachne_pool.specs.Frames.{CountsEach, IsServed, KeepsMany, cou
 ghost use Rattle.arachne_pool.specs.Jobs.{children_of};
 ghost use Rattle.arachne_pool.specs.Stops.{blocks_after};
 
-use crate::tally::Tally;
 use crate::handle::Cells;
 use crate::job::{PoolJob, Step};
 use crate::links::Links;
+use crate::tally::Tally;
 use arachne_core::ThreadId;
 use std::alloc::Global;
 use std::collections::VecDeque;
@@ -82,9 +82,9 @@ impl<J: PoolJob> JobFrame<J> {
 /// A job and the jobs that run in its place. Each job above the first was forked by the job below it, which awaits it
 /// and found no place for it. Only the topmost job makes steps.
 ///
-/// Contracts see the first job, as it was spawned, and the jobs that have not ended, as they are now, also those that
-/// wait in this place to begin, and the number of these jobs. Contracts also see what the topmost job has forked just
-/// now, or has ended with, and whether it has asked for the result of its newest child.
+/// Contracts see the first job, as it was spawned, and the jobs that have not ended, as they are now, with their number.
+/// They also see what the topmost job has forked just now, or has ended with, and whether it has asked for the result
+/// of its newest child.
 #[derive(Drop)]
 pub(crate) struct Stack<J: PoolJob> {
     /// The first job as it was spawned. The field has no bytes.
@@ -266,8 +266,7 @@ impl<J: PoolJob> Stack<J> {
         }
     }
 
-    /// Gives the topmost job the result of its newest child, if the child has ended. If the child has not begun, begins
-    /// it in this place.
+    /// Gives the topmost job the result of its newest child, if it has ended, or begins that child in this place.
     fn receive(&mut self, cells: &mut Cells<J>) -> JobStop
         requires running { (self.old.ended ≡ None) × (self.old.child ≡ None) × (self.old.waits ≡ true) }
         ensures same { KeepsMany self.old self.new }
@@ -313,8 +312,7 @@ impl<J: PoolJob> Stack<J> {
         JobStop::Goes
     }
 
-    /// Gives the result of the topmost job to the job below it, which goes on. The result of the first job stays in
-    /// this value.
+    /// Gives the result of the topmost job to the job below it. The result of the first job stays in this value.
     fn pass_on(&mut self) -> JobStop
         requires { IsSome self.old.ended }
         ensures same { KeepsMany self.old self.new }

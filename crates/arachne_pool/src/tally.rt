@@ -47,8 +47,6 @@ impl Tally {
 struct CoreCounts {
     spawned: AtomicU64,
     ended: AtomicU64,
-    /// 1 once a kernel thread has called `work` for the core.
-    worked: AtomicU64,
 }
 
 /// The counts of all workers. The counts of each core are on a cache line of their own. Behind these are the counts of
@@ -66,7 +64,6 @@ impl Live {
             told.push(CachePadded::new(CoreCounts {
                 spawned: AtomicU64::new(0),
                 ended: AtomicU64::new(0),
-                worked: AtomicU64::new(0),
             }))?;
         }
         Ok(Live { told })
@@ -83,21 +80,6 @@ impl Live {
             if news.ended != 0 {
                 told.ended.fetch_add(news.ended, Ordering::SeqCst);
             }
-        }
-    }
-
-    /// Notes that a kernel thread has called `work` for this core.
-    pub(crate) fn works_for(&self, core: u8) {
-        if let Some(told) = self.told.get(usize::from(core)) {
-            told.worked.store(1, Ordering::SeqCst);
-        }
-    }
-
-    /// Returns whether a kernel thread has called `work` for this core.
-    pub(crate) fn is_worked(&self, core: u8) -> bool {
-        match self.told.get(usize::from(core)) {
-            Some(told) => told.worked.load(Ordering::SeqCst) != 0,
-            None => false,
         }
     }
 

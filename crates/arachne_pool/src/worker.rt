@@ -5,12 +5,12 @@ ghost use Rattle.std.specs.VecDeque.{deque_capacity, deque_len};
 ghost use Rattle.arachne_pool.specs.Jobs.{one};
 ghost use Rattle.arachne_pool.specs.Workers.{HasNoCore};
 
-use crate::tally::Tally;
 use crate::handle::{Cells, Handle, WantedResult};
 use crate::job::PoolJob;
 use crate::orders::PoolOrders;
 use crate::pool::Pool;
 use crate::spawned::Spawned;
+use crate::tally::Tally;
 use arachne_arbiter::Pace;
 use arachne_contexts::Seats;
 use arachne_workers::{Agenda, Halt};
@@ -36,6 +36,9 @@ pub enum PoolFault {
     /// The pool was stopped.
     #[error("the pool was stopped")]
     Stopped,
+    /// The system started no kernel thread for a core. Only `Pool::run` reports this.
+    #[error("a kernel thread was refused")]
+    KernelThread,
 }
 
 /// Returns the error of a worker's loop whose table didn't know a place or a job that it had given to the worker.
@@ -152,8 +155,8 @@ impl<J: PoolJob> Bench<J> {
 /// A worker: a kernel thread's access to a pool. A worker is used by one kernel thread at a time, for one core.
 ///
 /// Contracts see the worker's seat; the orders by which cores are closed and opened, if the worker has them; its jobs
-/// that have no place, and their number. Contracts also see the worker's counts, the part of the counts that it has
-/// reported, and the core for which it was last called.
+/// that have no place, and their number; its counts, and what it has reported of them; and the core for which it was
+/// last called.
 #[derive(Drop)]
 pub struct Worker<S, J: PoolJob> {
     pub(crate) seat: Option<S>,

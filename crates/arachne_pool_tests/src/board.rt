@@ -1,8 +1,8 @@
 //! The counts and replies that the jobs of a row (a test case) share with the kernel threads that wake them.
 use arachne_core::ThreadId;
 use std::alloc::Global;
-use std::sync::atomic::{AtomicU64, Ordering};
 use std::sync::Arc;
+use std::sync::atomic::{AtomicU64, Ordering};
 use std::thread::yield_now;
 
 /// The number of looks at a word before a job rests, which take some microseconds.

@@ -42,8 +42,7 @@ pub(crate) fn orders_of(alloc: Global, orders: &[Order], cores: u8) -> Option<Ve
     Some(list)
 }
 
-/// An act of a row: the worker does something, or checks something. The row fails if the result is not the one that the
-/// act states.
+/// An act of a row. The row fails if the result of the act is not the one that the act states.
 #[derive(Clone, Copy)]
 pub(crate) enum Act {
     /// A job is spawned.
@@ -72,8 +71,7 @@ pub(crate) enum Act {
     Counts(u64),
     /// The jobs have made this number of steps.
     Stepped(u64),
-    /// Sleeps of kernel threads have timed out, although there was something for them to do, at least the first number
-    /// of times, and at most the second.
+    /// Sleeps have timed out although there was something to do, at least and at most this number of times.
     Overslept(u64, u64),
     /// The worker works on a core until no job is left, or it must stop.
     Works(u8),
@@ -373,8 +371,7 @@ fn spawns<C: Contexts<Spawned<Task>>, R: Wait>(
     true
 }
 
-/// Tries to spawn a job that the worker may not keep. Returns true if it is refused for this reason, or spawned if
-/// there is none.
+/// Tries to spawn a job. Returns true if it is refused for this reason, or spawned if there is none.
 fn tries<C: Contexts<Spawned<Task>>, R: Wait>(
     rt: &R,
     pool: &Pool<C>,
@@ -395,9 +392,8 @@ fn tries<C: Contexts<Spawned<Task>>, R: Wait>(
     }
 }
 
-/// Spawns a job while memory is used up, and makes rounds on core 0 until all jobs have ended. After a refusal, tries
-/// again with a little more memory. Returns true if all jobs have ended, and a spawn and more than 20 rounds were
-/// refused.
+/// Spawns a job while memory is used up, and makes rounds on core 0 until all jobs have ended, with a little more memory
+/// after each refusal. Returns true if all have ended, and a spawn and more than 20 rounds were refused.
 fn ends_in_need<C: Contexts<Spawned<Task>>, R: Wait + Clock>(
     rt: &R,
     alloc: Global,

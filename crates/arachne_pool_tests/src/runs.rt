@@ -2,7 +2,7 @@
 use crate::board::Board;
 use crate::rows::{ALONE_PARENT, TREE};
 use crate::tasks::{PARENT, Sort, Task};
-use arachne_pool::{Pool, PoolFault, RunFault, Tally, Unfinished};
+use arachne_pool::{Pool, PoolFault, Tally, Unfinished};
 use arachne_shortage::Hoard;
 use std::alloc::Global;
 use std::sync::Wait;
@@ -16,11 +16,11 @@ enum Comes {
     /// The job ends, and has counted this many jobs.
     Ends(u64),
     /// The job, which was not spawned, is returned.
-    NotSpawned(RunFault),
+    NotSpawned(PoolFault),
     /// All workers are stopped, and this number of jobs with a place are returned.
-    Stopped(RunFault, usize),
+    Stopped(PoolFault, usize),
     /// All workers are stopped, and the jobs are dropped.
-    Lost(RunFault),
+    Lost(PoolFault),
 }
 
 /// A job that is run on this many cores, while only this many bytes of memory are free, if there is a number.
@@ -46,7 +46,7 @@ const ROWS: &[Row] = &[
         shows: "a job is returned if a kernel thread is refused",
         sort: PARENT,
         free: Some(700_000),
-        comes: Comes::NotSpawned(RunFault::KernelThread),
+        comes: Comes::NotSpawned(PoolFault::KernelThread),
         ..TREE_ON_TWO
     },
     Row {
@@ -112,9 +112,6 @@ fn each_job_is_run_to_its_end_or_returned(rt: HostRuntime) -> Result<(), Fail> {
     Ok(())
 }
 
-/// Refused memory, as a worker reports it.
-const MEMORY: RunFault = RunFault::Worker(PoolFault::Memory);
-
 #[test]
 fn a_job_is_returned_wherever_memory_ends(rt: HostRuntime) -> Result<(), Fail> {
     let (mut unspawned, mut stopped) = (0u32, 0u32);
@@ -124,13 +121,15 @@ fn a_job_is_returned_wherever_memory_ends(rt: HostRuntime) -> Result<(), Fail> {
             cores: 1,
             sort: PROLIFIC,
             free: Some(step * 20_000),
-            comes: Comes::Stopped(MEMORY, 1),
+            comes: Comes::Stopped(PoolFault::Memory, 1),
         };
         let comes = run(&rt, rt.alloc(), &row);
-        unspawned = unspawned.saturating_add(u32::from(comes == Some(Comes::NotSpawned(MEMORY))));
+        unspawned = unspawned.saturating_add(u32::from(
+            comes == Some(Comes::NotSpawned(PoolFault::Memory)),
+        ));
         stopped = stopped.saturating_add(u32::from(comes == Some(row.comes)));
-        let is_known = comes == Some(Comes::NotSpawned(MEMORY))
-            || comes == Some(Comes::Lost(MEMORY))
+        let is_known = comes == Some(Comes::NotSpawned(PoolFault::Memory))
+            || comes == Some(Comes::Lost(PoolFault::Memory))
             || comes == Some(row.comes);
         assert!(rt; is_known, "{}", row.shows);
     }

@@ -27,8 +27,7 @@ pub(crate) struct Sort {
     pub(crate) is_exclusive: bool,
     /// True if the job's first child is exclusive, even if the job itself is not.
     pub(crate) is_first_exclusive: bool,
-    /// True if the job's first step lasts until an answer was counted, so that its kernel thread runs no other job
-    /// meanwhile.
+    /// True if the job's first step lasts until an answer was counted.
     pub(crate) is_held: bool,
 }
 
