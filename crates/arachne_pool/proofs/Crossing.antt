@@ -113,7 +113,7 @@ module _ (J O : RattleType) (P : pool_job.Ghosts J.Denot O.Denot) (G : tagged.Gh
     worker_send = search (sendable, worker_in_send) depth 10
 
     pub share_send : IsSend (share.the_row S J O P G)
-    share_send = fields_send (share.the_type S J O P G) (worker_send, (search (sendable, std.crosses, s, handle_send) depth 30, tt))
+    share_send = fields_send (share.the_type S J O P G) (worker_send, (search (sendable, std.crosses, s) depth 20, (search (sendable, std.crosses, handle_send) depth 20, tt)))
 
 -- what the kernel threads of a run have in common may be looked at by all, if its table may
 module _ (κ : NamedLft) (C Job S : RattleType) (G : seats.Ghosts C.Denot S.Denot) (table : IsSync C) where

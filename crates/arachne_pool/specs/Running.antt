@@ -1,5 +1,5 @@
 -- What comes of a job that is run.
-use Rattle.std.specs.Prelude.{◌≡◌, ◌+◌, Result, Ok, Err}
+use Rattle.std.specs.Prelude.{◌≡◌, ◌+◌}
 use Rattle.arachne_pool.specs.Leftover.{count_of}
 use Rattle.arachne_pool.specs.declared.running.Unfinished.{Unfinished}
 use Rattle.arachne_pool.specs.declared.running.Unfinished.TheVariants.{NotSpawned, Stopped, Lost}
@@ -25,8 +25,3 @@ abbrev pub HandsBackRun : {Job Output : Type 0} → Job → Unfinished Job Outpu
 HandsBackRun job (NotSpawned why back) = back ≡ job
 HandsBackRun job (Stopped why tally left) = tally.spawned ≡ tally.ended + count_of left
 HandsBackRun job (Lost why) = Unit {0}
-
--- the first job's handle, or the job where it is not spawned
-abbrev pub IsFirst : {Job : Type 0} → Job → Result Job Job → Type 0
-IsFirst asked (Ok handle) = handle ≡ asked
-IsFirst asked (Err job) = job ≡ asked

@@ -317,28 +317,18 @@ pub(crate) fn run<H: Wait + Clock, C: Seats, D: PoolDesk>(
             return Ok(());
         }
         let slices = kernel.slices;
-        let found = round(kernel, idle)?;
-        idle = if found { 0 } else { idle.saturating_add(1) };
+        let found = kernel.round(idle)?;
+        if kernel.desk.take_short() {
+            return Err(PoolFault::Memory);
+        }
         // A round without a slice may have parked, and the worker may have been unparked because all jobs have ended.
-        may_be_over = !found || kernel.slices == slices;
+        may_be_over = kernel.slices == slices;
+        if found {
+            idle = 0;
+        } else {
+            kernel.rest_for(idle);
+            idle = idle.saturating_add(1);
+        }
     }
     unreachable!()
-}
-
-/// Makes one round, and waits if it found nothing to do. Returns whether it found something. `idle` is the number of
-/// consecutive rounds before this one that found nothing.
-fn round<H: Wait + Clock, D: PoolDesk>(
-    kernel: &mut CoreWorker<'_, H, D>,
-    idle: u32,
-) -> Result<bool, PoolFault>
-    ensures { kernel.new.desk ≡ kernel.old.desk }
-{
-    let found = kernel.round(idle)?;
-    if kernel.desk.take_short() {
-        return Err(PoolFault::Memory);
-    }
-    if !found {
-        kernel.rest_for(idle);
-    }
-    Ok(found)
 }

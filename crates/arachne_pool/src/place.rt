@@ -7,7 +7,7 @@ ghost use Rattle.arachne_pool.specs.Jobs.{PartsOne};
 
 use crate::job::PoolJob;
 use crate::pool::Pool;
-use crate::spawned::{Ended, Spawned};
+use crate::spawned::Spawned;
 use crate::worker::{Bench, disowned};
 use arachne_contexts::{Contexts, Held, Placed};
 use arachne_workers::{Halt, PostedThread, SharedWords};
@@ -164,30 +164,4 @@ pub(crate) fn post_oldest<H: Wait, J: PoolJob, C: Contexts<Spawned<J>>>(
     };
     let post = post::<H, J, C>(rt, pool, seat, claim, child)?;
     Ok(Some(post))
-}
-
-/// Ends a job with all jobs that ran in its place: frees the place, and leaves the result. The result is left even if
-/// the table doesn't know the place.
-#[inline(always)]
-pub(crate) fn end<H: Wait, J: PoolJob, C: Contexts<Spawned<J>>>(
-    rt: &H,
-    pool: &Pool<C>,
-    seat: &mut C::Seat,
-    held: Held<Spawned<J>, C::Hold>,
-) -> Result<Ended<J>, Ended<J>>
-    requires seat { C.sits pool.now.table seat.old }
-    requires out { C.has pool.now.table seat.old (thread_in (λ s. s.tag) held ∷ []) }
-    requires over { held.value.many ≡ 0 }
-    ensures seat { C.sits pool.now.table seat.new }
-    ensures out { OnOk result (C.has pool.now.table seat.new []) }
-    ensures ended { IfOk result (λ ended. ended.job.value ≡ held.value) }
-    ensures disowned { IfErr result (λ ended. ended.job.value ≡ held.value) }
-{
-    match pool.table.finish(rt, seat, held) {
-        Ok(job) => {
-            pool.room_was_seen();
-            Ok(job.leave())
-        }
-        Err(held) => Err(held.value.leave()),
-    }
 }

@@ -1,7 +1,7 @@
 //! A job that is run to its end, with all that it forks, on as many kernel threads as cores.
 ghost use Rattle.std.specs.Prelude.{◌≡◌, ◌≤◌, [], IfErr, IfOk, IfSome};
 ghost use Rattle.arachne_core.specs.declared.layout.TheConstants.{CORES};
-ghost use Rattle.arachne_pool.specs.Running.{HandsBackRun, IsFirst};
+ghost use Rattle.arachne_pool.specs.Running.{HandsBackRun};
 ghost use Rattle.arachne_pool.specs.Workers.{IsWorkerOf};
 
 use crate::closing::Left;
@@ -120,8 +120,12 @@ where
             asked: Snapshot::of(&job),
             first_fault: Mutex::new(None),
         };
-        let first = Some(Err(job));
-        let share = work_together(rt, alloc, &crew, Share { worker, first });
+        let share = Share {
+            worker,
+            job: Some(job),
+            handle: None,
+        };
+        let share = work_together(rt, alloc, &crew, share);
         let fault = crew.into_first_fault();
         end(rt, alloc, pool, share, fault, &asked)
     }
@@ -146,12 +150,13 @@ struct Crew<'p, C: Seats, J> {
     first_fault: Mutex<Option<PoolFault>>,
 }
 
-/// The share of one kernel thread: its worker, and for the first kernel thread also the job's handle, or the job if it
-/// is not spawned.
+/// The share of one kernel thread: its worker, and for the first kernel thread also the job, or once that is spawned its
+/// handle.
 #[derive(Drop)]
 struct Share<S, J: PoolJob> {
     worker: Worker<S, J>,
-    first: Option<Result<Handle<J>, J>>,
+    job: Option<J>,
+    handle: Option<Handle<J>>,
 }
 
 impl<'p, C: Seats, J: PoolJob> Crew<'p, C, J> {
@@ -170,33 +175,38 @@ impl<'p, C: Seats, J: PoolJob> Crew<'p, C, J> {
         first_fault.into_inner()
     }
 
-    /// Spawns the job, after which no more come. Returns the job if memory is refused, or if the pool was stopped since
-    /// the system refused to start a kernel thread.
+    /// Spawns the job, if this kernel thread has it, after which no more come, and returns its handle. Returns the job
+    /// instead if memory is refused, or if the pool was stopped since the system refused to start a kernel thread.
     fn spawn<R: Wait>(
         &self,
         rt: &R,
         worker: &mut Worker<C::Seat, J>,
-        job: J,
-    ) -> Result<Handle<J>, J>
+        job: Option<J>,
+    ) -> (Option<J>, Option<Handle<J>>)
     where
         C: Contexts<Spawned<J>>,
         requires worker { IsWorkerOf C.sits C.idle self.now.pool.now.table self.now.pool.now.cores worker.old }
-        requires fresh { J.awaits job [] }
+        requires fresh { J.awaits self.now.asked.value [] }
+        requires job { IfSome job (λ job. job ≡ self.now.asked.value) }
         ensures worker { IsWorkerOf C.sits C.idle self.now.pool.now.table self.now.pool.now.cores worker.new }
-        ensures first { IsFirst job result }
+        ensures job { IfSome result.0 (λ job. job ≡ self.now.asked.value) }
+        ensures handle { IfSome result.1 (λ handle. handle ≡ self.now.asked.value) }
     {
+        let Some(job) = job else {
+            return (None, None);
+        };
         if self.pool.is_stopped() {
-            return Err(job);
+            return (Some(job), None);
         }
         match self.pool.spawn(rt, worker, job) {
             Ok(handle) => {
                 self.pool.finish();
-                Ok(handle)
+                (None, Some(handle))
             }
             Err(refused) => {
                 let Refused { job, .. } = refused;
                 self.stop_for(rt, PoolFault::Memory);
-                Err(job)
+                (Some(job), None)
             }
         }
     }
@@ -204,11 +214,10 @@ impl<'p, C: Seats, J: PoolJob> Crew<'p, C, J> {
 
 impl<'p, J: PoolJob, C: Contexts<Spawned<J>>> Team<Share<C::Seat, J>> for Crew<'p, C, J> {
     ghost use Rattle.std.specs.Prelude.{◌≡◌, ◌<◌, [], IfSome};
-    ghost use Rattle.arachne_pool.specs.Running.{IsFirst};
     ghost use Rattle.arachne_pool.specs.Workers.{IsWorkerOf};
 
     ghost has = { λ crew share. IsWorkerOf C.sits C.idle crew.pool.now.table crew.pool.now.cores share.worker
-        × IfSome share.first (IsFirst crew.asked.value) × J.awaits crew.asked.value [] };
+        × IfSome share.job (λ job. job ≡ crew.asked.value) × IfSome share.handle (λ handle. handle ≡ crew.asked.value) × J.awaits crew.asked.value [] };
 
     ghost size = { λ crew. crew.pool.now.cores };
 
@@ -221,13 +230,23 @@ impl<'p, J: PoolJob, C: Contexts<Spawned<J>>> Team<Share<C::Seat, J>> for Crew<'
         rt: &R,
         share: Share<C::Seat, J>,
     ) -> (Share<C::Seat, J>, Option<Share<C::Seat, J>>) {
-        let Share { worker, first } = share;
+        let Share {
+            worker,
+            job,
+            handle,
+        } = share;
         let (worker, theirs) = self.pool.split(rt, worker);
         let theirs = Share {
             worker: theirs,
-            first: None,
+            job: None,
+            handle: None,
         };
-        (Share { worker, first }, Some(theirs))
+        let own = Share {
+            worker,
+            job,
+            handle,
+        };
+        (own, Some(theirs))
     }
 
     fn work<R: Wait + Clock>(
@@ -236,16 +255,20 @@ impl<'p, J: PoolJob, C: Contexts<Spawned<J>>> Team<Share<C::Seat, J>> for Crew<'
         number: u8,
         share: Share<C::Seat, J>,
     ) -> Option<Share<C::Seat, J>> {
-        let Share { mut worker, first } = share;
-        let first = match first {
-            Some(Err(job)) => Some(self.spawn(rt, &mut worker, job)),
-            Some(Ok(handle)) => Some(Ok(handle)),
-            None => None,
-        };
+        let Share {
+            mut worker,
+            job,
+            ..
+        } = share;
+        let (job, handle) = self.spawn(rt, &mut worker, job);
         if let Err(fault) = self.pool.work(rt, &mut worker, number) {
             self.stop_for(rt, fault);
         }
-        Some(Share { worker, first })
+        Some(Share {
+            worker,
+            job,
+            handle,
+        })
     }
 
     fn join<R: Wait>(
@@ -254,9 +277,17 @@ impl<'p, J: PoolJob, C: Contexts<Spawned<J>>> Team<Share<C::Seat, J>> for Crew<'
         share: Share<C::Seat, J>,
         other: Share<C::Seat, J>,
     ) -> Option<Share<C::Seat, J>> {
-        let Share { worker, first } = share;
+        let Share {
+            worker,
+            job,
+            handle,
+        } = share;
         let worker = self.pool.join_workers(rt, worker, other.worker).ok()?;
-        Some(Share { worker, first })
+        Some(Share {
+            worker,
+            job,
+            handle,
+        })
     }
 
     fn fail<R: Wait>(&self, rt: &R, fault: TeamFault) {
@@ -274,19 +305,26 @@ fn end<C: Contexts<Spawned<J>> + Drop, R: Wait, J: PoolJob>(
     asked: &Snapshot<J>,
 ) -> Result<Finished<J::Output>, Unfinished<J>>
     requires worker { IfSome share (λ share. IsWorkerOf C.sits C.idle pool.table pool.cores share.worker) }
-    requires first { IfSome share (λ share. IfSome share.first (IsFirst asked.now.value)) }
+    requires job { IfSome share (λ share. IfSome share.job (λ job. job ≡ asked.now.value)) }
+    requires handle { IfSome share (λ share. IfSome share.handle (λ handle. handle ≡ asked.now.value)) }
     ensures output { IfOk result (λ done. J.is_result asked.now.value done.output) }
     ensures all { IfOk result (λ done. done.tally.ended ≡ done.tally.spawned) }
     ensures handed_back { IfErr result (HandsBackRun asked.now.value) }
 {
     let why = fault.unwrap_or(PoolFault::Stopped);
-    let Some(Share { worker, first }) = share else {
+    let Some(share) = share else {
         return Err(Unfinished::Lost(why));
     };
-    let handle = match first {
-        Some(Ok(handle)) => handle,
-        Some(Err(job)) => return Err(Unfinished::NotSpawned(why, job)),
-        None => return Err(Unfinished::Lost(why)),
+    let Share {
+        worker,
+        job,
+        handle,
+    } = share;
+    if let Some(job) = job {
+        return Err(Unfinished::NotSpawned(why, job));
+    }
+    let Some(handle) = handle else {
+        return Err(Unfinished::Lost(why));
     };
     let tally = worker.tally();
     let Ok(left) = pool.close(rt, alloc, worker) else {

@@ -6,7 +6,7 @@ ghost use Rattle.arachne_pool.specs.Workers.{IsIdleAt};
 
 use crate::calls::PoolDesk;
 use crate::job::PoolJob;
-use crate::place::{end, place_oldest, post_oldest};
+use crate::place::{place_oldest, post_oldest};
 use crate::pool::Pool;
 use crate::spawned::{Ended, Spawned};
 use crate::stack::JobStop;
@@ -149,11 +149,16 @@ impl<'a, H: Wait, J: PoolJob, C: Contexts<Spawned<J>>> Desk for Seat<'a, H, J, C
             unreachable!()
         };
         self.bench.has_ended = true;
-        match end::<H, J, C>(self.rt, self.pool, &mut self.seat, held) {
-            Ok(ended) => Ok(self.count_end(ended)),
-            Err(ended) => {
+        let table = &self.pool.table;
+        match table.finish(self.rt, &mut self.seat, held) {
+            Ok(job) => {
+                self.pool.room_was_seen();
+                Ok(self.count_end(job.leave()))
+            }
+            // The result is left even if the table doesn't know the place.
+            Err(held) => {
                 self.is_broken = true;
-                self.count_end(ended);
+                self.count_end(held.value.leave());
                 Err(disowned())
             }
         }

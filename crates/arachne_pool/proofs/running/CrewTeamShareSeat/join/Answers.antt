@@ -11,6 +11,6 @@ if_ok P (Err e) p = p
 of_ok : {T E : Type 0} (P : T → Type 0) (r : Result T E) {x : T} → Some x ≡ result_ok r → IfOk r P → P x
 of_ok P r {x} is p = subst (λ o. IfSome o P) (sym is) (if_ok P r p)
 
--- the worker of both is one of the pool, and what the first share has of the job stays
+-- the worker of both is one of the pool, and the first share's job and handle stay
 pub returns : goal.returns
-returns g c = (of_ok _ c.join_workers.result c.in_ok-worker.ensures.value c.join_workers.ensures.both, c.requires.own.1, c.requires.own.2)
+returns g c = (of_ok _ c.join_workers.result c.in_ok-worker.ensures.value c.join_workers.ensures.both, c.requires.own.1, c.requires.own.2, c.requires.own.3)

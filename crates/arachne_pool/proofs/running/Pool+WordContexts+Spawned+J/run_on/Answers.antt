@@ -1,4 +1,4 @@
-use Rattle.std.proofs.Common.{◌≡◌, ◌∙◌, sym, subst, IfSome, Option, None, Some}
+use Rattle.std.proofs.Common.{◌≡◌, ◌∙◌, sym, IfSome, Option, None, Some}
 use denote.RattleType.{RattleType}
 use denote.Param.{param}
 use denote.Exit.{no}
@@ -12,7 +12,6 @@ use Rattle.arachne_contexts.specs.declared.tagged.Tagged as tagged
 use Rattle.arachne_pool.specs.declared.job.PoolJob as pool_job
 use Rattle.arachne_pool.specs.contracts.spawned.Spawned as spawned
 use Rattle.arachne_pool.specs.contracts.spawned.SpawnedTagged.TheImpl as spawned_tagged
-use Rattle.arachne_pool.specs.Running.{IsFirst}
 use Rattle.arachne_pool.proofs.Crossing.{crew_sync, share_send, spawned_send}
 use Rattle.arachne_pool.proofs.running.Pool+WordContexts+Spawned+J.run_on.Goals as goal
 
@@ -51,7 +50,12 @@ work_together-share-requires-sync-W g c κs within =
     (search (sendable, std.crosses, table.the_sync, job) depth 40)))
 
 -- the job, or its handle, is as it was given
-pub end-requires-clause-first : goal.end-requires-clause-first
-end-requires-clause-first g c =
+pub end-requires-clause-job : goal.end-requires-clause-job
+end-requires-clause-job g c =
     if_some c.work_together-share.result c.work_together-share.ensures
-    (λ share has. if_some share.first has.1 (λ first is. subst (λ asked. IsFirst asked first) (c.of-2.ensures ∙ sym c.of-asked.ensures) is))
+    (λ share has. if_some share.job has.1 (λ job is. is ∙ (c.of.ensures ∙ sym c.of-asked.ensures)))
+
+pub end-requires-clause-handle : goal.end-requires-clause-handle
+end-requires-clause-handle g c =
+    if_some c.work_together-share.result c.work_together-share.ensures
+    (λ share has. if_some share.handle has.2 (λ job is. is ∙ (c.of.ensures ∙ sym c.of-asked.ensures)))
