@@ -16,15 +16,15 @@ use Rattle.std.specs.contracts.alloc.Global as heap
 use Rattle.std.specs.contracts.impls.GlobalAllocator.TheImpl as heap_impl
 use Rattle.std.specs.contracts.vec.Vec as Vec
 use Rattle.arachne_pool.specs.declared.job.PoolJob as pool_job
-use Rattle.arachne_pool.specs.contracts.outcome.JobOutcome as outcome
-use Rattle.arachne_pool.specs.contracts.outcome.WantedResult as wanted
-use Rattle.arachne_pool.proofs.outcome.JobOutcome.TheSendSync as outcome_own
-use Rattle.arachne_pool.specs.contracts.outcome.JobOutcomeFitsWantedResult.TheImpl as fits_impl
+use Rattle.arachne_pool.specs.contracts.handle.JobOutcome as outcome
+use Rattle.arachne_pool.specs.contracts.handle.WantedResult as wanted
+use Rattle.arachne_pool.proofs.handle.JobOutcome.TheSendSync as outcome_own
+use Rattle.arachne_pool.specs.contracts.handle.JobOutcomeFitsWantedResult.TheImpl as fits_impl
 use Rattle.arachne_pool.specs.contracts.links.Links as links
 use Rattle.arachne_pool.specs.contracts.links.Links.TheInside as links_inside
 use Rattle.arachne_pool.specs.contracts.spawned.Spawned as spawned
 use Rattle.arachne_pool.specs.contracts.spawned.Spawned.TheInside as spawned_inside
-use Rattle.arachne_pool.specs.contracts.bench.Bench as bench
+use Rattle.arachne_pool.specs.contracts.worker.Bench as bench
 use Rattle.arachne_pool.specs.contracts.stack.JobFrame as frame
 use Rattle.arachne_pool.specs.contracts.stack.JobFrame.TheInside as frame_inside
 use Rattle.arachne_pool.specs.contracts.stack.Stack as stack
@@ -33,10 +33,8 @@ use Rattle.arachne_arbiter.proofs.pace.Pace.TheSendSync as pace
 use Rattle.arachne_join.specs.contracts.ends.Receiver as receiver
 use Rattle.arachne_pool.specs.contracts.worker.Worker as worker
 use Rattle.arachne_pool.specs.contracts.worker.Worker.TheInside as worker_inside
-use Rattle.arachne_pool.specs.contracts.waking.Waker as waker
-use Rattle.arachne_pool.specs.contracts.waking.Waker.TheInside as waker_inside
-use Rattle.arachne_pool.specs.contracts.crew.Crew as crew
-use Rattle.arachne_pool.specs.contracts.crew.Share as share
+use Rattle.arachne_pool.specs.contracts.running.Crew as crew
+use Rattle.arachne_pool.specs.contracts.running.Share as share
 use Rattle.arachne_pool.specs.contracts.pool.Pool as pool
 use Rattle.arachne_pool.proofs.pool.Pool.TheSendSync as pool_own
 use Rattle.arachne_pool.specs.contracts.handle.Handle as handle
@@ -48,13 +46,6 @@ fields_send D all = recorded_send (Struct (struct.shape D)) D.D D.to D.to_one (s
 
 fields_sync : (D : struct.Declared) → AllSync (struct.fields D) → IsSync (struct.row D)
 fields_sync D all = recorded_sync (Struct (struct.shape D)) D.D D.to D.to_one (struct_sync (struct.shape D) all)
-
--- a waker may cross where its seat may
-waker_in_send : (S : RattleType) → IsSend S → IsSend (waker_inside.the_row S)
-waker_in_send S seat = fields_send (waker_inside.the_type S) (seat, tt)
-
-pub waker_send : (S : RattleType) → IsSend S → IsSend (waker.the_row S)
-waker_send S seat = search (sendable, waker_in_send S seat) depth 10
 
 module _ (J O : RattleType) (P : pool_job.Ghosts J.Denot O.Denot) (G : tagged.Ghosts J.Denot) (s : IsSend J) (o : IsSend O) where
   outcome_send : IsSend (outcome.the_row J O)

@@ -1,8 +1,8 @@
 -- A job and those that run in its place.
 use Rattle.std.specs.Prelude.{◌≡◌, ℕ, ◌+◌, ◌-◌, ◌^◌, ◌<◌, ◌≤◌, Bool, false, List, [], ◌∷◌, Option, None, Some, IfSome, drop, take}
 use Rattle.arachne_pool.specs.Jobs.{KeepsResults, children_of}
-use Rattle.arachne_pool.specs.declared.stop.JobStop.{JobStop}
-use Rattle.arachne_pool.specs.declared.stop.JobStop.TheVariants.{Goes}
+use Rattle.arachne_pool.specs.declared.stack.JobStop.{JobStop}
+use Rattle.arachne_pool.specs.declared.stack.JobStop.TheVariants.{Goes}
 use Rattle.arachne_pool.specs.declared.tally.Tally.{Tally}
 
 -- one of these: as it was forked, as it is now, and how many children it has forked and not joined, beside one that runs

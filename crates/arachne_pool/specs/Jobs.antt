@@ -19,11 +19,9 @@ pub record Being (Job : Type 0) : Type 0 where
 abbrev pub one : {Job : Type 0} → ℕ → Job → Option ThreadId → Being Job
 one tag job parent = record { tag = tag; asked = job; parent = parent; many = 1; jobs = job ∷ [] }
 
--- of the jobs in a place one fewer is there, which was posted as a job of its own whose parent runs under this id; or all
--- are there as before, where none was
-abbrev pub PartsOne : {Job : Type 0} → ThreadId → Being Job → Being Job → Option (Being Job) → Type 0
-PartsOne me old new None = new ≡ old
-PartsOne me old new (Some child) =
+-- of the jobs in a place one fewer is there, which is a job of its own now, whose parent runs under this id
+abbrev pub PartsOne : {Job : Type 0} → ThreadId → Being Job → Being Job → Being Job → Type 0
+PartsOne me old new child =
     (new ≡ record old { many = new.many; jobs = new.jobs }) × (new.many + 1 ≡ old.many) × (child ≡ one child.tag child.asked (Some me))
 
 -- how many jobs these are, each with those that run or wait in its place

@@ -8,7 +8,5 @@ pub mod NotClosed
 pub mod Spawning
 pub mod Waking
 pub mod Calls
-pub mod Faults
-pub mod Done
 pub mod Stops
 pub mod Running

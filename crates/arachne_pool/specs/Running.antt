@@ -1,27 +1,20 @@
 -- What comes of a job that is run.
-use Rattle.std.specs.Prelude.{◌≡◌, ◌+◌, ◌≤◌}
-use Rattle.arachne_core.specs.declared.layout.TheConstants.{CORES, SLOTS}
+use Rattle.std.specs.Prelude.{◌≡◌, ◌+◌}
 use Rattle.arachne_pool.specs.Leftover.{count_of}
-use Rattle.arachne_pool.specs.declared.running.RunFault.{RunFault}
-use Rattle.arachne_pool.specs.declared.running.RunFault.TheVariants.{KernelThread, Worker}
-use Rattle.arachne_pool.specs.declared.running.Setup.{Setup}
 use Rattle.arachne_pool.specs.declared.running.Unfinished.{Unfinished}
 use Rattle.arachne_pool.specs.declared.running.Unfinished.TheVariants.{NotSpawned, Stopped, Lost}
+use Rattle.arachne_pool.specs.declared.worker.PoolFault.{PoolFault}
 use Rattle.arachne_pool.specs.declared.worker.PoolFault.TheVariants as worker
 use Rattle.arachne_team.specs.declared.team.TeamFault.{TeamFault}
 use Rattle.arachne_team.specs.declared.team.TeamFault.TheVariants as team
 
--- it has a core and places, and no more of these than a table may have
-abbrev pub FitsMachine : Setup → Type 0
-FitsMachine setup = (1 ≤ setup.cores) × (setup.cores ≤ CORES) × (1 ≤ setup.slots) × (setup.slots ≤ SLOTS)
-
 -- the fault of kernel threads that were not started
-abbrev pub of_team : TeamFault → RunFault
-of_team team.Memory = Worker worker.Memory
-of_team team.KernelThread = KernelThread
+abbrev pub of_team : TeamFault → PoolFault
+of_team team.Memory = worker.Memory
+of_team team.KernelThread = worker.KernelThread
 
 -- why it was not run to its end
-abbrev pub fault_of : {Job Output : Type 0} → Unfinished Job Output → RunFault
+abbrev pub fault_of : {Job Output : Type 0} → Unfinished Job Output → PoolFault
 fault_of (NotSpawned why job) = why
 fault_of (Stopped why tally left) = why
 fault_of (Lost why) = why

@@ -4,8 +4,8 @@ use Rattle.arachne_contexts.specs.declared.answers.Rested.{Rested}
 use Rattle.arachne_contexts.specs.declared.answers.Rested.TheVariants as rested
 use Rattle.arachne_core.specs.declared.state.Rest.{Rest}
 use Rattle.arachne_core.specs.declared.state.Rest.TheVariants as rest
-use Rattle.arachne_pool.specs.declared.stop.JobStop as job
-use Rattle.arachne_pool.specs.declared.stop.JobStop.TheVariants.{Goes, Waits, Sleeps, Forks, LetsGo, Ends, Short}
+use Rattle.arachne_pool.specs.declared.stack.JobStop as job
+use Rattle.arachne_pool.specs.declared.stack.JobStop.TheVariants.{Goes, Waits, Sleeps, Forks, LetsGo, Ends, Short}
 
 -- it is put back as blocked where it waits or sleeps, and else as ready
 abbrev pub blocks_after : job.JobStop → Bool

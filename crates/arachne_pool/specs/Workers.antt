@@ -26,21 +26,6 @@ HasNoCore cores worker = cores ≤ worker.core
 abbrev pub IsArbiterFor : ℕ → Option Progress → Type 0
 IsArbiterFor cores arbiter = IfSome arbiter (λ progress. progress.cores ≡ cores)
 
--- the orders, applied or not
-abbrev pub orders_of : Option Progress → Option (List CoreOrder)
-orders_of None = None
-orders_of (Some progress) = Some progress.list
-
--- how many orders there are, applied or not
-abbrev pub count_orders : Option Progress → ℕ
-count_orders None = 0
-count_orders (Some progress) = length progress.list
-
--- one of the orders is not applied yet
-abbrev pub IsOneLeft : Option Progress → Type 0
-IsOneLeft None = ⊥
-IsOneLeft (Some progress) = progress.applied < length progress.list
-
 -- these are the jobs of a worker that have no place, in their order, and as many as it has
 abbrev pub AreKept : {Seat Job : Type 0} → WorkerView Seat Job → List (Being Job) → Type 0
 AreKept worker jobs = (jobs ≡ worker.waiting) × (length jobs ≡ worker.near)

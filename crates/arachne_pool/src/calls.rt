@@ -1,85 +1,24 @@
-//! The calls of a worker: it spawns jobs, works, and gets results.
-ghost use Rattle.std.specs.Prelude.{◌≡◌, ◌+◌, ◌<◌, ◌↔◌, [], IfErr, IfOk, IfSome, IsNone, IsSome, IsTrue, OnOk};
+//! The calls by which a worker works on a core, one round or until all jobs have ended, and wakes jobs that sleep.
+ghost use Rattle.std.specs.Prelude.{◌≡◌, ◌<◌, ◌↔◌, IfSome, IsNone, IsSome, IsTrue, MatchOption, None, OnOk};
 
-use crate::handle::Handle;
 use crate::job::PoolJob;
-use crate::place::place;
 use crate::pool::Pool;
-use crate::posting::Disowned;
-use crate::rounds::{report, run, run_once, run_until};
-use crate::seat::{Call, Seat, idle_seat};
+use crate::seat::{Seat, idle_seat};
 use crate::spawned::Spawned;
-use crate::spawning::{Refusal, Refused};
 use crate::worker::{PoolFault, Worker};
-use arachne_contexts::{Contexts, Seats};
-use arachne_workers::CoreWorker;
+use arachne_contexts::{Contexts, Seats, Woken};
+use arachne_core::{MarkWord, ThreadId};
+use arachne_workers::{CoreWorker, Desk, WorkerEvent};
 use std::mem::replace;
 use std::sync::Wait;
+use std::sync::atomic::Ordering;
 use std::time::Clock;
 
 impl<C: Seats> Pool<C> {
-    ghost use Rattle.std.specs.Prelude.{◌⊎◌, None};
     ghost use Rattle.arachne_pool.specs.Calls.{HasSeatAfter};
     ghost use Rattle.arachne_pool.specs.Grounds.{ground_at};
-    ghost use Rattle.arachne_pool.specs.Jobs.{one};
-    ghost use Rattle.arachne_pool.specs.Spawning.{HandsBack, IsRefusedUnkept, KeepsLast, KeepsOneAtMost};
+    ghost use Rattle.arachne_pool.specs.Waking.{HasWoken};
     ghost use Rattle.arachne_pool.specs.Workers.{IsArbiterFor, IsIdleAt, IsWorkerOf, WorksFor};
-    ghost use Rattle.arachne_pool.specs.declared.worker.PoolFault.TheVariants.{Token};
-
-    /// Spawns a job and returns its handle. The job gets a place if a core has a free one, and waits with the worker
-    /// otherwise.
-    ///
-    /// The job is returned if memory is refused or the worker has no seat. The job is also returned if no core has a
-    /// free place and the worker has worked for no core: such a worker keeps no job (`try_spawn`), since it may never
-    /// make a round.
-    pub fn spawn<H: Wait, J: PoolJob>(
-        &self,
-        rt: &H,
-        worker: &mut Worker<C::Seat, J>,
-        job: J,
-    ) -> Result<Handle<J>, Refused<J>>
-    where
-        C: Contexts<Spawned<J>>,
-        requires worker { IsWorkerOf C.sits C.idle self.now.table self.now.cores worker.old }
-        requires fresh { J.awaits job [] }
-        ensures worker { IsWorkerOf C.sits C.idle self.now.table self.now.cores worker.new }
-        ensures handle { IfOk result (λ handle. handle ≡ job) }
-        ensures handed_back { IfErr result (λ back. HandsBack 0 self.now.cores self.now.slots job worker.old worker.new back.job back.why) }
-        ensures unkept { IfErr result (λ back. IsRefusedUnkept self.now.cores worker.old back.why) }
-        ensures spawned { OnOk result (worker.old.tally.spawned < u64.MAX → worker.new.tally.spawned ≡ worker.old.tally.spawned + 1) }
-        ensures ended { worker.new.tally.ended ≡ worker.old.tally.ended }
-        ensures near { KeepsOneAtMost self.now.cores worker.old worker.new }
-        ensures waiting { KeepsLast (one (J.tag_of job) job None) worker.old.waiting worker.new.waiting }
-        ensures told { OnOk result (worker.new.told ≡ worker.new.tally) }
-        ensures kept { worker.new ≡ record worker.old { seat = worker.new.seat; waiting = worker.new.waiting; near = worker.new.near; tally = worker.new.tally; told = worker.new.told } }
-    {
-        if worker.core >= self.cores {
-            return self.try_spawn(rt, worker, job);
-        }
-        let bench = &mut worker.bench;
-        let Some(seat) = &mut worker.seat else {
-            return Err(Refused::of(job, Refusal::NoSeat));
-        };
-        let (receiver, job) = match bench.begin(job) {
-            Ok(begun) => begun,
-            Err(job) => return Err(Refused::of(job, Refusal::Memory)),
-        };
-        // Before the job is posted: another worker may run it to its end at once, and its end must not be counted
-        // before its spawn.
-        self.live.add(worker.core, bench.news());
-        let handle = Handle::of(receiver);
-        match place::<H, J, C>(rt, self, seat, bench, job) {
-            Ok(Some(posted)) => {
-                posted.tell(&self.shared);
-                Ok(handle)
-            }
-            Ok(None) => Ok(handle),
-            Err(Disowned) => {
-                worker.seat = None;
-                Ok(handle)
-            }
-        }
-    }
 
     /// Makes one round on a core: carries out the orders to open or close cores that are due, gives each job that is
     /// ready on the core a slice, and gives a place to a job of the worker that waits for one. Returns whether there
@@ -103,13 +42,22 @@ impl<C: Seats> Pool<C> {
         ensures fault { HasSeatAfter worker.new.seat result }
         ensures same { WorksFor core worker.new }
     {
-        let mut kernel = self.enter(rt, worker, core, Call::Turn);
+        let mut kernel = self.enter(rt, worker, core, false);
         let Some(rounds) = &mut kernel else {
             return Err(PoolFault::Token);
         };
         let found = run_once(rounds);
-        if !self.leave(worker, core, &mut kernel) {
+        let has_seat = self.leave(worker, core, &mut kernel);
+        let is_short = replace(&mut worker.bench.is_short, false);
+        // Even if the round failed: a job may have ended in the round.
+        if replace(&mut worker.bench.has_ended, false) {
+            self.wake_if_over();
+        }
+        if !has_seat {
             return Err(PoolFault::Token);
+        }
+        if is_short {
+            return Err(PoolFault::Memory);
         }
         found
     }
@@ -130,13 +78,13 @@ impl<C: Seats> Pool<C> {
         ensures seat { HasSeatAfter worker.new.seat result }
         ensures same { WorksFor core worker.new }
     {
-        self.live.works_for(core);
-        let mut kernel = self.enter(rt, worker, core, Call::Work);
+        self.worked.fetch_or(1 << u32::from(core), Ordering::SeqCst);
+        let mut kernel = self.enter(rt, worker, core, true);
         let Some(rounds) = &mut kernel else {
             self.stop();
             return Err(PoolFault::Token);
         };
-        let ended = run(rounds);
+        let ended = run(rounds, self);
         if !self.leave(worker, core, &mut kernel) {
             self.stop();
             return Err(PoolFault::Token);
@@ -148,48 +96,59 @@ impl<C: Seats> Pool<C> {
         ended
     }
 
-    /// Works on a core until the job of this handle has ended, and returns its result. If the pool is stopped first,
-    /// the handle is returned; any other fault stops the other workers too.
-    pub fn join<'a, H: Wait + Clock, J: PoolJob>(
-        &'a self,
-        rt: &'a H,
+    /// Wakes the job of this id, and returns the answer of the table, or `None` if the worker has no seat. A kernel
+    /// thread that is no worker, such as a timer, may have a worker for its wakes (`split`).
+    ///
+    /// `Woken`: either the job was blocked, and its core's worker is signalled; or a worker has the job in hand, and
+    /// the job won't rest then. `Already`: the job was woken before, or goes on without a wake. `Gone`: the job of the
+    /// id has ended. No other job ever gets the id, except for jobs that ran in the same place at the same time.
+    pub fn wake<H: Wait, J: PoolJob>(
+        &self,
+        rt: &H,
         worker: &mut Worker<C::Seat, J>,
-        core: u8,
-        handle: Handle<J>,
-    ) -> Result<J::Output, (PoolFault, Handle<J>)>
+        id: ThreadId,
+    ) -> Option<Woken>
     where
         C: Contexts<Spawned<J>>,
-        requires worker { IsWorkerOf C.sits C.idle self.now.table self.now.cores worker.old }
-        requires core { core < self.now.cores }
+        requires { IsWorkerOf C.sits C.idle self.now.table self.now.cores worker.old }
         ensures worker { IsWorkerOf C.sits C.idle self.now.table self.now.cores worker.new }
-        ensures output { IfOk result (J.is_result handle) }
-        ensures handed_back { IfErr result (λ back. back.1 ≡ handle) }
-        ensures seat { IsSome worker.new.seat ⊎ IfErr result (λ back. back.0 ≡ Token) }
-        ensures same { WorksFor core worker.new }
+        ensures answer { MatchOption result (worker.old.seat ≡ None) (HasWoken id) }
+        ensures seat { IsSome worker.old.seat → IsSome worker.new.seat }
+        ensures kept { worker.new ≡ record worker.old { seat = worker.new.seat } }
     {
-        let mut kernel = self.enter(rt, worker, core, Call::Join);
-        let Some(rounds) = &mut kernel else {
-            self.stop();
-            return Err((PoolFault::Token, handle));
-        };
-        let joined = run_until(rounds, handle);
-        let has_seat = self.leave(worker, core, &mut kernel);
-        match joined {
-            Ok(output) => {
-                self.wake_if_over();
-                Ok(output)
-            }
-            Err((fault, handle)) if has_seat => {
-                if fault != PoolFault::Stopped {
-                    self.stop();
+        let mut seat = worker.seat.take()?;
+        let woken = self.wake_by::<H, J>(rt, &mut seat, id);
+        worker.seat = Some(seat);
+        Some(woken)
+    }
+
+    /// Wakes the job of this id, by this seat, and signals the worker of the core on which the job is now. If the job
+    /// is moved meanwhile, the arbiter signals its new core's worker.
+    fn wake_by<H: Wait, J: PoolJob>(&self, rt: &H, seat: &mut C::Seat, id: ThreadId) -> Woken
+    where
+        C: Contexts<Spawned<J>>,
+        requires { IsIdleAt C.sits C.idle self.now.table seat.old }
+        ensures seat { IsIdleAt C.sits C.idle self.now.table seat.new }
+        ensures answer { HasWoken id result }
+    {
+        for _ in rt.forever() {
+            match self.table.wake(rt, seat, id) {
+                Woken::Woken => {
+                    if id.context < u32::from(self.cores) * u32::from(self.slots) {
+                        let word = self.table.look_mark(rt, seat, id.context);
+                        if let Some(mark) = MarkWord::from_word(word) {
+                            self.shared.hint(mark.place());
+                        }
+                    }
+                    return Woken::Woken;
                 }
-                Err((fault, handle))
-            }
-            Err((_, handle)) => {
-                self.stop();
-                Err((PoolFault::Token, handle))
+                Woken::Already(word) => return Woken::Already(word),
+                Woken::Gone => return Woken::Gone,
+                // Another kernel thread was faster.
+                Woken::Lost(_) => {}
             }
         }
+        unreachable!()
     }
 
     /// Begins a call of a worker on a core, with all that the worker has. Returns `None` if the worker has no seat.
@@ -198,7 +157,7 @@ impl<C: Seats> Pool<C> {
         rt: &'a H,
         worker: &mut Worker<C::Seat, J>,
         core: u8,
-        call: Call,
+        works: bool,
     ) -> Option<CoreWorker<'a, H, Seat<'a, H, J, C>>>
     where
         C: Contexts<Spawned<J>>,
@@ -214,7 +173,7 @@ impl<C: Seats> Pool<C> {
             self.shared.hint_cores(1 << u32::from(before));
         }
         let seat = worker.seat.take()?;
-        Some(self.open(rt, worker, seat, call))
+        Some(self.open(rt, worker, seat, works))
     }
 
     /// Returns the loop that makes the rounds of a call, with the worker's seat and data. As long as the loop has the
@@ -224,7 +183,7 @@ impl<C: Seats> Pool<C> {
         rt: &'a H,
         worker: &mut Worker<C::Seat, J>,
         seat: C::Seat,
-        call: Call,
+        works: bool,
     ) -> CoreWorker<'a, H, Seat<'a, H, J, C>>
     where
         C: Contexts<Spawned<J>>,
@@ -254,13 +213,12 @@ impl<C: Seats> Pool<C> {
                 rt,
                 pool: self,
                 core,
-                call,
+                works,
                 is_broken: false,
                 seat,
                 held: None,
                 blocks: false,
                 has_taken: false,
-                is_drained: false,
                 bench,
             },
         }
@@ -284,10 +242,9 @@ impl<C: Seats> Pool<C> {
         ensures same { WorksFor core worker.new }
         ensures seat { IsTrue result ↔ IsSome worker.new.seat }
     {
-        let Some(mut kernel) = kernel.take() else {
+        let Some(kernel) = kernel.take() else {
             unreachable!()
         };
-        report(&mut kernel, 0);
         let CoreWorker {
             agenda,
             pace,
@@ -311,4 +268,67 @@ impl<C: Seats> Pool<C> {
         };
         worker.seat.is_some()
     }
+}
+
+/// A worker's desk (its access to the table and to the job in hand), as the rounds use it beside the worker's loop.
+///
+/// The trait has no associated types, so that the functions over it are proved in a fraction of the time.
+pub(crate) trait PoolDesk: Desk {
+    /// Returns whether memory was refused since the last call.
+    fn take_short(&mut self) -> bool
+        ensures { self.new ≡ self.old };
+}
+
+/// Makes one round, and a second one if the first only moved a job to this core. Returns whether the last round found
+/// anything to do.
+pub(crate) fn run_once<H: Wait + Clock, D: PoolDesk>(
+    kernel: &mut CoreWorker<'_, H, D>,
+) -> Result<bool, PoolFault>
+    ensures { kernel.new.desk ≡ kernel.old.desk }
+{
+    kernel.tend();
+    let mut found = kernel.round(0);
+    // The job that was moved to this core or got a place has had no slice yet.
+    if kernel.slices == 0
+        && let Ok(true) = found
+        && let Err(halt) = kernel.round(0)
+    {
+        found = Err(halt);
+    }
+    Ok(found?)
+}
+
+/// Makes rounds until the pool has finished or its workers are stopped.
+pub(crate) fn run<H: Wait + Clock, C: Seats, D: PoolDesk>(
+    kernel: &mut CoreWorker<'_, H, D>,
+    pool: &Pool<C>,
+) -> Result<(), PoolFault>
+    ensures { kernel.new.desk ≡ kernel.old.desk }
+{
+    // The number of consecutive rounds that have found nothing.
+    let mut idle: u32 = 0;
+    let mut may_be_over = true;
+    for _ in kernel.rt.forever() {
+        if kernel.shared.is_stopped() || may_be_over && pool.is_over() {
+            if idle > 0 && kernel.shared.hints().is_asleep(kernel.core) {
+                // The worker's sleep timed out: nobody has woken the worker at the end.
+                kernel.desk.told(WorkerEvent::Overslept);
+            }
+            return Ok(());
+        }
+        let slices = kernel.slices;
+        let found = kernel.round(idle)?;
+        if kernel.desk.take_short() {
+            return Err(PoolFault::Memory);
+        }
+        // A round without a slice may have parked, and the worker may have been unparked because all jobs have ended.
+        may_be_over = kernel.slices == slices;
+        if found {
+            idle = 0;
+        } else {
+            kernel.rest_for(idle);
+            idle = idle.saturating_add(1);
+        }
+    }
+    unreachable!()
 }

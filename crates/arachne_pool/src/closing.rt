@@ -1,20 +1,17 @@
-//! Makes a pool with its first worker, replaces its orders, and closes it, which returns the jobs that are left.
-ghost use Rattle.std.specs.Prelude.{◌≡◌, ◌+◌, ◌<◌, ◌≤◌, ◌↔◌, [], IfErr, IfOk, IfSome, IsSome, IsTrue, MatchOption, OnErr, OnOk, Some};
-ghost use Rattle.arachne_core.specs.declared.layout.TheConstants.{CORES, SLOTS};
+//! Replaces a pool's orders, and closes the pool, which returns the jobs that are left.
+ghost use Rattle.std.specs.Prelude.{◌≡◌, ◌+◌, ◌<◌, ◌≤◌, ◌↔◌, IfErr, IfOk, IfSome, IsSome, IsTrue, MatchOption, OnErr, OnOk};
 ghost use Rattle.arachne_policy.specs.Orders.{AreInOrder};
-ghost use Rattle.arachne_policy.specs.declared.orders.OrderKind.TheVariants.{Release};
 ghost use Rattle.arachne_pool.specs.Jobs.{count_near};
 ghost use Rattle.arachne_pool.specs.Leftover.{IsWhole, count_placed};
 
-use crate::bench::Bench;
 use crate::job::PoolJob;
 use crate::orders::PoolOrders;
 use crate::pool::Pool;
 use crate::spawned::Spawned;
 use crate::tally::Tally;
-use crate::worker::Worker;
+use crate::worker::{Bench, Worker};
 use arachne_contexts::{Contexts, Seats};
-use arachne_core::{CORES, OccWord, SLOTS, ThreadId};
+use arachne_core::ThreadId;
 use arachne_policy::{CoreOrder, OrderKind};
 use std::alloc::{AllocError, Global};
 use std::collections::VecDeque;
@@ -43,46 +40,13 @@ impl<J: PoolJob> Left<J> {
 /// The reason why `close` has not closed the pool, with what it gives back.
 #[derive(Drop)]
 pub enum NotClosed<C: Seats, J: PoolJob> {
-    /// Another worker or a waker has a part of the seat, or this worker has no seat. Pool and worker are returned.
+    /// Another worker has a part of the seat, or this worker has no seat. Pool and worker are returned.
     NotWhole(Pool<C>, Worker<C::Seat, J>),
     /// Memory was refused. The table, its seat and the jobs that had no place are returned.
     Memory(C, C::Seat, VecDeque<Spawned<J>>),
     /// The counts don't agree: the number of jobs that were spawned is not the number of those that ended and those
     /// that are left.
     Lost(Left<J>),
-}
-
-impl<C: Seats + Drop> Pool<C> {
-    ghost use Rattle.arachne_pool.specs.Workers.{HasNoCore, IsWorkerOf};
-
-    /// Returns a pool without jobs, and its one worker, which has worked for no core. `orders` take cores back and
-    /// grant them again while the pool works.
-    pub fn new<J: PoolJob>(
-        alloc: Global,
-        cores: u8,
-        slots: u8,
-        orders: Vec<CoreOrder>,
-    ) -> Result<(Pool<C>, Worker<C::Seat, J>), AllocError>
-        requires some { 1 ≤ cores }
-        requires most { cores ≤ CORES }
-        requires some_slots { 1 ≤ slots }
-        requires most_slots { slots ≤ SLOTS }
-        requires orders { AreInOrder cores orders.items }
-        ensures cores { IfOk result (λ made. made.0.cores ≡ cores) }
-        ensures slots { IfOk result (λ made. made.0.slots ≡ slots) }
-        ensures worker { IfOk result (λ made. IsWorkerOf C.sits C.idle made.0.table made.0.cores made.1) }
-        ensures whole { IfOk result (λ made. IsWhole C.weight made.1.seat) }
-        ensures tally { IfOk result (λ made. (made.1.tally.spawned ≡ 0) × (made.1.tally.ended ≡ 0)) }
-        ensures near { IfOk result (λ made. (made.1.waiting ≡ []) × (made.1.near ≡ 0)) }
-        ensures orders { IfOk result (λ made. made.1.arbiter ≡ Some (record { list = orders.items; cores = cores; applied = 0 })) }
-        ensures core { IfOk result (λ made. HasNoCore made.0.cores made.1) }
-    {
-        let orders = PoolOrders::new(alloc, orders, cores)?;
-        let (pool, seat) = Pool::<C>::with_seat(alloc, cores, slots)?;
-        let mut worker = Worker::new(alloc, Some(seat), 0);
-        worker.bench.orders = orders;
-        Ok((pool, worker))
-    }
 }
 
 impl<C: Seats> Pool<C> {
@@ -113,25 +77,18 @@ impl<C: Seats> Pool<C> {
     {
         let mut orders = orders;
         for core in 1..self.cores {
-            if self.is_closed::<H, J>(rt, core) {
-                orders.insert(0, closes_at_once(core))?;
+            if self.glance::<H, J>(rt, core).is_closed() {
+                let closes = CoreOrder {
+                    after: 0,
+                    kind: OrderKind::Release,
+                    core: u64::from(core),
+                };
+                orders.insert(0, closes)?;
             }
         }
-        worker.bench.orders = PoolOrders::new(worker.bench.alloc, orders, self.cores)?;
+        let orders = PoolOrders::new(worker.bench.alloc, orders, self.cores)?;
+        worker.bench.orders = Some(orders);
         Ok(())
-    }
-
-    /// Returns whether the core's occupancy word, at this moment, says that the core is closed. Only orders close a
-    /// core.
-    fn is_closed<H: Wait, J: PoolJob>(&self, rt: &H, core: u8) -> bool
-    where
-        C: Contexts<Spawned<J>>,
-        requires { core < self.now.cores }
-    {
-        match OccWord::from_word(self.table.glance(rt, core)) {
-            Some(occupancy) => occupancy.is_closed(),
-            None => false,
-        }
     }
 
     /// Closes the pool. Returns the jobs that were spawned and have not ended: their number and the number of jobs that
@@ -177,17 +134,6 @@ impl<C: Seats> Pool<C> {
             Some(seat) => self.table.is_whole(seat),
             None => false,
         }
-    }
-}
-
-/// Returns the order that closes a core, due at once.
-fn closes_at_once(core: u8) -> CoreOrder
-    ensures { result ≡ record { after = 0; kind = Release; core = core } }
-{
-    CoreOrder {
-        after: 0,
-        kind: OrderKind::Release,
-        core: u64::from(core),
     }
 }
 

@@ -3,8 +3,8 @@ ghost use Rattle.std.specs.Prelude.{◌≡◌, ◌+◌, ◌∷◌, [], IfErr, If
 ghost use Rattle.std.specs.VecDeque.{deque_len};
 ghost use Rattle.arachne_pool.specs.Children.{LosesAside, LosesBegun, with_aside};
 
+use crate::handle::{Cells, ResultReceiver, ResultSender, WantedResult};
 use crate::job::PoolJob;
-use crate::outcome::{Cells, ResultReceiver, ResultSender, WantedResult};
 use std::alloc::Global;
 use std::collections::VecDeque;
 use std::marker::Model;
@@ -12,9 +12,7 @@ use std::snapshot::Snapshot;
 
 /// The children of jobs in one place that were forked and not joined. Each child that has begun elsewhere has a cell
 /// for its result. The children that have not begun are kept in this value, and are newer than those that have begun.
-///
-/// Contracts see all these children, each as it was forked, the newest first, and the number of those that have not
-/// begun.
+/// Contracts see all of them as they were forked, the newest first, and the number of those that have not begun.
 #[derive(Drop)]
 pub(crate) struct Links<J: PoolJob> {
     begun: Vec<ResultReceiver<J>>,

@@ -1,89 +1,101 @@
 //! Claims a free place for a job and puts the job there, and frees the place when the job has ended.
-//!
-//! The functions of this module may use the table, by the seat that they are given.
-ghost use Rattle.std.specs.Prelude.{◌≡◌, ◌<◌, [], ◌∷◌, ◌++◌, IfErr, IfOk, MatchOption, OnErr, OnOk};
-ghost use Rattle.std.specs.VecDeque.{deque_capacity, deque_len};
-ghost use Rattle.arachne_contexts.specs.Out.{Claim, KeepsOut};
-ghost use Rattle.arachne_pool.specs.Grounds.{AddsOut, IsKnown, thread_in};
+ghost use Rattle.std.specs.Prelude.{◌≡◌, ◌∷◌, [], IfErr, IfOk, IfSome, MatchOption, OnErr, OnOk};
+ghost use Rattle.arachne_arbiter.specs.Placed.{GetsPlace};
+ghost use Rattle.arachne_contexts.specs.Out.{Claim, HasOut, KeepsOut};
+ghost use Rattle.arachne_pool.specs.Grounds.{IsKnown, IsSpent, thread_in};
 ghost use Rattle.arachne_pool.specs.Jobs.{PartsOne};
 
-use crate::bench::Bench;
 use crate::job::PoolJob;
 use crate::pool::Pool;
-use crate::posting::{Disowned, Posted, post};
-use crate::spawned::{Ended, Spawned};
-use arachne_contexts::{Contexts, Held};
+use crate::spawned::Spawned;
+use crate::worker::{Bench, disowned};
+use arachne_contexts::{Contexts, Held, Placed};
+use arachne_workers::{Halt, PostedThread, SharedWords};
 use rand_xoshiro::Xoshiro256PlusPlus;
+use std::alloc::AllocError;
+use std::snapshot::Snapshot;
 use std::sync::Wait;
+use std::sync::atomic::Ordering;
+
+/// A job that was put at a place, with that place. Only `post` returns a value of this type, for a job that it has
+/// given to the table. The type is not `Drop`, so that the caller must signal the worker of the job's core.
+pub(crate) struct Posted<J: PoolJob> {
+    at: PostedThread,
+    /// The job. The field has no bytes.
+    job: Snapshot<Spawned<J>>,
+}
+
+impl<J: PoolJob> Posted<J> {
+    /// Signals the worker of the job's core. If that core is `core`, whose worker has posted the job and makes the next
+    /// round, returns the job's id and place instead.
+    #[inline(always)]
+    pub(crate) fn tell_unless_on(self, core: u8, shared: &SharedWords) -> Option<PostedThread>
+        ensures { IfSome result (λ post. post.place.core ≡ core) }
+    {
+        let Posted { at, job: _ } = self;
+        if at.place.core == core {
+            return Some(at);
+        }
+        shared.hint(at.place);
+        None
+    }
+}
+
+/// Posts a job: puts it at a claimed place, ready to run. The caller must have counted the job as spawned before.
+#[inline(always)]
+pub(crate) fn post<H: Wait, J: PoolJob, C: Contexts<Spawned<J>>>(
+    rt: &H,
+    pool: &Pool<C>,
+    seat: &mut C::Seat,
+    claim: C::Claim,
+    job: Spawned<J>,
+) -> Result<Posted<J>, Halt>
+    requires seat { C.sits pool.now.table seat.old }
+    requires out { HasOut (C.has pool.now.table) (Claim claim) seat.old }
+    ensures seat { C.sits pool.now.table seat.new }
+    ensures out { OnOk result (IsSpent (C.has pool.now.table) (Claim claim) seat.old seat.new) }
+    ensures posted { IfOk result (λ posted. posted.job.value ≡ job) }
+{
+    let place = claim.place();
+    let posted = Snapshot::of(&job);
+    match pool.table.post(rt, seat, claim, job) {
+        Ok(id) => Ok(Posted {
+            at: PostedThread { id, place },
+            job: posted,
+        }),
+        Err(_) => Err(disowned()),
+    }
+}
 
 /// Claims a place for a job: on the core that `claim_normal` of `arachne_arbiter` chooses, or for an exclusive job on
-/// an empty core, if there is one. Returns `None` if there is no place or memory is refused.
+/// an empty core, if there is one. If no core had a free place, notes this in the pool. The error is a refusal of
+/// memory.
 pub(crate) fn claim<H: Wait, J: PoolJob, C: Contexts<Spawned<J>>>(
     rt: &H,
     pool: &Pool<C>,
     seat: &mut C::Seat,
     chooser: &mut Xoshiro256PlusPlus,
     is_exclusive: bool,
-) -> Option<C::Claim>
+) -> Result<Option<C::Claim>, AllocError>
     requires seat { C.sits pool.now.table seat.old }
     ensures seat { C.sits pool.now.table seat.new }
-    ensures out { MatchOption result (KeepsOut (C.has pool.now.table) seat.old seat.new) (λ claim. AddsOut (C.has pool.now.table) (Claim claim) seat.old seat.new) }
-{
-    if !is_exclusive {
-        return claim_normal::<H, J, C>(rt, pool, seat, chooser);
-    }
-    pool.exclusive_comes();
-    let cores = pool.cores::<H, Spawned<J>>(rt);
-    match cores.claim_exclusive(seat) {
-        Ok(Some(claim)) => Some(claim),
-        _ => claim_normal::<H, J, C>(rt, pool, seat, chooser),
-    }
-}
-
-/// Claims a place that the job shares with others on its core. If no core had a free place, notes this in the pool.
-fn claim_normal<H: Wait, J: PoolJob, C: Contexts<Spawned<J>>>(
-    rt: &H,
-    pool: &Pool<C>,
-    seat: &mut C::Seat,
-    chooser: &mut Xoshiro256PlusPlus,
-) -> Option<C::Claim>
-    requires seat { C.sits pool.now.table seat.old }
-    ensures seat { C.sits pool.now.table seat.new }
-    ensures out { MatchOption result (KeepsOut (C.has pool.now.table) seat.old seat.new) (λ claim. AddsOut (C.has pool.now.table) (Claim claim) seat.old seat.new) }
+    ensures out { GetsPlace (C.has pool.now.table) seat.old seat.new result }
 {
     let cores = pool.cores::<H, Spawned<J>>(rt);
+    if is_exclusive {
+        if !pool.has_exclusive() {
+            pool.exclusive.store(1, Ordering::SeqCst);
+        }
+        if let Ok(Some(claim)) = cores.claim_exclusive(seat) {
+            return Ok(Some(claim));
+        }
+    }
     let place = cores.claim_normal(seat, chooser);
     if let Ok(None) = place {
-        pool.no_room_was_seen();
+        // The next worker that frees a place, or that sees a free one while it looks for work, notes that there is one.
+        pool.room.store(0, Ordering::SeqCst);
     }
-    place.ok()?
-}
-
-/// Puts a job at a free place. If no place is free, puts the job among the worker's jobs that wait for a place, where
-/// there must be room.
-pub(crate) fn place<H: Wait, J: PoolJob, C: Contexts<Spawned<J>>>(
-    rt: &H,
-    pool: &Pool<C>,
-    seat: &mut C::Seat,
-    bench: &mut Bench<J>,
-    job: Spawned<J>,
-) -> Result<Option<Posted<J>>, Disowned>
-    requires seat { C.sits pool.now.table seat.old }
-    requires known { IsKnown (C.has pool.now.table) seat.old }
-    requires room { deque_len bench.old.near < deque_capacity bench.old.near }
-    ensures seat { C.sits pool.now.table seat.new }
-    ensures out { OnOk result (KeepsOut (C.has pool.now.table) seat.old seat.new) }
-    ensures same { bench.new ≡ record bench.old { near = bench.new.near; chooser = bench.new.chooser } }
-    ensures near { IfOk result (λ posted. MatchOption posted (bench.new.near.items ≡ bench.old.near.items ++ job ∷ []) (λ at. (at ≡ job) × (bench.new.near.items ≡ bench.old.near.items))) }
-    ensures disowned { OnErr result (bench.new.near.items ≡ bench.old.near.items) }
-{
-    let claim = claim::<H, J, C>(rt, pool, seat, &mut bench.chooser, job.is_exclusive());
-    let Some(claim) = claim else {
-        bench.near.push_back_reserved(job);
-        return Ok(None);
-    };
-    let post = post::<H, J, C>(rt, pool, seat, claim, job)?;
-    Ok(Some(post))
+    place
 }
 
 /// Gives a place to the worker's oldest job that waits for one, if a place is free.
@@ -92,20 +104,20 @@ pub(crate) fn place_oldest<H: Wait, J: PoolJob, C: Contexts<Spawned<J>>>(
     pool: &Pool<C>,
     seat: &mut C::Seat,
     bench: &mut Bench<J>,
-) -> Result<Option<Posted<J>>, Disowned>
+) -> Result<Option<Posted<J>>, Halt>
     requires seat { C.sits pool.now.table seat.old }
     requires known { IsKnown (C.has pool.now.table) seat.old }
     ensures seat { C.sits pool.now.table seat.new }
     ensures out { OnOk result (KeepsOut (C.has pool.now.table) seat.old seat.new) }
     ensures same { bench.new ≡ record bench.old { near = bench.new.near; chooser = bench.new.chooser } }
-    ensures near { IfOk result (λ posted. MatchOption posted (bench.new.near.items ≡ bench.old.near.items) (λ at. bench.old.near.items ≡ at ∷ bench.new.near.items)) }
+    ensures near { IfOk result (λ posted. MatchOption posted (bench.new.near.items ≡ bench.old.near.items) (λ at. bench.old.near.items ≡ at.job.value ∷ bench.new.near.items)) }
 {
     let Some(job) = bench.near.front() else {
         return Ok(None);
     };
-    let is_exclusive = job.is_exclusive();
+    let is_exclusive = job.stack.job().is_exclusive();
     let claim = claim::<H, J, C>(rt, pool, seat, &mut bench.chooser, is_exclusive);
-    let Some(claim) = claim else {
+    let Ok(Some(claim)) = claim else {
         return Ok(None);
     };
     let Some(job) = bench.near.pop_front() else {
@@ -124,24 +136,21 @@ pub(crate) fn post_oldest<H: Wait, J: PoolJob, C: Contexts<Spawned<J>>>(
     seat: &mut C::Seat,
     bench: &mut Bench<J>,
     held: &mut Held<Spawned<J>, C::Hold>,
-) -> Result<Option<Posted<J>>, Disowned>
+) -> Result<Option<Posted<J>>, Halt>
     requires seat { C.sits pool.now.table seat.old }
     requires out { C.has pool.now.table seat.old (thread_in (λ s. s.tag) held.old ∷ []) }
     ensures seat { C.sits pool.now.table seat.new }
     ensures out { OnOk result (C.has pool.now.table seat.new (thread_in (λ s. s.tag) held.new ∷ [])) }
-    ensures parted { IfOk result (PartsOne (C.Hold.id_of held.old.hold) held.old.value held.new.value) }
+    ensures parted { IfOk result (λ posted. MatchOption posted (held.new.value ≡ held.old.value) (λ p. PartsOne (C.Hold.id_of held.old.hold) held.old.value held.new.value p.job.value)) }
     ensures hold { held.new.hold ≡ held.old.hold }
     ensures same { bench.new ≡ record bench.old { cells = bench.new.cells; chooser = bench.new.chooser; is_short = bench.new.is_short } }
 {
-    if !held.value.has_aside() {
+    if !held.value.stack.has_aside() || !pool.has_room() {
         return Ok(None);
     }
-    if !pool.has_room() {
-        return Ok(None);
-    }
-    let is_exclusive = held.value.is_oldest_exclusive();
+    let is_exclusive = held.value.stack.links.is_oldest_exclusive();
     let claim = claim::<H, J, C>(rt, pool, seat, &mut bench.chooser, is_exclusive);
-    let Some(claim) = claim else {
+    let Ok(Some(claim)) = claim else {
         return Ok(None);
     };
     let me = held.id();
@@ -150,35 +159,9 @@ pub(crate) fn post_oldest<H: Wait, J: PoolJob, C: Contexts<Spawned<J>>>(
         bench.is_short = true;
         return match pool.table.give_back(rt, seat, claim) {
             Ok(()) => Ok(None),
-            Err(_) => Err(Disowned),
+            Err(_) => Err(disowned()),
         };
     };
     let post = post::<H, J, C>(rt, pool, seat, claim, child)?;
     Ok(Some(post))
-}
-
-/// Ends a job with all jobs that ran in its place: frees the place, and leaves the result. The result is left even if
-/// the table doesn't know the place.
-#[inline(always)]
-pub(crate) fn end<H: Wait, J: PoolJob, C: Contexts<Spawned<J>>>(
-    rt: &H,
-    pool: &Pool<C>,
-    seat: &mut C::Seat,
-    held: Held<Spawned<J>, C::Hold>,
-) -> Result<Ended<J>, Ended<J>>
-    requires seat { C.sits pool.now.table seat.old }
-    requires out { C.has pool.now.table seat.old (thread_in (λ s. s.tag) held ∷ []) }
-    requires over { held.value.many ≡ 0 }
-    ensures seat { C.sits pool.now.table seat.new }
-    ensures out { OnOk result (C.has pool.now.table seat.new []) }
-    ensures ended { IfOk result (λ ended. ended ≡ held.value) }
-    ensures disowned { IfErr result (λ ended. ended ≡ held.value) }
-{
-    match pool.table.finish(rt, seat, held) {
-        Ok(job) => {
-            pool.room_was_seen();
-            Ok(job.leave())
-        }
-        Err(held) => Err(held.value.leave()),
-    }
 }

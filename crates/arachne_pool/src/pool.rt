@@ -1,17 +1,23 @@
 //! A pool's table, its counts of jobs, and the words by which its workers wake and stop one another.
-ghost use Rattle.std.specs.Prelude.{◌≡◌, ◌<◌, ◌≤◌, IfOk};
-ghost use Rattle.arachne_core.specs.declared.layout.TheConstants.{CORES, SLOTS, LAST_GENERATION};
-ghost use Rattle.arachne_weights.specs.Weight.{whole};
+ghost use Rattle.std.specs.Prelude.{◌≡◌, ◌<◌, ◌≤◌, [], IfOk, Some};
+ghost use Rattle.arachne_core.specs.declared.layout.TheConstants.{CORES, SLOTS};
+ghost use Rattle.arachne_policy.specs.Orders.{AreInOrder};
+ghost use Rattle.arachne_pool.specs.Leftover.{IsWhole};
 
-use crate::live::Live;
-use crate::statistics::Statistics;
+use crate::job::PoolJob;
+use crate::orders::PoolOrders;
+use crate::spawned::Spawned;
+use crate::tally::Live;
+use crate::worker::Worker;
 use arachne_arbiter::Cores;
-use arachne_contexts::Seats;
-use arachne_core::{CORES, Place, SLOTS};
+use arachne_contexts::{Contexts, Seats};
+use arachne_core::{CORES, OccWord, Place, SLOTS};
+use arachne_policy::CoreOrder;
 use arachne_workers::SharedWords;
 use crossbeam_utils::CachePadded;
 use std::alloc::{AllocError, Global};
 use std::marker::PhantomData;
+use std::sync::Wait;
 use std::sync::atomic::{AtomicU64, Ordering};
 
 /// The state that the workers of a pool share: the table, the counts of jobs, and the words that end all work.
@@ -26,11 +32,15 @@ pub struct Pool<C: Seats> {
     pub(crate) shared: SharedWords,
     pub(crate) live: Live,
     /// 1 while a place may be free.
-    room: CachePadded<AtomicU64>,
+    pub(crate) room: CachePadded<AtomicU64>,
     /// 1 once a job has wanted a core for itself.
-    exclusive: AtomicU64,
+    pub(crate) exclusive: AtomicU64,
     /// 1 while the pool is kept open.
     open: AtomicU64,
+    /// A bit for each core for which a kernel thread has called `work`.
+    pub(crate) worked: AtomicU64,
+    /// The number of sleeps that timed out although there was something to do.
+    pub(crate) overslept: AtomicU64,
     ghost counted: { C.core_count table ≡ cores },
     ghost few: { cores ≤ CORES },
     ghost placed: { C.slot_count table ≡ slots },
@@ -39,22 +49,31 @@ pub struct Pool<C: Seats> {
 }
 
 impl<C: Seats + Drop> Pool<C> {
-    /// Returns a pool with no job, and its first seat, which has the whole weight.
-    pub(crate) fn with_seat(
+    ghost use Rattle.arachne_pool.specs.Workers.{HasNoCore, IsWorkerOf};
+
+    /// Returns a pool without jobs, and its one worker, which has worked for no core. `orders` take cores back and
+    /// grant them again while the pool works.
+    pub fn new<J: PoolJob>(
         alloc: Global,
         cores: u8,
         slots: u8,
-    ) -> Result<(Pool<C>, C::Seat), AllocError>
+        orders: Vec<CoreOrder>,
+    ) -> Result<(Pool<C>, Worker<C::Seat, J>), AllocError>
         requires some { 1 ≤ cores }
         requires most { cores ≤ CORES }
         requires some_slots { 1 ≤ slots }
         requires most_slots { slots ≤ SLOTS }
+        requires orders { AreInOrder cores orders.items }
         ensures cores { IfOk result (λ made. made.0.cores ≡ cores) }
         ensures slots { IfOk result (λ made. made.0.slots ≡ slots) }
-        ensures sits { IfOk result (λ made. C.sits made.0.table made.1) }
-        ensures idle { IfOk result (λ made. C.idle made.0.table made.1) }
-        ensures weight { IfOk result (λ made. C.weight made.1 ≡ whole) }
+        ensures worker { IfOk result (λ made. IsWorkerOf C.sits C.idle made.0.table made.0.cores made.1) }
+        ensures whole { IfOk result (λ made. IsWhole C.weight made.1.seat) }
+        ensures tally { IfOk result (λ made. (made.1.tally.spawned ≡ 0) × (made.1.tally.ended ≡ 0)) }
+        ensures near { IfOk result (λ made. (made.1.waiting ≡ []) × (made.1.near ≡ 0)) }
+        ensures orders { IfOk result (λ made. made.1.arbiter ≡ Some (record { list = orders.items; cores = cores; applied = 0 })) }
+        ensures core { IfOk result (λ made. HasNoCore made.0.cores made.1) }
     {
+        let orders = PoolOrders::new(alloc, orders, cores)?;
         let live = Live::new(alloc, cores)?;
         let shared = SharedWords::new(alloc, cores)?;
         let (table, seat) = C::new(alloc, cores, slots, 0)?;
@@ -67,8 +86,12 @@ impl<C: Seats + Drop> Pool<C> {
             room: CachePadded::new(AtomicU64::new(1)),
             exclusive: AtomicU64::new(0),
             open: AtomicU64::new(0),
+            worked: AtomicU64::new(0),
+            overslept: AtomicU64::new(0),
         };
-        Ok((pool, seat))
+        let mut worker = Worker::new(alloc, Some(seat), 0);
+        worker.bench.orders = Some(orders);
+        Ok((pool, worker))
     }
 }
 
@@ -79,27 +102,17 @@ impl<C: Seats> Pool<C> {
         self.live.count()
     }
 
-    /// Returns the statistics of a core's workers, all 0 if there is no such core.
-    pub fn statistics(&self, core: u8) -> Statistics {
-        if core >= self.cores {
-            return Statistics::new();
-        }
-        self.live.done(core)
-    }
-
-    /// Returns the statistics of all cores' workers together.
-    pub fn all_statistics(&self) -> Statistics {
-        let mut all = Statistics::new();
-        for core in 0..self.cores {
-            all = all.with(self.live.done(core));
-        }
-        all
-    }
-
     /// Returns whether the worker of a core sleeps, or its sleep has timed out and it has not looked since. Whoever has
     /// work for that worker must wake it. A worker that is parked doesn't sleep.
     pub fn is_asleep(&self, core: u8) -> bool {
         self.shared.hints().is_asleep(core)
+    }
+
+    /// Returns how often a worker's sleep timed out although there was something to do that nobody had signalled, or
+    /// all jobs had ended. Workers with jobs for which no core has a free place cause a few such sleeps, since a place
+    /// that becomes free is not signalled. Many of them show that a signal is missing.
+    pub fn overslept(&self) -> u64 {
+        self.overslept.load(Ordering::SeqCst)
     }
 
     /// Stops all workers after their current slices, also the workers that sleep or are parked.
@@ -155,22 +168,18 @@ impl<C: Seats> Pool<C> {
         }
     }
 
-    /// Notes that no core had a free place. The next worker that frees a place, or that sees a free place while it
-    /// looks for work, notes that a place may be free again.
-    pub(crate) fn no_room_was_seen(&self) {
-        self.room.store(0, Ordering::SeqCst);
-    }
-
-    /// Notes that a job wants a core for itself.
-    pub(crate) fn exclusive_comes(&self) {
-        if !self.has_exclusive() {
-            self.exclusive.store(1, Ordering::SeqCst);
-        }
-    }
-
     /// Returns whether a job has wanted a core for itself.
     pub(crate) fn has_exclusive(&self) -> bool {
         self.exclusive.load(Ordering::SeqCst) != 0
+    }
+
+    /// Returns which places of a core are occupied at this moment, and whether the core is closed or exclusive.
+    pub(crate) fn glance<H: Wait, J: PoolJob>(&self, rt: &H, core: u8) -> OccWord
+    where
+        C: Contexts<Spawned<J>>,
+        requires { core < self.now.cores }
+    {
+        OccWord::from_word(self.table.glance(rt, core)).unwrap_or(OccWord::empty())
     }
 
     /// Returns the cores of the table, for a kernel thread that uses them.

@@ -1,52 +1,26 @@
 //! A job that is run to its end, with all that it forks, on as many kernel threads as cores.
-ghost use Rattle.std.specs.Prelude.{◌≡◌, [], IfErr, IfOk, IfSome};
-ghost use Rattle.arachne_pool.specs.Running.{FitsMachine, HandsBackRun};
+ghost use Rattle.std.specs.Prelude.{◌≡◌, ◌≤◌, [], IfErr, IfOk, IfSome};
+ghost use Rattle.arachne_core.specs.declared.layout.TheConstants.{CORES};
+ghost use Rattle.arachne_pool.specs.Running.{HandsBackRun};
 ghost use Rattle.arachne_pool.specs.Workers.{IsWorkerOf};
 
 use crate::closing::Left;
-use crate::crew::{Crew, Share};
+use crate::handle::Handle;
 use crate::job::PoolJob;
 use crate::pool::Pool;
 use crate::spawned::Spawned;
-use crate::statistics::Statistics;
+use crate::spawning::Refused;
 use crate::tally::Tally;
-use crate::worker::PoolFault;
-use arachne_contexts::Contexts;
+use crate::worker::{PoolFault, Worker};
+use arachne_contexts::{Contexts, Seats};
 use arachne_core::{CORES, SLOTS};
-use arachne_team::{TeamFault, work_together};
+use arachne_team::{Team, TeamFault, work_together};
 use arachne_words::WordContexts;
 use std::alloc::Global;
 use std::snapshot::Snapshot;
-use std::sync::Wait;
+use std::sync::{Mutex, Wait};
 use std::thread::{Threads, available_parallelism};
 use std::time::Clock;
-use thiserror::Error;
-
-/// The numbers of cores and places of the pool in which `Pool::run` runs a job.
-#[derive(Clone, Copy, Debug, PartialEq, Eq)]
-pub struct Setup {
-    /// The number of cores, 1 to 64. Each has a kernel thread.
-    pub cores: u8,
-    /// The number of places of each core, 1 to 56.
-    pub slots: u8,
-}
-
-impl Setup {
-    /// Returns a setup with a core for each processor that this process may use, at most 64, or with one core if the
-    /// system doesn't report their number. Each core has 56 places.
-    pub fn of_machine<R: Threads>(rt: &R) -> Setup
-        ensures { FitsMachine result }
-    {
-        let count = match available_parallelism(rt) {
-            Ok(count) => count.get(),
-            Err(_) => 1,
-        };
-        Setup {
-            cores: u8::try_from(count).unwrap_or(CORES).min(CORES),
-            slots: SLOTS,
-        }
-    }
-}
 
 /// A job that was run to its end. All jobs that it has forked have ended too.
 #[derive(Drop)]
@@ -55,54 +29,40 @@ pub struct Finished<O> {
     pub output: O,
     /// The numbers of jobs that were spawned, this one with them, and that have ended.
     pub tally: Tally,
-    /// The statistics of all cores together.
-    pub statistics: Statistics,
 }
 
-/// The reason why a job was not run to its end. If several kernel threads meet a fault, it is the first that was
-/// recorded.
-#[derive(Clone, Copy, Debug, PartialEq, Eq, Error)]
-pub enum RunFault {
-    /// The system started no kernel thread for a core.
-    #[error("a kernel thread was refused")]
-    KernelThread,
-    /// The fault of a worker, or memory was refused before one worked.
-    #[error("{0}")]
-    Worker(PoolFault),
-}
-
-impl From<TeamFault> for RunFault {
+impl From<TeamFault> for PoolFault {
     ghost use Rattle.std.specs.Prelude.{◌≡◌};
     ghost use Rattle.arachne_pool.specs.Running.{of_team};
 
     ghost from_gives = { λ fault e. e ≡ of_team fault };
 
-    fn from(fault: TeamFault) -> RunFault {
+    fn from(fault: TeamFault) -> PoolFault {
         match fault {
-            TeamFault::Memory => RunFault::Worker(PoolFault::Memory),
-            TeamFault::KernelThread => RunFault::KernelThread,
+            TeamFault::Memory => PoolFault::Memory,
+            TeamFault::KernelThread => PoolFault::KernelThread,
         }
     }
 }
 
-/// The error of `Pool::run` if the job has not ended: the fault, and the jobs that are left.
+/// The error of `Pool::run` if the job has not ended: the fault that was recorded first, and the jobs that are left.
 #[derive(Drop)]
 pub enum Unfinished<J: PoolJob> {
     /// Memory or a kernel thread was refused before the job was spawned. The job is returned.
-    NotSpawned(RunFault, J),
+    NotSpawned(PoolFault, J),
     /// All kernel threads were stopped for a fault. The jobs that have not ended are returned; with those that have,
     /// they are as many as were spawned.
-    Stopped(RunFault, Tally, Left<J>),
+    Stopped(PoolFault, Tally, Left<J>),
     /// All kernel threads were stopped for a fault, and the jobs that have not ended are dropped: memory was refused
     /// once more as they were put together, or the table didn't know a place or a job that a worker had of it.
-    Lost(RunFault),
+    Lost(PoolFault),
 }
 
 impl<J: PoolJob> Unfinished<J> {
     ghost use Rattle.arachne_pool.specs.Running.{fault_of};
 
     /// Returns why the job was not run to its end.
-    pub fn why(&self) -> RunFault
+    pub fn why(&self) -> PoolFault
         ensures { result ≡ fault_of self.now }
     {
         match self {
@@ -131,30 +91,35 @@ where
         ensures all { IfOk result (λ done. done.tally.ended ≡ done.tally.spawned) }
         ensures handed_back { IfErr result (HandsBackRun job) }
     {
-        Pool::<WordContexts<Spawned<J>>>::run_on(rt, alloc, Setup::of_machine(rt), job)
+        Pool::<WordContexts<Spawned<J>>>::run_on(rt, alloc, processors(rt), job)
     }
 
-    /// Runs a job as `run` does, on the cores of this setup.
+    /// Runs a job as `run` does, on this number of cores, each with a kernel thread.
     pub fn run_on<R: Threads + Wait + Clock + Sync>(
         rt: &R,
         alloc: Global,
-        setup: Setup,
+        cores: u8,
         job: J,
     ) -> Result<Finished<J::Output>, Unfinished<J>>
-        requires setup { FitsMachine setup }
+        requires some { 1 ≤ cores }
+        requires most { cores ≤ CORES }
         requires fresh { J.awaits job [] }
         ensures output { IfOk result (λ done. J.is_result job done.output) }
         ensures all { IfOk result (λ done. done.tally.ended ≡ done.tally.spawned) }
         ensures handed_back { IfErr result (HandsBackRun job) }
     {
-        let Setup { cores, slots } = setup;
-        let made = Pool::<WordContexts<Spawned<J>>>::new::<J>(alloc, cores, slots, Vec::new(alloc));
+        let made = Pool::<WordContexts<Spawned<J>>>::new::<J>(alloc, cores, SLOTS, Vec::new(alloc));
         let Ok((pool, worker)) = made else {
-            return Err(Unfinished::NotSpawned(RunFault::Worker(PoolFault::Memory), job));
+            return Err(Unfinished::NotSpawned(PoolFault::Memory, job));
         };
         // Until the job is spawned, by the first kernel thread once all have begun.
         pool.keep_open();
-        let (asked, crew) = (Snapshot::of(&job), Crew::of(&pool, &job));
+        let asked = Snapshot::of(&job);
+        let crew = Crew {
+            pool: &pool,
+            asked: Snapshot::of(&job),
+            first_fault: Mutex::new(None),
+        };
         let share = Share {
             worker,
             job: Some(job),
@@ -166,13 +131,177 @@ where
     }
 }
 
+/// Returns the number of processors that this process may use, at most 64, or 1 if the system doesn't report it.
+fn processors<R: Threads>(rt: &R) -> u8
+    ensures { (1 ≤ result) × (result ≤ CORES) }
+{
+    match available_parallelism(rt) {
+        Ok(count) => u8::try_from(count.get()).unwrap_or(CORES).min(CORES),
+        Err(_) => 1,
+    }
+}
+
+/// The kernel threads of a pool that run a job, one for each core.
+#[derive(Drop)]
+struct Crew<'p, C: Seats, J> {
+    pool: &'p Pool<C>,
+    /// The job before its first step. It has no bytes.
+    asked: Snapshot<J>,
+    first_fault: Mutex<Option<PoolFault>>,
+}
+
+/// The share of one kernel thread: its worker, and for the first kernel thread also the job, or once that is spawned its
+/// handle.
+#[derive(Drop)]
+struct Share<S, J: PoolJob> {
+    worker: Worker<S, J>,
+    job: Option<J>,
+    handle: Option<Handle<J>>,
+}
+
+impl<'p, C: Seats, J: PoolJob> Crew<'p, C, J> {
+    /// Stops all kernel threads for a fault, and records it if it is the first.
+    fn stop_for<R: Wait>(&self, rt: &R, fault: PoolFault) {
+        let mut first = self.first_fault.lock(rt);
+        if first.is_none() {
+            *first = Some(fault);
+        }
+        self.pool.stop();
+    }
+
+    /// Returns the fault that was recorded first.
+    fn into_first_fault(self) -> Option<PoolFault> {
+        let Crew { first_fault, .. } = self;
+        first_fault.into_inner()
+    }
+
+    /// Spawns the job, if this kernel thread has it, after which no more come, and returns its handle. Returns the job
+    /// instead if memory is refused, or if the pool was stopped since the system refused to start a kernel thread.
+    fn spawn<R: Wait>(
+        &self,
+        rt: &R,
+        worker: &mut Worker<C::Seat, J>,
+        job: Option<J>,
+    ) -> (Option<J>, Option<Handle<J>>)
+    where
+        C: Contexts<Spawned<J>>,
+        requires worker { IsWorkerOf C.sits C.idle self.now.pool.now.table self.now.pool.now.cores worker.old }
+        requires fresh { J.awaits self.now.asked.value [] }
+        requires job { IfSome job (λ job. job ≡ self.now.asked.value) }
+        ensures worker { IsWorkerOf C.sits C.idle self.now.pool.now.table self.now.pool.now.cores worker.new }
+        ensures job { IfSome result.0 (λ job. job ≡ self.now.asked.value) }
+        ensures handle { IfSome result.1 (λ handle. handle ≡ self.now.asked.value) }
+    {
+        let Some(job) = job else {
+            return (None, None);
+        };
+        if self.pool.is_stopped() {
+            return (Some(job), None);
+        }
+        match self.pool.spawn(rt, worker, job) {
+            Ok(handle) => {
+                self.pool.finish();
+                (None, Some(handle))
+            }
+            Err(refused) => {
+                let Refused { job, .. } = refused;
+                self.stop_for(rt, PoolFault::Memory);
+                (Some(job), None)
+            }
+        }
+    }
+}
+
+impl<'p, J: PoolJob, C: Contexts<Spawned<J>>> Team<Share<C::Seat, J>> for Crew<'p, C, J> {
+    ghost use Rattle.std.specs.Prelude.{◌≡◌, ◌<◌, [], IfSome};
+    ghost use Rattle.arachne_pool.specs.Workers.{IsWorkerOf};
+
+    ghost has = { λ crew share. IsWorkerOf C.sits C.idle crew.pool.now.table crew.pool.now.cores share.worker
+        × IfSome share.job (λ job. job ≡ crew.asked.value) × IfSome share.handle (λ handle. handle ≡ crew.asked.value) × J.awaits crew.asked.value [] };
+
+    ghost size = { λ crew. crew.pool.now.cores };
+
+    fn size(&self) -> u8 {
+        self.pool.cores
+    }
+
+    fn part_off<R: Wait>(
+        &self,
+        rt: &R,
+        share: Share<C::Seat, J>,
+    ) -> (Share<C::Seat, J>, Option<Share<C::Seat, J>>) {
+        let Share {
+            worker,
+            job,
+            handle,
+        } = share;
+        let (worker, theirs) = self.pool.split(rt, worker);
+        let theirs = Share {
+            worker: theirs,
+            job: None,
+            handle: None,
+        };
+        let own = Share {
+            worker,
+            job,
+            handle,
+        };
+        (own, Some(theirs))
+    }
+
+    fn work<R: Wait + Clock>(
+        &self,
+        rt: &R,
+        number: u8,
+        share: Share<C::Seat, J>,
+    ) -> Option<Share<C::Seat, J>> {
+        let Share {
+            mut worker,
+            job,
+            ..
+        } = share;
+        let (job, handle) = self.spawn(rt, &mut worker, job);
+        if let Err(fault) = self.pool.work(rt, &mut worker, number) {
+            self.stop_for(rt, fault);
+        }
+        Some(Share {
+            worker,
+            job,
+            handle,
+        })
+    }
+
+    fn join<R: Wait>(
+        &self,
+        rt: &R,
+        share: Share<C::Seat, J>,
+        other: Share<C::Seat, J>,
+    ) -> Option<Share<C::Seat, J>> {
+        let Share {
+            worker,
+            job,
+            handle,
+        } = share;
+        let worker = self.pool.join_workers(rt, worker, other.worker).ok()?;
+        Some(Share {
+            worker,
+            job,
+            handle,
+        })
+    }
+
+    fn fail<R: Wait>(&self, rt: &R, fault: TeamFault) {
+        self.stop_for(rt, PoolFault::from(fault));
+    }
+}
+
 /// Closes a pool whose kernel threads have ended, with what they have left, and takes the result of its first job.
 fn end<C: Contexts<Spawned<J>> + Drop, R: Wait, J: PoolJob>(
     rt: &R,
     alloc: Global,
     pool: Pool<C>,
     share: Option<Share<C::Seat, J>>,
-    fault: Option<RunFault>,
+    fault: Option<PoolFault>,
     asked: &Snapshot<J>,
 ) -> Result<Finished<J::Output>, Unfinished<J>>
     requires worker { IfSome share (λ share. IsWorkerOf C.sits C.idle pool.table pool.cores share.worker) }
@@ -182,7 +311,7 @@ fn end<C: Contexts<Spawned<J>> + Drop, R: Wait, J: PoolJob>(
     ensures all { IfOk result (λ done. done.tally.ended ≡ done.tally.spawned) }
     ensures handed_back { IfErr result (HandsBackRun asked.now.value) }
 {
-    let why = fault.unwrap_or(RunFault::Worker(PoolFault::Stopped));
+    let why = fault.unwrap_or(PoolFault::Stopped);
     let Some(share) = share else {
         return Err(Unfinished::Lost(why));
     };
@@ -197,7 +326,7 @@ fn end<C: Contexts<Spawned<J>> + Drop, R: Wait, J: PoolJob>(
     let Some(handle) = handle else {
         return Err(Unfinished::Lost(why));
     };
-    let (tally, statistics) = (worker.tally(), pool.all_statistics());
+    let tally = worker.tally();
     let Ok(left) = pool.close(rt, alloc, worker) else {
         return Err(Unfinished::Lost(why));
     };
@@ -205,11 +334,7 @@ fn end<C: Contexts<Spawned<J>> + Drop, R: Wait, J: PoolJob>(
         return Err(Unfinished::Stopped(why, tally, left));
     }
     match handle.poll() {
-        Ok(output) => Ok(Finished {
-            output,
-            tally,
-            statistics,
-        }),
+        Ok(output) => Ok(Finished { output, tally }),
         Err(_) => Err(Unfinished::Stopped(why, tally, left)),
     }
 }

@@ -1,36 +1,24 @@
 //! A worker's seat at the table of a pool. Between two calls the seat has the job in hand, and nothing else.
-ghost use Rattle.std.specs.Prelude.{◌≡◌, ◌≤◌, IfSome, false};
+ghost use Rattle.std.specs.Prelude.{◌≡◌, ◌<◌, ◌≤◌, IfSome, false, if◌then◌else◌};
 ghost use Rattle.arachne_pool.specs.Grounds.{in_hand};
+ghost use Rattle.arachne_pool.specs.Stops.{rests_as};
 ghost use Rattle.arachne_pool.specs.Workers.{IsIdleAt};
 
-use crate::bench::Bench;
+use crate::calls::PoolDesk;
 use crate::job::PoolJob;
-use crate::place::{end, place_oldest, post_oldest};
+use crate::place::{place_oldest, post_oldest};
 use crate::pool::Pool;
-use crate::posting::{Disowned, Posted};
-use crate::rounds::PoolDesk;
 use crate::spawned::{Ended, Spawned};
-use crate::stop::{JobStop, rest_of, rests_so};
-use crate::worker::PoolFault;
+use crate::stack::JobStop;
+use crate::worker::{Bench, disowned};
 use arachne_arbiter::Pace;
-use arachne_contexts::{Contexts, Held, Moved, Taken, Woken};
+use arachne_contexts::{Contexts, Held, Moved, Rested, Taken, Woken};
 use arachne_core::{MarkWord, OccWord, Place, Rest, ThreadId};
 use arachne_workers::{Desk, Grip, Halt, ThreadStop, TicketResult, WorkerEvent, is_drained};
 use std::marker::Model;
 use std::mem::replace;
 use std::sync::Wait;
 use std::sync::atomic::Ordering;
-
-/// The call of the pool that a worker is in.
-#[derive(Clone, Copy, Debug, PartialEq, Eq)]
-pub(crate) enum Call {
-    /// One round, in which each job has one slice. The worker doesn't wait.
-    Turn,
-    /// Rounds until all jobs have ended. The worker parks if its core is closed.
-    Work,
-    /// Rounds until one job has ended. Nobody signals that end.
-    Join,
-}
 
 /// A worker's desk at the table. Contracts see the pool to which the desk belongs; its invariant says which job the
 /// seat has in hand.
@@ -39,7 +27,9 @@ pub(crate) struct Seat<'a, H, J: PoolJob, C: Contexts<Spawned<J>>> {
     pub(crate) rt: &'a H,
     pub(crate) pool: &'a Pool<C>,
     pub(crate) core: u8,
-    pub(crate) call: Call,
+    /// True in `work`, in which the worker parks if its core is closed. In `turn` each job has one slice, and the worker
+    /// doesn't wait.
+    pub(crate) works: bool,
     /// True if the table did not know a place or a job of the worker's. If true, the seat may still have a place or a
     /// job, and the worker must stop.
     pub(crate) is_broken: bool,
@@ -49,8 +39,6 @@ pub(crate) struct Seat<'a, H, J: PoolJob, C: Contexts<Spawned<J>>> {
     pub(crate) blocks: bool,
     /// True if a job was taken since the worker last checked whether others have too many jobs.
     pub(crate) has_taken: bool,
-    /// True if the last look at the core found the core closed and empty, and no call has read this field since.
-    pub(crate) is_drained: bool,
     pub(crate) bench: Bench<J>,
 }
 
@@ -91,29 +79,16 @@ impl<'a, H: Wait, J: PoolJob, C: Contexts<Spawned<J>>> Desk for Seat<'a, H, J, C
 
     fn quantum(&self) -> u32 {
         match &self.held {
-            Some(held) => held.value.bound().max(1),
+            Some(held) => held.value.stack.job().bound().max(1),
             None => 1,
         }
     }
 
     #[inline(always)]
     fn advance(&mut self, _pace: &mut Pace, left: &mut u32) -> Result<ThreadStop, Halt> {
-        let before = *left;
         let mut stop = self.go_on(left);
-        if stop == JobStop::LetsGo && self.let_go() {
-            stop = self.go_on(left);
-        }
-        let done = &mut self.bench.done;
-        done.steps = done
-            .steps
-            .wrapping_add(u64::from(before.wrapping_sub(*left)));
         if stop == JobStop::Sleeps {
             stop = self.fall_asleep(left);
-        }
-        if stop == JobStop::Short {
-            // Subtracts all: the next slice tries again.
-            *left = 0;
-            self.bench.is_short = true;
         }
         if stop == JobStop::Ends {
             // The job's end is counted in `end`, once the place is free and the result is left.
@@ -124,7 +99,13 @@ impl<'a, H: Wait, J: PoolJob, C: Contexts<Spawned<J>>> Desk for Seat<'a, H, J, C
         self.pool.live.add(self.core, self.bench.news());
         match stop {
             JobStop::Waits | JobStop::Sleeps => Ok(ThreadStop::Blocks),
-            JobStop::LetsGo | JobStop::Short => Ok(ThreadStop::Goes),
+            JobStop::LetsGo => Ok(ThreadStop::Goes),
+            JobStop::Short => {
+                // Subtracts all: the next slice tries again.
+                *left = 0;
+                self.bench.is_short = true;
+                Ok(ThreadStop::Goes)
+            }
             _ => self.post_oldest(),
         }
     }
@@ -137,10 +118,10 @@ impl<'a, H: Wait, J: PoolJob, C: Contexts<Spawned<J>>> Desk for Seat<'a, H, J, C
     #[inline(always)]
     fn rest(&mut self) -> Result<Rest, Halt> {
         if self.is_broken {
-            return Err(Halt::from(PoolFault::Token));
+            return Err(disowned());
         }
         let Some(held) = self.held.take() else {
-            return Err(Halt::from(PoolFault::Token));
+            return Err(disowned());
         };
         let asked = rest_of(self.blocks);
         let table = &self.pool.table;
@@ -148,7 +129,7 @@ impl<'a, H: Wait, J: PoolJob, C: Contexts<Spawned<J>>> Desk for Seat<'a, H, J, C
             Ok(rested) => Ok(rests_so(rested, asked)),
             Err(held) => {
                 self.held = Some(held);
-                Err(Halt::from(PoolFault::Token))
+                Err(disowned())
             }
         }
     }
@@ -156,24 +137,29 @@ impl<'a, H: Wait, J: PoolJob, C: Contexts<Spawned<J>>> Desk for Seat<'a, H, J, C
     #[inline(always)]
     fn end(&mut self, _before: OccWord) -> Result<Option<ThreadId>, Halt> {
         if self.is_broken {
-            return Err(Halt::from(PoolFault::Token));
+            return Err(disowned());
         }
         let Some(held) = &self.held else {
-            return Err(Halt::from(PoolFault::Token));
+            return Err(disowned());
         };
         let Some(_) = held.value.taken_from(0) else {
-            return Err(Halt::from(PoolFault::Token));
+            return Err(disowned());
         };
         let Some(held) = self.held.take() else {
             unreachable!()
         };
         self.bench.has_ended = true;
-        match end::<H, J, C>(self.rt, self.pool, &mut self.seat, held) {
-            Ok(ended) => Ok(self.count_end(ended)),
-            Err(ended) => {
+        let table = &self.pool.table;
+        match table.finish(self.rt, &mut self.seat, held) {
+            Ok(job) => {
+                self.pool.room_was_seen();
+                Ok(self.count_end(job.leave()))
+            }
+            // The result is left even if the table doesn't know the place.
+            Err(held) => {
                 self.is_broken = true;
-                self.count_end(ended);
-                Err(Halt::from(PoolFault::Token))
+                self.count_end(held.value.leave());
+                Err(disowned())
             }
         }
     }
@@ -210,11 +196,7 @@ impl<'a, H: Wait, J: PoolJob, C: Contexts<Spawned<J>>> Desk for Seat<'a, H, J, C
 
     fn try_wake(&mut self, id: ThreadId) -> Woken {
         let table = &self.pool.table;
-        let woken = table.wake(self.rt, &mut self.seat, id);
-        if woken == Woken::Woken {
-            self.bench.done.wakes = self.bench.done.wakes.wrapping_add(1);
-        }
-        woken
+        table.wake(self.rt, &mut self.seat, id)
     }
 
     fn pull(&mut self, place: Place) -> bool {
@@ -223,7 +205,7 @@ impl<'a, H: Wait, J: PoolJob, C: Contexts<Spawned<J>>> Desk for Seat<'a, H, J, C
 
     #[inline(always)]
     fn may_take_ticket(&mut self) -> bool {
-        if self.held.is_some() && (self.call == Call::Turn || self.bench.is_short) {
+        if self.held.is_some() && (!self.works || self.bench.is_short) {
             // The job has had its slice: others must run.
             return true;
         }
@@ -235,7 +217,7 @@ impl<'a, H: Wait, J: PoolJob, C: Contexts<Spawned<J>>> Desk for Seat<'a, H, J, C
 
     fn take_ticket(&mut self) -> Result<TicketResult, Halt> {
         if self.is_broken {
-            return Err(Halt::from(PoolFault::Token));
+            return Err(disowned());
         }
         self.is_broken = true;
         let bench = &mut self.bench;
@@ -257,24 +239,32 @@ impl<'a, H: Wait, J: PoolJob, C: Contexts<Spawned<J>>> Desk for Seat<'a, H, J, C
     fn tend(&mut self) -> (Option<usize>, u64) {
         let pool = self.pool;
         let cores = pool.cores::<H, Spawned<J>>(self.rt);
-        self.bench.orders.tend(&cores, &mut self.seat, &pool.shared)
+        match &mut self.bench.orders {
+            Some(orders) => orders.tend(&cores, &mut self.seat, &pool.shared),
+            None => (None, 0),
+        }
     }
 
     #[inline(always)]
     fn has_orders(&self) -> bool {
-        self.bench.orders.has_any()
+        match &self.bench.orders {
+            Some(orders) => orders.has_any(),
+            None => false,
+        }
     }
 
     fn is_waited_for(&self) -> bool {
-        if self.call != Call::Work || !self.bench.near.is_empty() {
+        if !self.works || !self.bench.near.is_empty() {
             return true;
         }
-        self.bench.orders.has_more()
+        match &self.bench.orders {
+            Some(orders) => orders.has_more(),
+            None => false,
+        }
     }
 
     fn is_drained(&mut self) -> bool {
-        self.is_drained = is_drained(self.look());
-        self.is_drained
+        is_drained(self.look())
     }
 
     fn begins(&self, _nth: u64) {}
@@ -282,39 +272,20 @@ impl<'a, H: Wait, J: PoolJob, C: Contexts<Spawned<J>>> Desk for Seat<'a, H, J, C
     #[inline(always)]
     fn told(&self, event: WorkerEvent) {
         if matches!(event, WorkerEvent::Overslept) {
-            self.pool.live.add_overslept(self.core);
+            self.pool.overslept.fetch_add(1, Ordering::SeqCst);
         }
     }
 }
 
 impl<'a, H: Wait, J: PoolJob, C: Contexts<Spawned<J>>> PoolDesk for Seat<'a, H, J, C> {
-    fn is_over(&self) -> bool {
-        self.pool.is_over()
-    }
-
-    fn wake_if_over(&mut self) {
-        if replace(&mut self.bench.has_ended, false) {
-            self.pool.wake_if_over();
-        }
-    }
-
     fn take_short(&mut self) -> bool {
         replace(&mut self.bench.is_short, false)
-    }
-
-    fn take_drained(&mut self) -> bool {
-        replace(&mut self.is_drained, false)
-    }
-
-    fn report(&mut self, slices: u64, rests: u64) {
-        self.pool
-            .live
-            .add_done(self.core, self.bench.take_done(slices, rests));
     }
 }
 
 impl<'a, H: Wait, J: PoolJob, C: Contexts<Spawned<J>>> Seat<'a, H, J, C> {
-    /// Runs the job in hand for at most `left` steps. Returns `Waits` if no job is in hand.
+    /// Runs the job in hand for at most `left` steps. If a job ends without joining all of its children, releases these
+    /// first. Returns `Waits` if no job is in hand.
     #[inline(always)]
     fn go_on(&mut self, left: &mut u32) -> JobStop
         ensures desk { self.new ≡ self.old }
@@ -325,6 +296,12 @@ impl<'a, H: Wait, J: PoolJob, C: Contexts<Spawned<J>>> Seat<'a, H, J, C> {
         };
         let bench = &mut self.bench;
         let may_post = self.pool.has_room();
+        let stop = held
+            .value
+            .slice(&mut bench.cells, &mut bench.tally, left, may_post);
+        if stop != JobStop::LetsGo || !bench.let_go(&mut held.value) {
+            return stop;
+        }
         held.value
             .slice(&mut bench.cells, &mut bench.tally, left, may_post)
     }
@@ -337,7 +314,7 @@ impl<'a, H: Wait, J: PoolJob, C: Contexts<Spawned<J>>> Seat<'a, H, J, C> {
         ensures parent { result ≡ ended.parent }
     {
         self.pool.live.add(self.core, self.bench.news());
-        ended.parent()
+        ended.parent
     }
 
     /// Posts the oldest child that waits with the job in hand, if there is a place and memory is not refused.
@@ -346,28 +323,21 @@ impl<'a, H: Wait, J: PoolJob, C: Contexts<Spawned<J>>> Seat<'a, H, J, C> {
         ensures { self.new ≡ self.old }
     {
         if self.is_broken {
-            return Err(Halt::from(PoolFault::Token));
+            return Err(disowned());
         }
         let Some(held) = &mut self.held else {
-            return Err(Halt::from(PoolFault::Token));
+            return Err(disowned());
         };
         self.is_broken = true;
         let bench = &mut self.bench;
         let posted = post_oldest::<H, J, C>(self.rt, self.pool, &mut self.seat, bench, held)?;
         self.is_broken = false;
-        Ok(self.stop_after(posted))
-    }
-
-    /// Returns how the slice goes on after a child was posted (put at a place of its own). A child on the worker's own
-    /// core is noted as ready. A child on another core is left to that core's worker, which is signalled.
-    #[inline(always)]
-    fn stop_after(&self, posted: Option<Posted<J>>) -> ThreadStop {
         let Some(posted) = posted else {
-            return ThreadStop::Goes;
+            return Ok(ThreadStop::Goes);
         };
         match posted.tell_unless_on(self.core, &self.pool.shared) {
-            Some(post) => ThreadStop::Posted(post),
-            None => ThreadStop::Goes,
+            Some(post) => Ok(ThreadStop::Posted(post)),
+            None => Ok(ThreadStop::Goes),
         }
     }
 
@@ -379,11 +349,11 @@ impl<'a, H: Wait, J: PoolJob, C: Contexts<Spawned<J>>> Seat<'a, H, J, C> {
         let Some(held) = &self.held else {
             return JobStop::Waits;
         };
-        if held.value.has_aside() {
+        if held.value.stack.has_aside() {
             *left = 0;
             return JobStop::Goes;
         }
-        held.value.sleeps_as(held.id());
+        held.value.stack.job().sleeps_as(held.id());
         JobStop::Sleeps
     }
 
@@ -405,26 +375,18 @@ impl<'a, H: Wait, J: PoolJob, C: Contexts<Spawned<J>>> Seat<'a, H, J, C> {
             return false;
         }
         for core in 0..self.pool.cores {
-            if self.fetch_from(core) {
+            if let Some(place) = self.waiting_on(core)
+                && self.move_here(place)
+            {
+                let hints = self.pool.shared.hints();
+                hints.hint(
+                    self.core,
+                    self.pool.glance::<H, J>(self.rt, self.core).mask(),
+                );
                 return true;
             }
         }
         false
-    }
-
-    /// Moves a job that waits on `core` to the worker's own core. Returns whether there was such a job.
-    fn fetch_from(&mut self, core: u8) -> bool
-        ensures { self.new ≡ self.old }
-    {
-        let Some(place) = self.waiting_on(core) else {
-            return false;
-        };
-        let was_moved = self.move_here(place);
-        if was_moved {
-            let hints = self.pool.shared.hints();
-            hints.hint(self.core, self.occupied(self.core));
-        }
-        was_moved
     }
 
     /// Moves the job at a place of another core to the worker's own core, unless the job runs or has its core to
@@ -446,43 +408,24 @@ impl<'a, H: Wait, J: PoolJob, C: Contexts<Spawned<J>>> Seat<'a, H, J, C> {
     }
 
     /// Returns a place of another core at which a job may be ready, if that core's worker is awake and has not reached
-    /// the place yet. In a `turn` only those cores count for which a kernel thread has called `work`. This worker may
-    /// make the rounds of the other cores itself, and would move jobs to and fro between them.
-    fn waiting_on(&self, core: u8) -> Option<Place> {
-        if core == self.core || self.call == Call::Turn && !self.pool.live.is_worked(core) {
+    /// the place yet. In a `turn` only cores for which a kernel thread has called `work` count: this worker may make the
+    /// rounds of the others itself.
+    fn waiting_on(&self, core: u8) -> Option<Place>
+        requires { core < self.now.cores }
+    {
+        let worked = self.pool.worked.load(Ordering::SeqCst) >> u32::from(core) & 1 != 0;
+        if core == self.core || !self.works && !worked {
             return None;
         }
         let word = self.pool.shared.hints().word(core)?;
         let seen = word.load(Ordering::SeqCst);
         // The lowest bit says that the worker sleeps. The other bits are for the indexes.
-        let waiting = seen >> 1 & self.occupied(core);
+        let waiting = seen >> 1 & self.pool.glance::<H, J>(self.rt, core).mask();
         if seen & 1 != 0 || waiting == 0 {
             return None;
         }
         let index = u8::try_from(waiting.trailing_zeros()).ok()?;
         Some(Place { core, index })
-    }
-
-    /// Returns the indexes of a core that are occupied, a bit for each.
-    fn occupied(&self, core: u8) -> u64 {
-        if core >= self.pool.cores {
-            return 0;
-        }
-        match OccWord::from_word(self.pool.table.glance(self.rt, core)) {
-            Some(now) => now.mask(),
-            None => 0,
-        }
-    }
-
-    /// Releases the children that were not joined before their parent (the job in hand or a job in its place) ended.
-    /// Returns false if memory was refused.
-    fn let_go(&mut self) -> bool
-        ensures { self.new ≡ self.old }
-    {
-        match &mut self.held {
-            Some(held) => self.bench.let_go(&mut held.value),
-            None => true,
-        }
     }
 }
 
@@ -506,14 +449,21 @@ pub(crate) fn idle_seat<J: PoolJob, C: Contexts<Spawned<J>>>(
     }
 }
 
-impl From<Disowned> for Halt {
-    ghost use Rattle.std.specs.Prelude.{◌≡◌};
-    ghost use Rattle.arachne_pool.specs.Faults.{number_of};
-    ghost use Rattle.arachne_pool.specs.declared.worker.PoolFault.TheVariants.{Token};
+/// Returns the state in which a job is put back: blocked if `blocks`, else ready.
+#[inline(always)]
+fn rest_of(blocks: bool) -> Rest
+    ensures { result ≡ (if blocks then Rest.Blocked else Rest.Ready) }
+{
+    if blocks { Rest::Blocked } else { Rest::Ready }
+}
 
-    ghost from_gives = { λ _ halt. halt.why ≡ number_of Token };
-
-    fn from(_: Disowned) -> Halt {
-        Halt::from(PoolFault::Token)
+/// Returns the state of a job that was put back as `asked`: a job that was woken before is ready.
+#[inline(always)]
+fn rests_so(rested: Rested, asked: Rest) -> Rest
+    ensures { result ≡ rests_as rested asked }
+{
+    match rested {
+        Rested::AsAsked => asked,
+        Rested::WokenMeanwhile => Rest::Ready,
     }
 }

@@ -2,10 +2,9 @@
 ghost use Rattle.std.specs.Prelude.{◌≡◌, ◌+◌, ◌<◌, ◌≤◌, [], IfSome, IsSome, MatchOption, Some, None, length, true};
 ghost use Rattle.arachne_pool.specs.Frames.{CountsEach};
 
+use crate::handle::{Cells, ResultSender, leave_at};
 use crate::job::PoolJob;
-use crate::outcome::{Cells, ResultLeft, ResultSender, leave_at};
-use crate::stack::{Jobs, Stack};
-use crate::stop::JobStop;
+use crate::stack::{JobStop, Jobs, Stack};
 use crate::tally::Tally;
 use arachne_contexts::Tagged;
 use arachne_core::ThreadId;
@@ -17,13 +16,12 @@ use std::snapshot::Snapshot;
 /// child that the job has forked while no place was free waits in this value, and runs in the job's place once the job
 /// awaits the child.
 ///
-/// Contracts see the job's tag; the job as it was spawned; and the id under which its parent runs, if the parent has to
-/// be woken. Contracts also see the jobs that have not ended and run or wait in the job's place, as they are now, and
-/// the number of these jobs.
+/// Contracts see the job's tag, the job as it was spawned, the id under which its parent runs, if the parent has to be
+/// woken, and the jobs that have not ended and run or wait in the job's place, as they are now, with their number.
 #[derive(Drop)]
 pub struct Spawned<J: PoolJob> {
     tag: u64,
-    stack: Stack<J>,
+    pub(crate) stack: Stack<J>,
     sender: Option<ResultSender<J>>,
     parent: Option<ThreadId>,
 }
@@ -69,31 +67,6 @@ impl<J: PoolJob> Spawned<J> {
         }
     }
 
-    /// Returns whether the job wants a core for itself.
-    pub(crate) fn is_exclusive(&self) -> bool {
-        self.stack.is_exclusive()
-    }
-
-    /// Returns the most steps of a slice.
-    pub(crate) fn bound(&self) -> u32 {
-        self.stack.bound()
-    }
-
-    /// Reports to the job the id under which it rests.
-    pub(crate) fn sleeps_as(&self, id: ThreadId) {
-        self.stack.sleeps_as(id);
-    }
-
-    /// Returns whether a child waits in this job's place to begin.
-    pub(crate) fn has_aside(&self) -> bool {
-        self.stack.has_aside()
-    }
-
-    /// Returns whether the oldest child that waits in this job's place wants a core for itself.
-    pub(crate) fn is_oldest_exclusive(&self) -> bool {
-        self.stack.is_oldest_exclusive()
-    }
-
     /// Subtracts the number of jobs in this place that have not ended from `count`. Returns `None` if that number is
     /// more than `count`.
     pub(crate) fn taken_from(&self, count: u64) -> Option<u64>
@@ -102,8 +75,8 @@ impl<J: PoolJob> Spawned<J> {
         self.stack.taken_from(count)
     }
 
-    /// Runs the job for at most `left` steps. Stops earlier if the job forks a child that may get a place of its own
-    /// (`may_post`), waits, or has ended. Counts each job that begins or ends.
+    /// Runs the job as `Stack::slice` does.
+    #[inline(always)]
     pub(crate) fn slice(
         &mut self,
         cells: &mut Cells<J>,
@@ -118,14 +91,8 @@ impl<J: PoolJob> Spawned<J> {
         self.stack.slice(cells, tally, left, may_post)
     }
 
-    /// Returns how many children were not joined before their parent, a job in this place, ended.
-    pub(crate) fn orphans(&self) -> usize {
-        self.stack.orphans()
-    }
-
-    /// Releases one child that was not joined before its parent ended. If the child had not begun, returns it as a job
-    /// of its own, whose result is dropped. If there is no room for such a job, a child that has not begun stays, and
-    /// the result is `None`.
+    /// Releases one child as `Stack::let_go` does. If the child had not begun, returns it as a job of its own, whose
+    /// result is dropped.
     pub(crate) fn let_go(&mut self, alloc: Global, has_room: bool) -> Option<Spawned<J>>
         ensures room { IsSome result → has_room ≡ true }
         ensures same { self.new ≡ record self.old { many = self.new.many; jobs = self.new.jobs } }
@@ -147,15 +114,14 @@ impl<J: PoolJob> Spawned<J> {
         ensures many { MatchOption result (self.new ≡ self.old) (λ child. self.new.many + child.many ≡ self.old.many) }
         ensures child { IfSome result (λ child. child ≡ one child.tag child.asked (Some me)) }
     {
-        let (job, sender) = self.stack.part_oldest(alloc, cells)?;
+        let (job, sender) = self.stack.links.part_oldest(alloc, cells)?;
         Some(Spawned::begin(alloc, job, Some(sender), Some(me)))
     }
 
-    /// Ends the job, once all jobs in its place have ended. The job's handle or its parent gets the result, which is a
-    /// result of the job as it was spawned.
+    /// Ends the job, once all jobs in its place have ended. Its handle or its parent gets the result.
     pub(crate) fn leave(self) -> Ended<J>
         requires { self.many ≡ 0 }
-        ensures { result ≡ self }
+        ensures { result.job.value ≡ self }
     {
         let job = Snapshot::of(&self);
         let Spawned {
@@ -167,8 +133,8 @@ impl<J: PoolJob> Spawned<J> {
         let Some(output) = stack.into_output() else {
             unreachable!()
         };
-        let left = leave_at(sender, output);
-        Ended { left, job, parent }
+        leave_at(sender, output);
+        Ended { job, parent }
     }
 
     /// Returns the jobs of this place that have not ended, as they are now: this job, and the jobs that run or wait in
@@ -186,38 +152,11 @@ impl<J: PoolJob> Spawned<J> {
 }
 
 /// A job that has ended and whose result was left. Only `Spawned::leave` returns a value of this type.
-///
-/// Contracts see the job as it ended.
+#[derive(Drop)]
 pub(crate) struct Ended<J: PoolJob> {
-    /// Shows that the result was left. The field has no bytes.
-    left: ResultLeft<J>,
-    /// The job as it ended. This field has no bytes either.
+    /// The job as it ended. The field has no bytes.
     job: Snapshot<Spawned<J>>,
-    parent: Option<ThreadId>,
-}
-
-impl<J: PoolJob> Model for Ended<J> {
-    ghost use Rattle.std.specs.Prelude.{◌≡◌};
-    ghost use Rattle.arachne_pool.specs.Jobs.{Being};
-
-    ghost Value = { Being J };
-
-    ghost view = { λ e. e.job.value };
-
-    ghost invariant = { λ e. J.is_result e.job.value.asked e.left × (e.parent ≡ e.job.value.parent) };
-}
-
-impl<J: PoolJob> Ended<J> {
-    /// Returns the id under which the parent runs, if the parent has to be woken.
-    #[inline(always)]
-    pub(crate) fn parent(self) -> Option<ThreadId>
-        ensures { result ≡ self.parent }
-    {
-        let Ended {
-            left: _,
-            job: _,
-            parent,
-        } = self;
-        parent
-    }
+    /// The id under which the parent runs, if the parent has to be woken.
+    pub(crate) parent: Option<ThreadId>,
+    ghost own: { parent ≡ job.value.parent },
 }

@@ -2,11 +2,11 @@
 ghost use Rattle.std.specs.Prelude.{◌≡◌, ◌+◌, ◌<◌, ◌≤◌, [], ◌∷◌, List, None, IfSome, IsSome, MatchOption, length, false, true};
 ghost use Rattle.arachne_pool.specs.Frames.{CountsEach, IsServed, KeepsMany, count_none, unless_ended};
 ghost use Rattle.arachne_pool.specs.Jobs.{children_of};
+ghost use Rattle.arachne_pool.specs.Stops.{blocks_after};
 
+use crate::handle::Cells;
 use crate::job::{PoolJob, Step};
 use crate::links::Links;
-use crate::outcome::{Cells, ResultSender};
-use crate::stop::JobStop;
 use crate::tally::Tally;
 use arachne_core::ThreadId;
 use std::alloc::Global;
@@ -14,6 +14,39 @@ use std::collections::VecDeque;
 use std::marker::Model;
 use std::mem::replace;
 use std::snapshot::Snapshot;
+
+/// The reason why a slice of a job stops.
+#[derive(Clone, Copy, Debug, PartialEq, Eq)]
+pub(crate) enum JobStop {
+    /// The job goes on.
+    Goes,
+    /// The job awaits a child that has begun elsewhere and has not ended.
+    Waits,
+    /// The job rests until it is woken.
+    Sleeps,
+    /// The job goes on, and has forked a child while a place may be free.
+    Forks,
+    /// A job has ended without joining all of its children, which must be released.
+    LetsGo,
+    /// The job has ended.
+    Ends,
+    /// Memory was refused. Nothing has changed.
+    Short,
+}
+
+impl JobStop {
+    /// Returns whether the job is put back as blocked: if it waits or sleeps.
+    #[inline(always)]
+    pub(crate) fn blocks(self) -> bool
+        ensures { result ≡ blocks_after self }
+    {
+        match self {
+            JobStop::Waits | JobStop::Sleeps => true,
+            JobStop::Goes | JobStop::Forks | JobStop::LetsGo | JobStop::Ends | JobStop::Short =>
+                false,
+        }
+    }
+}
 
 /// A job in a place: as it was forked, as it is now, and the number of its children that were forked and not joined,
 /// except for a child that runs in the job's place.
@@ -49,9 +82,9 @@ impl<J: PoolJob> JobFrame<J> {
 /// A job and the jobs that run in its place. Each job above the first was forked by the job below it, which awaits it
 /// and found no place for it. Only the topmost job makes steps.
 ///
-/// Contracts see the first job, as it was spawned, and the jobs that have not ended, as they are now, also those that
-/// wait in this place to begin, and the number of these jobs. Contracts also see what the topmost job has forked just
-/// now, or has ended with, and whether it has asked for the result of its newest child.
+/// Contracts see the first job, as it was spawned, and the jobs that have not ended, as they are now, with their number.
+/// They also see what the topmost job has forked just now, or has ended with, and whether it has asked for the result
+/// of its newest child.
 #[derive(Drop)]
 pub(crate) struct Stack<J: PoolJob> {
     /// The first job as it was spawned. The field has no bytes.
@@ -60,7 +93,7 @@ pub(crate) struct Stack<J: PoolJob> {
     /// The jobs below the topmost one, the first job first.
     below: Vec<JobFrame<J>>,
     /// The children of all jobs in this place, except for children that run in this place.
-    links: Links<J>,
+    pub(crate) links: Links<J>,
     /// A child that the topmost job has forked, and that has to wait in this place.
     child: Option<J>,
     /// The result of the topmost job, if it has ended.
@@ -106,29 +139,14 @@ impl<J: PoolJob> Stack<J> {
         }
     }
 
-    /// Returns whether the topmost job wants a core for itself.
-    pub(crate) fn is_exclusive(&self) -> bool {
-        self.top.job.is_exclusive()
-    }
-
-    /// Returns the most steps of a slice.
-    pub(crate) fn bound(&self) -> u32 {
-        self.top.job.bound()
-    }
-
-    /// Reports to the topmost job the id under which it rests.
-    pub(crate) fn sleeps_as(&self, id: ThreadId) {
-        self.top.job.sleeps_as(id);
+    /// Returns the topmost job.
+    pub(crate) fn job(&self) -> &J {
+        &self.top.job
     }
 
     /// Returns whether a child waits in this place to begin.
     pub(crate) fn has_aside(&self) -> bool {
         self.links.aside() > 0
-    }
-
-    /// Returns whether the oldest child that waits in this place wants a core for itself.
-    pub(crate) fn is_oldest_exclusive(&self) -> bool {
-        self.links.is_oldest_exclusive()
     }
 
     /// Subtracts the number of jobs in this place that have not ended from `count`. Returns `None` if that number is
@@ -248,8 +266,7 @@ impl<J: PoolJob> Stack<J> {
         }
     }
 
-    /// Gives the topmost job the result of its newest child, if the child has ended. If the child has not begun, begins
-    /// it in this place.
+    /// Gives the topmost job the result of its newest child, if it has ended, or begins that child in this place.
     fn receive(&mut self, cells: &mut Cells<J>) -> JobStop
         requires running { (self.old.ended ≡ None) × (self.old.child ≡ None) × (self.old.waits ≡ true) }
         ensures same { KeepsMany self.old self.new }
@@ -295,8 +312,7 @@ impl<J: PoolJob> Stack<J> {
         JobStop::Goes
     }
 
-    /// Gives the result of the topmost job to the job below it, which goes on. The result of the first job stays in
-    /// this value.
+    /// Gives the result of the topmost job to the job below it. The result of the first job stays in this value.
     fn pass_on(&mut self) -> JobStop
         requires { IsSome self.old.ended }
         ensures same { KeepsMany self.old self.new }
@@ -340,20 +356,6 @@ impl<J: PoolJob> Stack<J> {
         }
         self.top.awaited = self.top.awaited.checked_sub(1)?;
         self.links.forget_newest()
-    }
-
-    /// Takes the oldest child that waits in this place, to begin elsewhere, with the sending end of the cell for the
-    /// child's result. Returns `None` if no child waits or memory is refused.
-    pub(crate) fn part_oldest(
-        &mut self,
-        alloc: Global,
-        cells: &mut Cells<J>,
-    ) -> Option<(J, ResultSender<J>)>
-        ensures asked { self.new.asked ≡ self.old.asked }
-        ensures many { MatchOption result (self.new ≡ self.old) (λ parted. self.new.many + 1 ≡ self.old.many) }
-        ensures child { IfSome result (λ parted. (parted.1.key.job.value ≡ parted.0) × J.awaits parted.0 []) }
-    {
-        self.links.part_oldest(alloc, cells)
     }
 
     /// Returns the result of the first job, if it has ended. The first job has ended if no job is left in this place.

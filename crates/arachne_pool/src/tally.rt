@@ -1,5 +1,9 @@
-//! A worker's two counts: the jobs that it has spawned, and the jobs that have ended on its core.
+//! Counts of jobs that were spawned and that have ended: a worker's own, and those that all workers have reported.
 ghost use Rattle.std.specs.Prelude.{◌≡◌, ◌+◌, ◌≤◌, min};
+
+use crossbeam_utils::CachePadded;
+use std::alloc::{AllocError, Global};
+use std::sync::atomic::{AtomicU64, Ordering};
 
 /// The number of jobs that a worker has spawned, and of jobs that have ended on its core. Each count stays at 2^64 - 1.
 #[derive(Clone, Copy, Debug, PartialEq, Eq)]
@@ -10,7 +14,7 @@ pub struct Tally {
 
 impl Tally {
     /// Returns counts of 0.
-    pub fn new() -> Tally
+    pub(crate) fn new() -> Tally
         ensures { (result.spawned ≡ 0) × (result.ended ≡ 0) }
     {
         Tally {
@@ -36,15 +40,61 @@ impl Tally {
     {
         self.ended = self.ended.saturating_add(1);
     }
+}
 
-    /// Returns the sum of two workers' counts.
-    pub(crate) fn with(self, other: Tally) -> Tally
-        ensures spawned { self.spawned + other.spawned ≤ u64.MAX → result.spawned ≡ self.spawned + other.spawned }
-        ensures ended { self.ended + other.ended ≤ u64.MAX → result.ended ≡ self.ended + other.ended }
-    {
-        Tally {
-            spawned: self.spawned.saturating_add(other.spawned),
-            ended: self.ended.saturating_add(other.ended),
+/// The counts that the workers of one core have reported.
+#[derive(Drop)]
+struct CoreCounts {
+    spawned: AtomicU64,
+    ended: AtomicU64,
+}
+
+/// The counts of all workers. The counts of each core are on a cache line of their own. Behind these are the counts of
+/// workers that work for no core.
+#[derive(Drop)]
+pub(crate) struct Live {
+    told: Vec<CachePadded<CoreCounts>>,
+}
+
+impl Live {
+    /// Returns counts of 0 for this number of cores.
+    pub(crate) fn new(alloc: Global, cores: u8) -> Result<Live, AllocError> {
+        let mut told = Vec::new(alloc);
+        for _ in 0..=cores {
+            told.push(CachePadded::new(CoreCounts {
+                spawned: AtomicU64::new(0),
+                ended: AtomicU64::new(0),
+            }))?;
         }
+        Ok(Live { told })
+    }
+
+    /// Adds the jobs that a worker of `core` has spawned and ended. If there is no such core, the worker works for
+    /// none. A job must be added before another worker can run it.
+    pub(crate) fn add(&self, core: u8, news: Tally) {
+        if let Some(told) = self.told.get(usize::from(core)).or(self.told.last()) {
+            // Spawns are added first: `count` must not see the end of a job whose spawn it misses.
+            if news.spawned != 0 {
+                told.spawned.fetch_add(news.spawned, Ordering::SeqCst);
+            }
+            if news.ended != 0 {
+                told.ended.fetch_add(news.ended, Ordering::SeqCst);
+            }
+        }
+    }
+
+    /// Returns how many jobs were spawned and have not ended.
+    pub(crate) fn count(&self) -> u64 {
+        // Ends are read first: a job that is spawned or ends between the two reads counts as living, so 0 is never too
+        // early.
+        let ended = self.told.iter().fold(
+            0u64,
+            |sum, told| sum.wrapping_add(told.ended.load(Ordering::SeqCst)),
+        );
+        let spawned = self.told.iter().fold(
+            0u64,
+            |sum, told| sum.wrapping_add(told.spawned.load(Ordering::SeqCst)),
+        );
+        spawned.wrapping_sub(ended)
     }
 }

@@ -1,20 +1,25 @@
 //! Workers of a pool: the part that each worker has of the pool, how a worker is split in two, and how two are joined.
 ghost use Rattle.std.specs.Option.{option_or};
-ghost use Rattle.std.specs.Prelude.{◌≡◌, ◌+◌, ◌≤◌, [], IfErr, IfOk, None};
+ghost use Rattle.std.specs.Prelude.{◌≡◌, ◌+◌, ◌<◌, ◌≤◌, [], IfErr, IfOk, None, OnErr, if◌then◌else◌, false, true};
+ghost use Rattle.std.specs.VecDeque.{deque_capacity, deque_len};
+ghost use Rattle.arachne_pool.specs.Jobs.{one};
 ghost use Rattle.arachne_pool.specs.Workers.{HasNoCore};
 
-use crate::bench::Bench;
+use crate::handle::{Cells, Handle, WantedResult};
 use crate::job::PoolJob;
 use crate::orders::PoolOrders;
 use crate::pool::Pool;
+use crate::spawned::Spawned;
 use crate::tally::Tally;
 use arachne_arbiter::Pace;
 use arachne_contexts::Seats;
 use arachne_workers::{Agenda, Halt};
-use rand_core::Rng;
+use rand_core::{Rng, SeedableRng};
+use rand_xoshiro::Xoshiro256PlusPlus;
 use std::alloc::Global;
+use std::collections::VecDeque;
 use std::marker::Model;
-use std::mem::replace;
+use std::snapshot::Snapshot;
 use std::sync::Wait;
 use thiserror::Error;
 
@@ -31,46 +36,127 @@ pub enum PoolFault {
     /// The pool was stopped.
     #[error("the pool was stopped")]
     Stopped,
+    /// The system started no kernel thread for a core. Only `Pool::run` reports this.
+    #[error("a kernel thread was refused")]
+    KernelThread,
 }
 
-/// The worker's loop knows a fault by its number.
-impl From<PoolFault> for Halt {
+/// Returns the error of a worker's loop whose table didn't know a place or a job that it had given to the worker.
+pub(crate) fn disowned() -> Halt {
+    Halt { why: 0 }
+}
+
+/// A worker's loop ends early only if the table didn't know a place or a job.
+impl From<Halt> for PoolFault {
     ghost use Rattle.std.specs.Prelude.{◌≡◌};
-    ghost use Rattle.arachne_pool.specs.Faults.{number_of};
+    ghost use Rattle.arachne_pool.specs.declared.worker.PoolFault.TheVariants.{Token};
 
-    ghost from_gives = { λ fault halt. halt.why ≡ number_of fault };
+    ghost from_gives = { λ _ fault. fault ≡ Token };
 
-    fn from(fault: PoolFault) -> Halt {
-        Halt {
-            why: match fault {
-                PoolFault::Memory => 0,
-                PoolFault::Token => 1,
-                PoolFault::Stopped => 2,
-            },
-        }
+    fn from(_: Halt) -> PoolFault {
+        PoolFault::Token
     }
 }
 
-impl From<Halt> for PoolFault {
-    ghost use Rattle.std.specs.Prelude.{◌≡◌};
-    ghost use Rattle.arachne_pool.specs.Faults.{numbered};
+/// A worker's jobs that wait for a place, its counts, its random choices and its unused cells.
+#[derive(Drop)]
+pub(crate) struct Bench<J: PoolJob> {
+    pub(crate) alloc: Global,
+    /// Jobs that wait for a place, the oldest first. Such a job makes no step before it has a place.
+    pub(crate) near: VecDeque<Spawned<J>>,
+    pub(crate) cells: Cells<J>,
+    pub(crate) chooser: Xoshiro256PlusPlus,
+    pub(crate) tally: Tally,
+    /// The part of `tally` that was reported to the pool.
+    pub(crate) told: Tally,
+    /// The orders by which cores are closed and opened, if the worker has them.
+    pub(crate) orders: Option<PoolOrders>,
+    /// True if memory was refused, and no call has reported this yet.
+    pub(crate) is_short: bool,
+    /// True if a job has ended since this field was last read.
+    pub(crate) has_ended: bool,
+}
 
-    ghost from_gives = { λ halt fault. fault ≡ numbered halt.why };
+impl<J: PoolJob> Bench<J> {
+    ghost use Rattle.arachne_pool.specs.Jobs.{count_near};
 
-    fn from(halt: Halt) -> PoolFault {
-        match halt.why {
-            0 => PoolFault::Memory,
-            2 => PoolFault::Stopped,
-            _ => PoolFault::Token,
+    /// Begins a job, and makes room for it among the jobs that wait for a place. Returns the job's handle, and the job.
+    /// If memory is refused, the job is returned as an error.
+    pub(crate) fn begin(&mut self, job: J) -> Result<(Handle<J>, Spawned<J>), J>
+        requires fresh { J.awaits job [] }
+        ensures handle { IfOk result (λ begun. begun.0 ≡ job) }
+        ensures job { IfOk result (λ begun. begun.1 ≡ one (J.tag_of job) job None) }
+        ensures room { IfOk result (λ _. deque_len self.new.near < deque_capacity self.new.near) }
+        ensures near { self.new.near.items ≡ self.old.near.items }
+        ensures spawned { IfOk result (λ _. self.old.tally.spawned < u64.MAX → self.new.tally.spawned ≡ self.old.tally.spawned + 1) }
+        ensures ended { self.new.tally.ended ≡ self.old.tally.ended }
+        ensures refused { OnErr result (self.new.tally ≡ self.old.tally) }
+        ensures handed_back { IfErr result (λ back. back ≡ job) }
+        ensures same { self.new ≡ record self.old { near = self.new.near; cells = self.new.cells; tally = self.new.tally } }
+    {
+        if self.near.reserve(1).is_err() {
+            return Err(job);
         }
+        let wanted = WantedResult {
+            job: Snapshot::of(&job),
+        };
+        let Ok((receiver, sender)) = self.cells.open(self.alloc, &wanted) else {
+            return Err(job);
+        };
+        self.tally.count_spawned();
+        let begun = Spawned::begin(self.alloc, job, Some(sender), None);
+        Ok((Handle { receiver }, begun))
+    }
+
+    /// Releases the children that were not joined before their parent (this job or a job in its place) ended. Children
+    /// that have not begun then wait for places of their own, and none is lost. Returns false, and notes this, if
+    /// memory was refused; then a child that has not begun is left.
+    #[tactic(auto, using(crate::proofs::Counts::count_near_push))]
+    pub(crate) fn let_go(&mut self, job: &mut Spawned<J>) -> bool
+        ensures same { self.new ≡ record self.old { near = self.new.near; is_short = if result then self.old.is_short else true } }
+        ensures job { job.new ≡ record job.old { many = job.new.many; jobs = job.new.jobs } }
+        ensures many { count_near self.new.near.items + job.new.many ≡ count_near self.old.near.items + job.old.many }
+    {
+        for _ in 0..job.stack.orphans() {
+            let Ok(()) = self.near.reserve(1) else {
+                if job.stack.has_aside() {
+                    self.is_short = true;
+                    return false;
+                }
+                // The children that are left have begun elsewhere, and take no room.
+                let None = job.let_go(self.alloc, false) else {
+                    unreachable!()
+                };
+                continue;
+            };
+            if let Some(orphan) = job.let_go(self.alloc, true) {
+                self.near.push_back_reserved(orphan);
+            }
+        }
+        true
+    }
+
+    /// Returns how many jobs the worker has spawned, and how many have ended on its core, since the last call of
+    /// `news`.
+    pub(crate) fn news(&mut self) -> Tally
+        ensures same { self.new ≡ record self.old { told = self.new.tally } }
+        ensures spawned { self.old.told.spawned ≤ self.old.tally.spawned → self.old.told.spawned + result.spawned ≡ self.old.tally.spawned }
+        ensures ended { self.old.told.ended ≤ self.old.tally.ended → self.old.told.ended + result.ended ≡ self.old.tally.ended }
+    {
+        let news = Tally {
+            spawned: self.tally.spawned.wrapping_sub(self.told.spawned),
+            ended: self.tally.ended.wrapping_sub(self.told.ended),
+        };
+        self.told = self.tally;
+        news
     }
 }
 
 /// A worker: a kernel thread's access to a pool. A worker is used by one kernel thread at a time, for one core.
 ///
 /// Contracts see the worker's seat; the orders by which cores are closed and opened, if the worker has them; its jobs
-/// that have no place, and their number. Contracts also see the worker's counts, the part of the counts that it has
-/// reported, and the core for which it was last called.
+/// that have no place, and their number; its counts, and what it has reported of them; and the core for which it was
+/// last called.
 #[derive(Drop)]
 pub struct Worker<S, J: PoolJob> {
     pub(crate) seat: Option<S>,
@@ -115,9 +201,20 @@ impl<S, J: PoolJob> Worker<S, J> {
         ensures orders { result.arbiter ≡ None }
         ensures core { result.core ≡ u8.MAX }
     {
+        let bench = Bench {
+            alloc,
+            near: VecDeque::new(alloc),
+            cells: Cells::new(alloc),
+            chooser: Xoshiro256PlusPlus::seed_from_u64(seed),
+            tally: Tally::new(),
+            told: Tally::new(),
+            orders: None,
+            is_short: false,
+            has_ended: false,
+        };
         Worker {
             seat,
-            bench: Bench::new(alloc, seed),
+            bench,
             core: u8::MAX,
             agenda: Agenda::new(alloc, None),
             pace: Pace::new(),
@@ -148,11 +245,14 @@ impl<C: Seats> Pool<C> {
         ensures weight { HalvesWeight C.weight worker.seat result.0.seat result.1.seat }
     {
         let mut worker = worker;
-        let (seat, other) = self.split_seat(rt, worker.seat.take());
-        worker.seat = seat;
         let seed = worker.bench.chooser.next_u64();
-        let others = Worker::new(worker.bench.alloc, other, seed);
-        (worker, others)
+        let alloc = worker.bench.alloc;
+        let Some(seat) = worker.seat.take() else {
+            return (worker, Worker::new(alloc, None, seed));
+        };
+        let (own, theirs) = self.table.split(rt, seat);
+        worker.seat = Some(own);
+        (worker, Worker::new(alloc, Some(theirs), seed))
     }
 
     /// Joins two workers into one, with the core of the first, and the orders of the first or else of the second. The
@@ -183,34 +283,19 @@ impl<C: Seats> Pool<C> {
         if worker.bench.near.append(&mut other.bench.near).is_err() {
             return Err((worker, other));
         }
-        worker.bench.count_too(other.bench.tally);
-        let own = replace(&mut worker.bench.orders, PoolOrders::none());
-        let theirs = replace(&mut other.bench.orders, PoolOrders::none());
-        worker.bench.orders = own.or(theirs);
+        // Both workers have reported their counts to the pool.
+        let (own, theirs) = (worker.bench.tally, other.bench.tally);
+        worker.bench.tally = Tally {
+            spawned: own.spawned.saturating_add(theirs.spawned),
+            ended: own.ended.saturating_add(theirs.ended),
+        };
+        worker.bench.told = worker.bench.tally;
+        worker.bench.orders = worker.bench.orders.take().or(other.bench.orders.take());
         worker.seat = self.join_seats(rt, worker.seat.take(), other.seat.take());
         Ok(worker)
     }
 
-    pub(crate) fn split_seat<H: Wait>(
-        &self,
-        rt: &H,
-        seat: Option<C::Seat>,
-    ) -> (Option<C::Seat>, Option<C::Seat>)
-        requires { IfSome seat (IsIdleAt C.sits C.idle self.now.table) }
-        ensures first { IfSome result.0 (IsIdleAt C.sits C.idle self.now.table) }
-        ensures second { IfSome result.1 (IsIdleAt C.sits C.idle self.now.table) }
-        ensures both { IsSome seat → IsSome result.0 × IsSome result.1 }
-        ensures weight { HalvesWeight C.weight seat result.0 result.1 }
-    {
-        match seat {
-            Some(seat) => {
-                let (first, second) = self.table.split(rt, seat);
-                (Some(first), Some(second))
-            }
-            None => (None, None),
-        }
-    }
-
+    /// Joins two seats into one, if both are there.
     pub(crate) fn join_seats<H: Wait>(
         &self,
         rt: &H,

@@ -1,8 +1,8 @@
 //! The counts and replies that the jobs of a row (a test case) share with the kernel threads that wake them.
 use arachne_core::ThreadId;
 use std::alloc::Global;
+use std::sync::Arc;
 use std::sync::atomic::{AtomicU64, Ordering};
-use std::sync::{Arc, Wait};
 use std::thread::yield_now;
 
 /// The number of looks at a word before a job rests, which take some microseconds.
@@ -17,12 +17,14 @@ pub(crate) struct Board {
     pub(crate) alloc: Global,
     /// The number of jobs that have made a step.
     pub(crate) begun: AtomicU64,
+    /// The number of steps that jobs have made.
+    pub(crate) steps: AtomicU64,
     /// The number of times that a job was about to sleep.
     pub(crate) sleeps: AtomicU64,
     /// The number of times that a kernel thread has returned from its work.
     pub(crate) returns: AtomicU64,
     /// The number of times that the turn was passed to the kernel thread that waits for it.
-    turns: AtomicU64,
+    pub(crate) turns: AtomicU64,
     context: AtomicU64,
     generation: AtomicU64,
     answers: AtomicU64,
@@ -34,6 +36,7 @@ impl Board {
         let board = Board {
             alloc,
             begun: AtomicU64::new(0),
+            steps: AtomicU64::new(0),
             sleeps: AtomicU64::new(0),
             returns: AtomicU64::new(0),
             turns: AtomicU64::new(0),
@@ -44,9 +47,12 @@ impl Board {
         Arc::new(alloc, board).ok()
     }
 
-    /// Counts a job that makes its first step.
-    pub(crate) fn begins(&self) {
-        self.begun.fetch_add(1, Ordering::SeqCst);
+    /// Counts a step of a job, and the job if the step is its first.
+    pub(crate) fn counts_step(&self, is_first: bool) {
+        self.steps.fetch_add(1, Ordering::SeqCst);
+        if is_first {
+            self.begun.fetch_add(1, Ordering::SeqCst);
+        }
     }
 
     /// Notes the id of a job that is about to sleep. Then a moment passes, in which the job may be woken.
@@ -75,17 +81,6 @@ impl Board {
     /// Passes the turn to the kernel thread that waits for it.
     pub(crate) fn pass_turn(&self) {
         self.turns.fetch_add(1, Ordering::SeqCst);
-        self.turns.wake_one();
-    }
-
-    /// Returns the number of times that the turn was passed.
-    pub(crate) fn turns(&self) -> u64 {
-        self.turns.load(Ordering::SeqCst)
-    }
-
-    /// Waits until the turn was passed more than `turns` times. May also return earlier, for no reason.
-    pub(crate) fn await_turn<R: Wait>(&self, rt: &R, turns: u64) {
-        self.turns.park(rt, (turns & 0xffff_ffff) as u32);
     }
 
     /// Counts an answer.

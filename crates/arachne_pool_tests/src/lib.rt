@@ -5,10 +5,6 @@
 #[cfg(test)]
 mod board;
 #[cfg(test)]
-mod crew;
-#[cfg(test)]
-mod orders;
-#[cfg(test)]
 mod rounds;
 #[cfg(test)]
 mod rows;

@@ -1,18 +1,19 @@
 //! The acts of one worker on a pool, one after another, and the checks of their results.
 ghost use Rattle.std.specs.Prelude.{◌≡◌, ◌<◌, ◌≤◌, IfSome};
 ghost use Rattle.arachne_core.specs.declared.layout.TheConstants.{CORES, SLOTS};
+ghost use Rattle.arachne_policy.specs.Orders.{AreInOrder};
 ghost use Rattle.arachne_pool.specs.Workers.{IsWorkerOf};
 
 use crate::board::Board;
-use crate::crew::Share;
-use crate::orders::{Order, orders_of};
 use crate::spells::Spell;
-use crate::tasks::{LEAF, Sort, Task};
+use crate::tasks::{Sort, Task};
 use arachne_contexts::{Contexts, Woken};
-use arachne_core::{CORES, OccWord, Place, SLOTS, ThreadId};
-use arachne_pool::{Left, Pool, PoolFault, Refusal, Refused, Spawned, Worker};
+use arachne_core::{CORES, OccWord, SLOTS, ThreadId};
+use arachne_policy::{CoreOrder, OrderKind, check_orders};
+use arachne_pool::{Left, Pool, PoolFault, Refusal, Spawned, Worker};
 use arachne_shortage::Hoard;
 use std::alloc::Global;
+use std::sync::atomic::Ordering;
 use std::sync::{Arc, Wait};
 use std::time::Clock;
 
@@ -22,30 +23,42 @@ const FEW: usize = 40;
 /// The most attempts of `ends_in_need`, spawns and rounds together.
 const TRIES: u32 = 100_000;
 
-/// An act of a row: the worker does something, or checks something. The row fails if the result is not the one that the
-/// act states.
+/// The number of slices after which a core is granted or released, and the core.
+pub(crate) type Order = (u64, OrderKind, u64);
+
+pub(crate) const GRANT: OrderKind = OrderKind::Grant;
+
+pub(crate) const RELEASE: OrderKind = OrderKind::Release;
+
+/// Returns these orders, if they are in order and memory is not refused.
+pub(crate) fn orders_of(alloc: Global, orders: &[Order], cores: u8) -> Option<Vec<CoreOrder>>
+    ensures { IfSome result (λ orders. AreInOrder cores orders.items) }
+{
+    let mut list = Vec::new(alloc);
+    for &(after, kind, core) in orders {
+        list.push(CoreOrder { after, kind, core }).ok()?;
+    }
+    check_orders(&list, u64::from(cores)).ok()?;
+    Some(list)
+}
+
+/// An act of a row. The row fails if the result of the act is not the one that the act states.
 #[derive(Clone, Copy)]
 pub(crate) enum Act {
     /// A job is spawned.
     Spawns(Sort),
     /// This number of jobs are spawned.
     SpawnsMany(u32, Sort),
-    /// A job is spawned and joined on core 0, with this result. If the result is `None`, the join must fail because the
-    /// pool is stopped.
-    Joins(Sort, Option<u64>),
-    /// A job is spawned, core 0 has a round, and the job is joined once the pool is stopped. The job has ended before
-    /// the stop, with this result.
-    JoinsLate(Sort, u64),
-    /// A spawn in this way is tried, with this result.
-    Tries(On, Sort, Comes),
+    /// A spawn that keeps no job is tried, and refused for this reason, if there is one.
+    Tries(Sort, Option<Refusal>),
     /// The job of this context and generation is woken, with this result.
     Wakes(u32, u64, Wakes),
     /// An answer is counted for the jobs that sleep. The answer wakes none of these jobs.
     Answers,
     /// This number of answers were counted.
     Answered(u64),
-    /// A round on a core. The round must find something if the second value is true, and nothing if it is false.
-    Turns(u8, bool),
+    /// This number of rounds on a core, each of which must find something, or one that must find nothing if it is 0.
+    Turns(u8, u32),
     /// A round on a core. The round must fail because memory is refused.
     TurnsInNeed(u8),
     /// This number of a core's places are taken, and the core is in this state.
@@ -56,16 +69,10 @@ pub(crate) enum Act {
     Lives(u64),
     /// The worker has counted this number of spawned jobs.
     Counts(u64),
-    /// A core's statistics have these numbers of slices, steps, wakes and rests.
-    Did(u8, u64, u64, u64, u64),
-    /// Sleeps of kernel threads have timed out, although there was something for them to do, at most this number of
-    /// times.
-    Overslept(u64),
-    /// Sleeps of kernel threads have timed out, although there was something for them to do, at least this number of
-    /// times.
-    OversleptAtLeast(u64),
-    /// Jobs are spawned in each way until each place has one. A spawn may only fail because no place is free.
-    Fills,
+    /// The jobs have made this number of steps.
+    Stepped(u64),
+    /// Sleeps have timed out although there was something to do, at least and at most this number of times.
+    Overslept(u64, u64),
     /// The worker works on a core until no job is left, or it must stop.
     Works(u8),
     /// A job and the jobs that it forks end while memory is used up.
@@ -78,31 +85,6 @@ pub(crate) enum Act {
     KeepsOpen,
     /// The pool is stopped.
     Stops,
-}
-
-/// How and where a job is spawned.
-#[derive(Clone, Copy)]
-pub(crate) enum On {
-    /// On any core, by `spawn`: if no core has a free place, a worker may keep the job.
-    AnyKept,
-    /// On any core, by `try_spawn`.
-    Any,
-    /// On this core.
-    Core(u8),
-    /// On this core. The spawn must report the core's place of this index.
-    At(u8, u8),
-}
-
-/// The result of an attempt to spawn a job.
-#[derive(Clone, Copy, PartialEq)]
-pub(crate) enum Comes {
-    /// The job is spawned.
-    Begins,
-    /// No core had a free place: the first number of cores were full or exclusive to one job, the second number were
-    /// closed.
-    NoPlace(u8, u8),
-    NoMemory,
-    NoSeat,
 }
 
 /// The state in which a test's wake must find a job: asleep, awake, or gone.
@@ -144,6 +126,13 @@ pub(crate) struct Row {
     pub(crate) alive: usize,
 }
 
+/// A kernel thread's worker, and the number of kernel threads that have ended a job so far.
+#[derive(Drop)]
+pub(crate) struct Share<S> {
+    pub(crate) worker: Worker<S, Task>,
+    pub(crate) busy: usize,
+}
+
 /// Makes a row's pool and its worker, and does the row's first acts. Returns `None` if the pool can't be made, or if
 /// the result of an act is not the one that the act states.
 pub(crate) fn begin<C: Contexts<Spawned<Task>> + Drop, R: Wait + Clock>(
@@ -159,10 +148,11 @@ pub(crate) fn begin<C: Contexts<Spawned<Task>> + Drop, R: Wait + Clock>(
         return None;
     }
     let orders = orders_of(alloc, row.orders, cores)?;
-    let (pool, worker) = Pool::<C>::new::<Task>(alloc, cores, slots, orders).ok()?;
-    match all_hold::<C, R>(rt, alloc, &pool, board, worker, row.acts) {
-        Some(worker) => Some((pool, worker)),
-        None => None,
+    let (pool, mut worker) = Pool::<C>::new::<Task>(alloc, cores, slots, orders).ok()?;
+    if all_hold::<C, R>(rt, alloc, &pool, board, &mut worker, row.acts) {
+        Some((pool, worker))
+    } else {
+        None
     }
 }
 
@@ -178,10 +168,10 @@ pub(crate) fn end<C: Contexts<Spawned<Task>> + Drop, R: Wait + Clock>(
 ) -> bool
     requires { IsWorkerOf C.sits C.idle pool.table pool.cores share.worker }
 {
-    let Share { worker, busy } = share;
-    let Some(worker) = all_hold::<C, R>(rt, alloc, &pool, board, worker, row.then) else {
+    let Share { mut worker, busy } = share;
+    if !all_hold::<C, R>(rt, alloc, &pool, board, &mut worker, row.then) {
         return false;
-    };
+    }
     let Ok(left) = pool.close(rt, alloc, worker) else {
         return false;
     };
@@ -215,31 +205,21 @@ fn count_in(job: Spawned<Task>) -> usize {
     count
 }
 
-/// Does the acts with this worker. Returns the worker if the result of each act is the one that the act states. A waker
-/// has a part of the worker's seat meanwhile.
+/// Does the acts with this worker. Returns true if the result of each act is the one that the act states.
 fn all_hold<C: Contexts<Spawned<Task>>, R: Wait + Clock>(
     rt: &R,
     alloc: Global,
     pool: &Pool<C>,
     board: &Arc<Board>,
-    worker: Worker<C::Seat, Task>,
+    worker: &mut Worker<C::Seat, Task>,
     acts: &[Act],
-) -> Option<Worker<C::Seat, Task>>
-    requires { IsWorkerOf C.sits C.idle pool.now.table pool.now.cores worker }
-    ensures { IfSome result (IsWorkerOf C.sits C.idle pool.now.table pool.now.cores) }
+) -> bool
+    requires worker { IsWorkerOf C.sits C.idle pool.now.table pool.now.cores worker.old }
+    ensures worker { IsWorkerOf C.sits C.idle pool.now.table pool.now.cores worker.new }
 {
-    let (mut worker, waker) = pool.split_waker(rt, worker);
-    let mut waker = waker?;
     let mut hoard: Option<Hoard> = None;
     for act in acts {
         let holds = match *act {
-            Act::Wakes(context, generation, wakes) => {
-                let id = ThreadId {
-                    context,
-                    generation,
-                };
-                wakes_of(pool.wake::<R, Task>(rt, &mut waker, id).woken()) == wakes
-            }
             Act::Hoards => {
                 hoard = Hoard::take(alloc).ok();
                 hoard.is_some()
@@ -248,22 +228,13 @@ fn all_hold<C: Contexts<Spawned<Task>>, R: Wait + Clock>(
                 hoard = None;
                 true
             }
-            act => holds::<C, R>(rt, alloc, pool, board, &mut worker, act),
+            act => holds::<C, R>(rt, alloc, pool, board, worker, act),
         };
         if !holds {
-            return None;
+            return false;
         }
     }
-    Some(pool.join_waker(rt, worker, waker))
-}
-
-/// Returns the result of a wake in the words of a row.
-fn wakes_of(woken: Woken) -> Wakes {
-    match woken {
-        Woken::Woken => Wakes::It,
-        Woken::Already(_) => Wakes::Awake,
-        Woken::Gone | Woken::Lost(_) => Wakes::Nobody,
-    }
+    true
 }
 
 /// Does an act with one worker. Returns true if the result is the one that the act states.
@@ -279,24 +250,24 @@ fn holds<C: Contexts<Spawned<Task>>, R: Wait + Clock>(
     ensures worker { IsWorkerOf C.sits C.idle pool.now.table pool.now.cores worker.new }
 {
     match act {
-        Act::Spawns(sort) => match Task::new(sort, board) {
-            Some(task) => pool.spawn(rt, worker, task).is_ok(),
-            None => false,
-        },
-        Act::SpawnsMany(jobs, sort) => spawns_many::<C, R>(rt, pool, board, worker, jobs, sort),
-        Act::Turns(core, _) | Act::TurnsInNeed(core) if core < pool.cores => {
-            is_wanted(act, pool.turn(rt, worker, core))
+        Act::Spawns(sort) => spawns::<C, R>(rt, pool, board, worker, 1, sort),
+        Act::SpawnsMany(jobs, sort) => spawns::<C, R>(rt, pool, board, worker, jobs, sort),
+        Act::Tries(sort, wanted) => tries::<C, R>(rt, pool, board, worker, sort, wanted),
+        Act::Wakes(context, generation, wakes) => {
+            let id = ThreadId {
+                context,
+                generation,
+            };
+            is_woken(pool.wake(rt, worker, id), wakes)
+        }
+        Act::Turns(core, 0) if core < pool.cores => pool.turn(rt, worker, core) == Ok(false),
+        Act::Turns(core, rounds) if core < pool.cores => {
+            turns::<C, R>(rt, pool, worker, core, rounds)
+        }
+        Act::TurnsInNeed(core) if core < pool.cores => {
+            pool.turn(rt, worker, core) == Err(PoolFault::Memory)
         }
         Act::Works(core) if core < pool.cores => pool.work(rt, worker, core).is_ok(),
-        Act::Joins(sort, wanted) if pool.cores > 0 => {
-            joins::<C, R>(rt, pool, board, worker, sort, false, wanted)
-        }
-        Act::JoinsLate(sort, wanted) if pool.cores > 0 => {
-            joins::<C, R>(rt, pool, board, worker, sort, true, Some(wanted))
-        }
-        Act::Tries(on, sort, comes) => {
-            tried::<C, R>(rt, pool, board, worker, on, sort) == Some(comes)
-        }
         Act::EndsInNeed(sort) if pool.cores > 0 => {
             ends_in_need::<C, R>(rt, alloc, pool, board, worker, sort)
         }
@@ -305,17 +276,38 @@ fn holds<C: Contexts<Spawned<Task>>, R: Wait + Clock>(
             None => false,
         },
         Act::Counts(count) => worker.tally().spawned == count,
-        Act::Fills => fills::<C, R>(rt, pool, board, worker),
         act => is_so::<C, R>(rt, pool, board, act),
     }
 }
 
-/// Returns true if the result of a round is the one that its act states.
-fn is_wanted(act: Act, turned: Result<bool, PoolFault>) -> bool {
-    match act {
-        Act::Turns(_, finds) => turned == Ok(finds),
-        _ => turned == Err(PoolFault::Memory),
+/// Returns true if the result of a wake is the one that its act states.
+fn is_woken(woken: Option<Woken>, wakes: Wakes) -> bool {
+    match woken {
+        Some(Woken::Woken) => wakes == Wakes::It,
+        Some(Woken::Already(_)) => wakes == Wakes::Awake,
+        Some(Woken::Gone) => wakes == Wakes::Nobody,
+        Some(Woken::Lost(_)) | None => false,
     }
+}
+
+/// Makes `rounds` rounds on a core. Returns true if each has found something to do.
+fn turns<C: Contexts<Spawned<Task>>, R: Wait + Clock>(
+    rt: &R,
+    pool: &Pool<C>,
+    worker: &mut Worker<C::Seat, Task>,
+    core: u8,
+    rounds: u32,
+) -> bool
+    requires worker { IsWorkerOf C.sits C.idle pool.now.table pool.now.cores worker.old }
+    requires core { core < pool.now.cores }
+    ensures worker { IsWorkerOf C.sits C.idle pool.now.table pool.now.cores worker.new }
+{
+    for _ in 0..rounds {
+        if pool.turn(rt, worker, core) != Ok(true) {
+            return false;
+        }
+    }
+    true
 }
 
 /// Does an act that needs no worker. Returns true if the result is the one that the act states.
@@ -337,13 +329,8 @@ fn is_so<C: Contexts<Spawned<Task>>, R: Wait>(
             }
         }
         Act::Lives(count) => pool.live() == count,
-        Act::Did(core, slices, steps, wakes, rests) => {
-            let done = pool.statistics(core);
-            (done.slices, done.steps) == (slices, steps)
-                && (done.wakes, done.rests) == (wakes, rests)
-        }
-        Act::Overslept(most) => overslept(pool) <= most,
-        Act::OversleptAtLeast(least) => overslept(pool) >= least,
+        Act::Stepped(count) => board.steps.load(Ordering::SeqCst) == count,
+        Act::Overslept(least, most) => (least..=most).contains(&pool.overslept()),
         Act::Answers => {
             board.answer();
             true
@@ -361,53 +348,8 @@ fn is_so<C: Contexts<Spawned<Task>>, R: Wait>(
     }
 }
 
-/// Returns how often sleeps of kernel threads have timed out, although there was something for them to do.
-fn overslept<C: Contexts<Spawned<Task>>>(pool: &Pool<C>) -> u64 {
-    let mut sum: u64 = 0;
-    for core in 0..pool.cores {
-        sum = sum.saturating_add(pool.statistics(core).overslept);
-    }
-    sum
-}
-
-/// Tries to spawn a job. Returns the result, or `None` if the job can't be made, if there is no such core, or if the
-/// job got another place than `on` states.
-fn tried<C: Contexts<Spawned<Task>>, R: Wait>(
-    rt: &R,
-    pool: &Pool<C>,
-    board: &Arc<Board>,
-    worker: &mut Worker<C::Seat, Task>,
-    on: On,
-    sort: Sort,
-) -> Option<Comes>
-    requires worker { IsWorkerOf C.sits C.idle pool.now.table pool.now.cores worker.old }
-    ensures worker { IsWorkerOf C.sits C.idle pool.now.table pool.now.cores worker.new }
-{
-    let task = Task::new(sort, board)?;
-    let refused = match on {
-        On::AnyKept => pool.spawn(rt, worker, task).err(),
-        On::Any => pool.try_spawn(rt, worker, task).err(),
-        On::Core(core) | On::At(core, _) if core < pool.cores => {
-            match pool.try_spawn_on(rt, worker, core, task) {
-                Ok((_, place)) if !is_wanted_at(on, place) => return None,
-                tried => tried.err(),
-            }
-        }
-        On::Core(_) | On::At(..) => return None,
-    };
-    Some(comes_of(refused))
-}
-
-/// Returns true if a job that was spawned in this way may be at this place.
-fn is_wanted_at(on: On, place: Place) -> bool {
-    match on {
-        On::At(core, index) => (place.core, place.index) == (core, index),
-        _ => true,
-    }
-}
-
 /// Spawns `jobs` jobs. Returns true if each job was spawned.
-fn spawns_many<C: Contexts<Spawned<Task>>, R: Wait>(
+fn spawns<C: Contexts<Spawned<Task>>, R: Wait>(
     rt: &R,
     pool: &Pool<C>,
     board: &Arc<Board>,
@@ -419,108 +361,39 @@ fn spawns_many<C: Contexts<Spawned<Task>>, R: Wait>(
     ensures worker { IsWorkerOf C.sits C.idle pool.now.table pool.now.cores worker.new }
 {
     for _ in 0..jobs {
-        if tried::<C, R>(rt, pool, board, worker, On::AnyKept, sort) != Some(Comes::Begins) {
+        let Some(task) = Task::new(sort, board) else {
+            return false;
+        };
+        if pool.spawn(rt, worker, task).is_err() {
             return false;
         }
     }
     true
 }
 
-/// Spawns jobs that no worker keeps until half of the places are taken, and then on each core until it is full. Returns
-/// true if each job was spawned as long as there was a free place.
-fn fills<C: Contexts<Spawned<Task>>, R: Wait>(
-    rt: &R,
-    pool: &Pool<C>,
-    board: &Arc<Board>,
-    worker: &mut Worker<C::Seat, Task>,
-) -> bool
-    requires worker { IsWorkerOf C.sits C.idle pool.now.table pool.now.cores worker.old }
-    ensures worker { IsWorkerOf C.sits C.idle pool.now.table pool.now.cores worker.new }
-{
-    let places = u64::from(pool.cores) * u64::from(pool.slots);
-    for nth in 0..places / 2 + places % 2 {
-        let on = if nth % 2 == 0 { On::AnyKept } else { On::Any };
-        if tried::<C, R>(rt, pool, board, worker, on, LEAF) != Some(Comes::Begins) {
-            return false;
-        }
-    }
-    for core in 0..pool.cores {
-        if fills_core::<C, R>(rt, pool, board, worker, core) != Some(Comes::NoPlace(1, 0)) {
-            return false;
-        }
-    }
-    worker.tally().spawned == places
-        && tried::<C, R>(rt, pool, board, worker, On::Any, LEAF)
-            == Some(Comes::NoPlace(pool.cores, 0))
-}
-
-/// Spawns jobs on a core until a spawn fails. Returns the result of that spawn.
-fn fills_core<C: Contexts<Spawned<Task>>, R: Wait>(
-    rt: &R,
-    pool: &Pool<C>,
-    board: &Arc<Board>,
-    worker: &mut Worker<C::Seat, Task>,
-    core: u8,
-) -> Option<Comes>
-    requires worker { IsWorkerOf C.sits C.idle pool.now.table pool.now.cores worker.old }
-    ensures worker { IsWorkerOf C.sits C.idle pool.now.table pool.now.cores worker.new }
-{
-    for _ in 0..=pool.slots {
-        let comes = tried::<C, R>(rt, pool, board, worker, On::Core(core), LEAF)?;
-        if comes != Comes::Begins {
-            return Some(comes);
-        }
-    }
-    None
-}
-
-/// Returns the result of a spawn: its refusal, if there was one.
-fn comes_of(refused: Option<Refused<Task>>) -> Comes {
-    match refused {
-        None => Comes::Begins,
-        Some(Refused { why, .. }) => match why {
-            Refusal::NoPlace(seen) => Comes::NoPlace(seen.full(), seen.closed()),
-            Refusal::Memory => Comes::NoMemory,
-            Refusal::NoSeat => Comes::NoSeat,
-        },
-    }
-}
-
-/// Spawns a job and joins it on core 0. If `is_late` is true, core 0 has a round first, and then the pool is stopped.
-/// Returns true if the job's result is `wanted`, or if `wanted` is `None` and the join fails because the pool is
-/// stopped.
-fn joins<C: Contexts<Spawned<Task>>, R: Wait + Clock>(
+/// Tries to spawn a job. Returns true if it is refused for this reason, or spawned if there is none.
+fn tries<C: Contexts<Spawned<Task>>, R: Wait>(
     rt: &R,
     pool: &Pool<C>,
     board: &Arc<Board>,
     worker: &mut Worker<C::Seat, Task>,
     sort: Sort,
-    is_late: bool,
-    wanted: Option<u64>,
+    wanted: Option<Refusal>,
 ) -> bool
     requires worker { IsWorkerOf C.sits C.idle pool.now.table pool.now.cores worker.old }
-    requires core { 0 < pool.now.cores }
     ensures worker { IsWorkerOf C.sits C.idle pool.now.table pool.now.cores worker.new }
 {
     let Some(task) = Task::new(sort, board) else {
         return false;
     };
-    let Ok(handle) = pool.spawn(rt, worker, task) else {
-        return false;
-    };
-    if is_late {
-        let _ = pool.turn(rt, worker, 0);
-        pool.stop();
-    }
-    match pool.join(rt, worker, 0, handle) {
-        Ok(counted) => wanted == Some(counted),
-        Err((fault, _)) => wanted.is_none() && fault == PoolFault::Stopped,
+    match pool.try_spawn(rt, worker, task) {
+        Ok(_) => wanted.is_none(),
+        Err(refused) => wanted == Some(refused.why),
     }
 }
 
-/// Spawns a job while memory is used up, and makes rounds on core 0 until all jobs have ended. After a refusal, tries
-/// again with a little more memory. Returns true if all jobs have ended, and a spawn and more than 20 rounds were
-/// refused.
+/// Spawns a job while memory is used up, and makes rounds on core 0 until all jobs have ended, with a little more memory
+/// after each refusal. Returns true if all have ended, and a spawn and more than 20 rounds were refused.
 fn ends_in_need<C: Contexts<Spawned<Task>>, R: Wait + Clock>(
     rt: &R,
     alloc: Global,

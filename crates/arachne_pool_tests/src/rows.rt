@@ -1,15 +1,18 @@
 //! Test cases for a pool over the table on atomic words: what its workers do, and how many jobs must be left.
+ghost use Rattle.std.specs.Prelude.{◌≡◌, ◌<◌, IfSome};
+ghost use Rattle.arachne_pool.specs.Workers.{IsWorkerOf};
+
 use crate::board::Board;
-use crate::crew::{Crew, Share};
-use crate::orders::{GRANT, Order, RELEASE};
-use crate::rounds::{Act, Comes, Is, On, Row, begin, end};
-use crate::spells::{Spell, Until};
+use crate::rounds::{Act, GRANT, Is, Order, RELEASE, Row, Share, begin, end};
+use crate::serving;
+use crate::spells::{Spell, work};
 use crate::tasks::{Joins, LEAF, PARENT, Sort, Task};
-use arachne_pool::Spawned;
-use arachne_team::work_together;
+use arachne_contexts::{Contexts, Seats};
+use arachne_pool::{Pool, Spawned};
+use arachne_team::{Team, TeamFault, work_together};
 use arachne_words::WordContexts;
 use std::alloc::Global;
-use std::sync::Wait;
+use std::sync::{Arc, Wait};
 use std::test::Fail;
 use std::thread::Threads;
 use std::time::Clock;
@@ -103,16 +106,15 @@ const ROWS: &[Row] = &[
             Act::Spawns(ELEVEN),
             Act::Spawns(ELEVEN),
             Act::Spawns(LEAF),
-            Act::Turns(0, true),
+            Act::Turns(0, 1),
             Act::Lives(5),
             Act::Stops,
             Act::Works(0),
             Act::Works(1),
             Act::Lives(5),
-            Act::Joins(LEAF, None),
         ],
-        left: (2, 3),
-        alive: 6,
+        left: (2, 2),
+        alive: 5,
         ..NOTHING
     },
     Row {
@@ -123,33 +125,18 @@ const ROWS: &[Row] = &[
             Act::Spawns(ALONE_PARENT),
             Act::Has(0, 1, Is::Alone),
             Act::Has(1, 0, Is::Open),
-            Act::Turns(0, true),
+            Act::Turns(0, 1),
             Act::Has(1, 1, Is::Alone),
             Act::Lives(2),
-            Act::Turns(0, true),
-            Act::Turns(0, true),
-            Act::Turns(0, false),
+            Act::Turns(0, 2),
+            Act::Turns(0, 0),
             Act::Lives(2),
-            Act::Turns(1, true),
+            Act::Turns(1, 1),
             Act::Has(1, 0, Is::Open),
             Act::Lives(1),
-            Act::Turns(0, true),
+            Act::Turns(0, 1),
             Act::Lives(0),
-            Act::Turns(0, false),
-        ],
-        ..NOTHING
-    },
-    Row {
-        shows: "a job whose child has ended before it waits goes on at once",
-        cores: 2,
-        slots: 1,
-        acts: &[
-            Act::Spawns(ALONE_PARENT),
-            Act::Turns(0, true),
-            Act::Turns(1, true),
-            Act::Turns(0, true),
-            Act::Turns(0, true),
-            Act::Lives(0),
+            Act::Turns(0, 0),
         ],
         ..NOTHING
     },
@@ -159,19 +146,18 @@ const ROWS: &[Row] = &[
         slots: 2,
         acts: &[
             Act::Spawns(Sort { bound: 4, ..ELEVEN }),
-            Act::Turns(0, true),
-            Act::Turns(0, true),
+            Act::Turns(0, 2),
             Act::Lives(1),
-            Act::Turns(0, true),
+            Act::Turns(0, 1),
             Act::Lives(0),
             Act::Spawns(Sort {
                 bound: 0,
                 steps: 1,
                 ..LEAF
             }),
-            Act::Turns(0, true),
+            Act::Turns(0, 1),
             Act::Lives(1),
-            Act::Turns(0, true),
+            Act::Turns(0, 1),
             Act::Lives(0),
         ],
         ..NOTHING
@@ -187,8 +173,7 @@ const ROWS: &[Row] = &[
             Act::Spawns(ELEVEN),
             Act::Has(0, 1, Is::Open),
             Act::Lives(3),
-            Act::Turns(0, true),
-            Act::Turns(0, true),
+            Act::Turns(0, 2),
             Act::Lives(2),
             Act::Has(0, 1, Is::Open),
             Act::Works(0),
@@ -202,51 +187,16 @@ const ROWS: &[Row] = &[
         cores: 1,
         slots: 1,
         acts: &[
-            Act::Joins(
-                Sort {
-                    depth: 3,
-                    forks: 3,
-                    ..LEAF
-                },
-                Some(40),
-            ),
-            Act::Joins(
-                Sort {
-                    depth: 3,
-                    forks: 3,
-                    joins: Joins::InTurn,
-                    ..LEAF
-                },
-                Some(40),
-            ),
-            Act::Lives(0),
-        ],
-        ..NOTHING
-    },
-    Row {
-        shows: "a job that joins one of two children gets the result of that one alone",
-        cores: 1,
-        slots: 3,
-        acts: &[
-            Act::Joins(
-                Sort {
-                    forks: 2,
-                    joins: Joins::Newest,
-                    ..PARENT
-                },
-                Some(2),
-            ),
             Act::Works(0),
+            Act::Spawns(TREE),
+            Act::Spawns(Sort {
+                joins: Joins::InTurn,
+                ..TREE
+            }),
+            Act::Works(0),
+            Act::Counts(242),
             Act::Lives(0),
-            Act::Counts(3),
         ],
-        ..NOTHING
-    },
-    Row {
-        shows: "in a pool that is stopped a join gives the result of a job that has ended",
-        cores: 1,
-        slots: 1,
-        acts: &[Act::JoinsLate(LEAF, 1)],
         ..NOTHING
     },
     Row {
@@ -256,12 +206,10 @@ const ROWS: &[Row] = &[
         acts: &[
             Act::Spawns(Sort { steps: 3, ..LEAF }),
             Act::Spawns(Sort { forks: 2, ..PARENT }),
-            Act::Turns(0, true),
-            Act::Turns(0, true),
-            Act::Turns(0, true),
+            Act::Turns(0, 3),
             Act::Has(0, 2, Is::Open),
             Act::Lives(4),
-            Act::Turns(0, true),
+            Act::Turns(0, 1),
             Act::Has(0, 2, Is::Open),
             Act::Lives(2),
             Act::Works(0),
@@ -276,29 +224,21 @@ const ROWS: &[Row] = &[
         cores: 2,
         slots: 1,
         acts: &[
-            Act::Tries(
-                On::Core(0),
-                Sort {
-                    joins: Joins::Never,
-                    forks: 2,
-                    steps: 1,
-                    is_first_exclusive: true,
-                    ..PARENT
-                },
-                Comes::Begins,
-            ),
-            Act::Tries(On::Core(1), LEAF, Comes::Begins),
-            Act::Turns(0, true),
-            Act::Turns(0, true),
-            Act::Turns(0, true),
-            Act::Turns(0, true),
+            Act::Spawns(ALONE),
+            Act::Spawns(Sort {
+                joins: Joins::Never,
+                forks: 2,
+                steps: 1,
+                is_first_exclusive: true,
+                ..PARENT
+            }),
+            Act::Turns(1, 4),
             Act::Lives(4),
-            Act::Turns(1, true),
-            Act::Has(1, 0, Is::Open),
-            Act::Turns(0, true),
-            Act::Has(1, 1, Is::Alone),
-            Act::Turns(1, true),
-            Act::Turns(1, true),
+            Act::Turns(0, 1),
+            Act::Has(0, 0, Is::Open),
+            Act::Turns(1, 1),
+            Act::Has(0, 1, Is::Alone),
+            Act::Turns(0, 2),
             Act::Lives(2),
             Act::Works(0),
             Act::Lives(0),
@@ -315,11 +255,9 @@ const ROWS: &[Row] = &[
                 forks: 3,
                 ..PARENT
             }),
-            Act::Turns(0, true),
-            Act::Turns(0, true),
-            Act::Turns(0, true),
+            Act::Turns(0, 3),
             Act::Lives(4),
-            Act::Turns(0, true),
+            Act::Turns(0, 1),
             Act::Lives(3),
             Act::Works(0),
             Act::Lives(0),
@@ -339,10 +277,10 @@ const ROWS: &[Row] = &[
             Act::Spawns(LEAF),
             Act::Has(0, 1, Is::Alone),
             Act::Has(1, 3, Is::Open),
-            Act::Turns(0, true),
+            Act::Turns(0, 1),
             Act::Has(0, 0, Is::Open),
             Act::Lives(3),
-            Act::Turns(1, true),
+            Act::Turns(1, 1),
             Act::Lives(0),
         ],
         ..NOTHING
@@ -369,19 +307,15 @@ const ROWS: &[Row] = &[
             Act::Spawns(ALONE),
             Act::Spawns(ELEVEN),
             Act::Has(1, 1, Is::Open),
-            Act::Turns(0, true),
-            Act::Turns(1, true),
+            Act::Turns(0, 1),
+            Act::Turns(1, 1),
             Act::Has(1, 1, Is::Open),
-            Act::Turns(0, true),
+            Act::Turns(0, 1),
             Act::Has(1, 0, Is::Closed),
             Act::Has(0, 1, Is::Open),
-            Act::Turns(0, true),
-            Act::Turns(0, true),
-            Act::Turns(0, true),
-            Act::Turns(0, true),
-            Act::Turns(0, true),
+            Act::Turns(0, 5),
             Act::Has(1, 0, Is::Closed),
-            Act::Turns(0, true),
+            Act::Turns(0, 1),
             Act::Has(1, 0, Is::Open),
             Act::Works(0),
             Act::Lives(0),
@@ -394,11 +328,12 @@ const ROWS: &[Row] = &[
         slots: 2,
         orders: &[(0, RELEASE, 1), (0, RELEASE, 2)],
         acts: &[
-            Act::Tries(On::Core(0), LEAF, Comes::Begins),
-            Act::Tries(On::Core(2), LEAF, Comes::Begins),
             Act::Spawns(ALONE),
+            Act::Spawns(ALONE),
+            Act::Spawns(LEAF),
             Act::Has(1, 1, Is::Alone),
-            Act::Turns(0, true),
+            Act::Has(2, 1, Is::Open),
+            Act::Turns(0, 2),
             Act::Has(2, 0, Is::Closed),
             Act::Lives(1),
         ],
@@ -412,12 +347,12 @@ const ROWS: &[Row] = &[
         slots: 1,
         orders: &[(0, RELEASE, 1), (0, RELEASE, 18)],
         acts: &[
-            Act::Turns(0, false),
+            Act::Turns(0, 0),
             Act::Has(1, 0, Is::Closed),
             Act::Has(17, 0, Is::Open),
             Act::Has(18, 0, Is::Closed),
             Act::Orders(&[(0, GRANT, 1), (0, GRANT, 18)]),
-            Act::Turns(0, false),
+            Act::Turns(0, 0),
             Act::Has(1, 0, Is::Open),
             Act::Has(17, 0, Is::Open),
             Act::Has(18, 0, Is::Open),
@@ -430,18 +365,18 @@ const ROWS: &[Row] = &[
         slots: 4,
         orders: &[(0, RELEASE, 1)],
         acts: &[
-            Act::Turns(0, false),
+            Act::Turns(0, 0),
             Act::Has(1, 0, Is::Closed),
             Act::Orders(&[(0, RELEASE, 2)]),
-            Act::Turns(0, false),
+            Act::Turns(0, 0),
             Act::Has(1, 0, Is::Closed),
             Act::Has(2, 0, Is::Closed),
             Act::Orders(&[(0, GRANT, 1)]),
-            Act::Turns(0, false),
+            Act::Turns(0, 0),
             Act::Has(1, 0, Is::Open),
             Act::Has(2, 0, Is::Closed),
             Act::Orders(&[]),
-            Act::Turns(0, false),
+            Act::Turns(0, 0),
             Act::Has(1, 0, Is::Open),
             Act::Has(2, 0, Is::Closed),
         ],
@@ -457,14 +392,11 @@ const ROWS: &[Row] = &[
                 forks: 3,
                 ..ALONE_PARENT
             }),
-            Act::Turns(0, true),
-            Act::Turns(0, true),
-            Act::Turns(0, true),
-            Act::Turns(0, true),
+            Act::Turns(0, 4),
             Act::Lives(3),
-            Act::Turns(1, true),
-            Act::Turns(2, true),
-            Act::Turns(3, true),
+            Act::Turns(1, 1),
+            Act::Turns(2, 1),
+            Act::Turns(3, 1),
             Act::Lives(0),
         ],
         ..NOTHING
@@ -479,50 +411,9 @@ const ROWS: &[Row] = &[
         ..NOTHING
     },
     Row {
-        shows: "trees of exclusive jobs end, of which most find no empty core",
-        cores: 2,
-        slots: 3,
-        acts: &[Act::Spawns(Sort {
-            is_exclusive: true,
-            ..TREE
-        })],
-        spells: TO_THE_END,
-        then: &[Act::Lives(0), Act::Counts(121)],
-        ..NOTHING
-    },
-    Row {
-        shows: "each of two kernel threads ends the job that is alone on its core",
-        cores: 2,
-        slots: 2,
-        acts: &[
-            Act::Spawns(Sort {
-                steps: 1_000,
-                ..ALONE
-            }),
-            Act::Spawns(Sort {
-                steps: 1_000,
-                ..ALONE
-            }),
-        ],
-        spells: TO_THE_END,
-        busy: 2,
-        then: &[Act::Lives(0)],
-        ..NOTHING
-    },
-    Row {
         shows: "trees end while a core comes and goes, and its kernel thread is woken at the last end",
         cores: 2,
         slots: 2,
-        orders: ORDERS,
-        acts: TREES,
-        spells: TO_THE_END,
-        then: &[Act::Lives(0), Act::Counts(484)],
-        ..NOTHING
-    },
-    Row {
-        shows: "the same on one place a core, where a closed core can't be left",
-        cores: 2,
-        slots: 1,
         orders: ORDERS,
         acts: TREES,
         spells: TO_THE_END,
@@ -563,7 +454,7 @@ const ROWS: &[Row] = &[
         slots: 1,
         orders: &[(0, RELEASE, 1)],
         acts: &[
-            Act::Turns(0, false),
+            Act::Turns(0, 0),
             Act::Has(1, 0, Is::Closed),
             Act::Spawns(LONG),
         ],
@@ -577,25 +468,12 @@ const ROWS: &[Row] = &[
         slots: 1,
         orders: &[(0, RELEASE, 1)],
         acts: &[
-            Act::Turns(0, false),
+            Act::Turns(0, 0),
             Act::Has(1, 0, Is::Closed),
             Act::Spawns(LONG),
         ],
-        spells: (Spell::TurnsOut, Spell::ToTheEnd),
+        spells: (Spell::Rounds(u32::MAX), Spell::ToTheEnd),
         then: &[Act::Lives(0)],
-        ..NOTHING
-    },
-    Row {
-        shows: "the last end wakes a kernel thread that is parked, where it comes in a join",
-        cores: 2,
-        slots: 1,
-        orders: &[(0, RELEASE, 1)],
-        acts: &[Act::Turns(0, false), Act::Has(1, 0, Is::Closed)],
-        spells: (
-            Spell::JoinsThere(1, LONG, Until::WorkReturns),
-            Spell::ToTheStop,
-        ),
-        then: &[Act::Answered(1), Act::Lives(0)],
         ..NOTHING
     },
     Row {
@@ -604,25 +482,17 @@ const ROWS: &[Row] = &[
         slots: 1,
         orders: &[(5, RELEASE, 1)],
         acts: &[
-            Act::Tries(
-                On::Core(0),
-                Sort {
-                    steps: 3_000_000,
-                    bound: 1_000,
-                    ..LEAF
-                },
-                Comes::Begins,
-            ),
-            Act::Tries(
-                On::Core(1),
-                Sort {
-                    forks: 2,
-                    steps: 1_000,
-                    joins: Joins::Never,
-                    ..PARENT
-                },
-                Comes::Begins,
-            ),
+            Act::Spawns(Sort {
+                steps: 3_000_000,
+                bound: 1_000,
+                ..ALONE
+            }),
+            Act::Spawns(Sort {
+                forks: 2,
+                steps: 1_000,
+                joins: Joins::Never,
+                ..PARENT
+            }),
         ],
         spells: TO_THE_END,
         then: &[Act::Lives(0), Act::Counts(4)],
@@ -634,7 +504,7 @@ const ROWS: &[Row] = &[
         slots: 1,
         orders: &[(0, RELEASE, 1), (3, GRANT, 1)],
         acts: &[
-            Act::Turns(0, false),
+            Act::Turns(0, 0),
             Act::Has(1, 0, Is::Closed),
             Act::Spawns(Sort {
                 is_exclusive: true,
@@ -648,24 +518,6 @@ const ROWS: &[Row] = &[
         ..NOTHING
     },
     Row {
-        shows: "a round in which jobs only wait, for a child and for a place, finds nothing",
-        cores: 2,
-        slots: 1,
-        acts: &[
-            Act::Spawns(ALONE_PARENT),
-            Act::Turns(0, true),
-            Act::Spawns(LEAF),
-            Act::Turns(0, true),
-            Act::Turns(0, true),
-            Act::Turns(0, false),
-            Act::Turns(0, false),
-            Act::Lives(3),
-        ],
-        left: (2, 1),
-        alive: 3,
-        ..NOTHING
-    },
-    Row {
         shows: "a round that is refused memory tells it, and the next one that is refused none does not",
         cores: 1,
         slots: 1,
@@ -675,7 +527,7 @@ const ROWS: &[Row] = &[
             Act::TurnsInNeed(0),
             Act::TurnsInNeed(0),
             Act::Frees,
-            Act::Turns(0, true),
+            Act::Turns(0, 1),
             Act::Works(0),
             Act::Lives(0),
         ],
@@ -687,17 +539,6 @@ const ROWS: &[Row] = &[
         slots: 1,
         acts: &[Act::Spawns(ALONE_PARENT), Act::Spawns(ENDLESS)],
         spells: (Spell::InNeed, Spell::ToTheEnd),
-        then: &[Act::Answered(0), Act::Lives(3)],
-        left: (2, 0),
-        alive: 3,
-        ..NOTHING
-    },
-    Row {
-        shows: "a kernel thread that works returns once the other one is refused memory for a fork in a join",
-        cores: 2,
-        slots: 1,
-        acts: &[Act::Tries(On::Core(1), ENDLESS, Comes::Begins)],
-        spells: (Spell::JoinsInNeed, Spell::ToTheEnd),
         then: &[Act::Answered(0), Act::Lives(3)],
         left: (2, 0),
         alive: 3,
@@ -719,8 +560,75 @@ const ROWS: &[Row] = &[
     },
 ];
 
+/// Two kernel threads, for core 0 and core 1, and the work (the spell) of each.
+#[derive(Drop)]
+struct Crew<'p, C: Seats> {
+    pool: &'p Pool<C>,
+    board: &'p Arc<Board>,
+    spells: (Spell, Spell),
+}
+
+impl<'p, C: Contexts<Spawned<Task>>> Team<Share<C::Seat>> for Crew<'p, C> {
+    ghost has = { λ crew share. IsWorkerOf C.sits C.idle crew.pool.now.table crew.pool.now.cores share.worker };
+
+    ghost size = { λ crew. 2 };
+
+    fn size(&self) -> u8 {
+        2
+    }
+
+    fn part_off<R: Wait>(
+        &self,
+        rt: &R,
+        share: Share<C::Seat>,
+    ) -> (Share<C::Seat>, Option<Share<C::Seat>>) {
+        let (own, theirs) = self.pool.split(rt, share.worker);
+        let own = Share {
+            worker: own,
+            busy: 0,
+        };
+        let theirs = Share {
+            worker: theirs,
+            busy: 0,
+        };
+        (own, Some(theirs))
+    }
+
+    fn work<R: Wait + Clock>(
+        &self,
+        rt: &R,
+        number: u8,
+        share: Share<C::Seat>,
+    ) -> Option<Share<C::Seat>> {
+        let Share { mut worker, .. } = share;
+        let spell = if number == 0 {
+            self.spells.0
+        } else {
+            self.spells.1
+        };
+        work::<C, R>(rt, self.pool, self.board, &mut worker, number, spell);
+        let busy = usize::from(worker.tally().ended > 0);
+        Some(Share { worker, busy })
+    }
+
+    fn join<R: Wait>(
+        &self,
+        rt: &R,
+        share: Share<C::Seat>,
+        other: Share<C::Seat>,
+    ) -> Option<Share<C::Seat>> {
+        let worker = self.pool.join_workers(rt, share.worker, other.worker).ok()?;
+        let busy = share.busy.saturating_add(other.busy);
+        Some(Share { worker, busy })
+    }
+
+    fn fail<R: Wait>(&self, _rt: &R, _fault: TeamFault) {
+        self.pool.stop();
+    }
+}
+
 /// Does a row, with two kernel threads. Returns true if each result is the one that the row states.
-pub(crate) fn holds<R: Threads + Wait + Clock + Sync>(rt: &R, alloc: Global, row: &Row) -> bool {
+fn holds<R: Threads + Wait + Clock + Sync>(rt: &R, alloc: Global, row: &Row) -> bool {
     let Some(board) = Board::new(alloc) else {
         return false;
     };
@@ -740,8 +648,10 @@ pub(crate) fn holds<R: Threads + Wait + Clock + Sync>(rt: &R, alloc: Global, row
 
 #[test]
 fn each_row_holds(rt: HostRuntime) -> Result<(), Fail> {
-    for row in ROWS {
-        assert!(rt; holds(&rt, rt.alloc(), row), "{}", row.shows);
+    for rows in [ROWS, serving::ROWS] {
+        for row in rows {
+            assert!(rt; holds(&rt, rt.alloc(), row), "{}", row.shows);
+        }
     }
     Ok(())
 }

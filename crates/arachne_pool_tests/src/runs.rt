@@ -2,7 +2,7 @@
 use crate::board::Board;
 use crate::rows::{ALONE_PARENT, TREE};
 use crate::tasks::{PARENT, Sort, Task};
-use arachne_pool::{Finished, Pool, PoolFault, RunFault, Setup, Tally, Unfinished};
+use arachne_pool::{Pool, PoolFault, Tally, Unfinished};
 use arachne_shortage::Hoard;
 use std::alloc::Global;
 use std::sync::Wait;
@@ -13,14 +13,14 @@ use std::time::Clock;
 /// How a test's run must end: with its result, with its job returned, or with a fault.
 #[derive(Clone, Copy, PartialEq)]
 enum Comes {
-    /// The job ends, and has counted this many jobs, which have made this many steps.
-    Ends(u64, u64),
+    /// The job ends, and has counted this many jobs.
+    Ends(u64),
     /// The job, which was not spawned, is returned.
-    NotSpawned(RunFault),
+    NotSpawned(PoolFault),
     /// All workers are stopped, and this number of jobs with a place are returned.
-    Stopped(RunFault, usize),
+    Stopped(PoolFault, usize),
     /// All workers are stopped, and the jobs are dropped.
-    Lost(RunFault),
+    Lost(PoolFault),
 }
 
 /// A job that is run on this many cores, while only this many bytes of memory are free, if there is a number.
@@ -33,41 +33,38 @@ struct Row {
     comes: Comes,
 }
 
+const TREE_ON_TWO: Row = Row {
+    shows: "a tree ends on two kernel threads",
+    cores: 2,
+    sort: TREE,
+    free: None,
+    comes: Comes::Ends(121),
+};
+
 const ROWS: &[Row] = &[
     Row {
         shows: "a job is returned if a kernel thread is refused",
-        cores: 2,
         sort: PARENT,
         free: Some(700_000),
-        comes: Comes::NotSpawned(RunFault::KernelThread),
+        comes: Comes::NotSpawned(PoolFault::KernelThread),
+        ..TREE_ON_TWO
     },
     Row {
         shows: "a tree ends on one kernel thread",
         cores: 1,
-        sort: TREE,
-        free: None,
-        comes: Comes::Ends(121, 361),
+        ..TREE_ON_TWO
     },
-    Row {
-        shows: "a tree ends on two kernel threads",
-        cores: 2,
-        sort: TREE,
-        free: None,
-        comes: Comes::Ends(121, 361),
-    },
+    TREE_ON_TWO,
     Row {
         shows: "a tree ends on more kernel threads than there are processors",
         cores: 16,
-        sort: TREE,
-        free: None,
-        comes: Comes::Ends(121, 361),
+        ..TREE_ON_TWO
     },
     Row {
         shows: "a child that wants a core for itself ends on the second kernel thread",
-        cores: 2,
         sort: ALONE_PARENT,
-        free: None,
-        comes: Comes::Ends(2, 4),
+        comes: Comes::Ends(2),
+        ..TREE_ON_TWO
     },
 ];
 
@@ -81,11 +78,7 @@ const PROLIFIC: Sort = Sort {
 fn run<R: Threads + Wait + Clock + Sync>(rt: &R, alloc: Global, row: &Row) -> Option<Comes> {
     let board = Board::new(alloc)?;
     let task = Task::new(row.sort, &board)?;
-    let setup = Setup {
-        cores: row.cores,
-        slots: 56,
-    };
-    if setup.cores < 1 || setup.cores > 64 {
+    if row.cores < 1 || row.cores > 64 {
         return None;
     }
     let mut hoard = None;
@@ -94,31 +87,19 @@ fn run<R: Threads + Wait + Clock + Sync>(rt: &R, alloc: Global, row: &Row) -> Op
         all.give_back(free);
         hoard = Some(all);
     }
-    let run = Pool::run_on(rt, alloc, setup, task);
+    let run = Pool::run_on(rt, alloc, row.cores, task);
     drop(hoard);
     match run {
-        Ok(done) => ended(done),
+        Ok(done) => {
+            let counted = Tally {
+                spawned: done.output,
+                ended: done.output,
+            };
+            (done.tally == counted).then_some(Comes::Ends(done.output))
+        }
         Err(Unfinished::NotSpawned(why, _)) => Some(Comes::NotSpawned(why)),
         Err(Unfinished::Stopped(why, _, left)) => Some(Comes::Stopped(why, left.placed.len())),
         Err(Unfinished::Lost(why)) => Some(Comes::Lost(why)),
-    }
-}
-
-/// Returns what a job has counted, if the pool has counted the same.
-fn ended(done: Finished<u64>) -> Option<Comes> {
-    let Finished {
-        output,
-        tally,
-        statistics,
-    } = done;
-    let counted = Tally {
-        spawned: output,
-        ended: output,
-    };
-    if tally == counted {
-        Some(Comes::Ends(output, statistics.steps))
-    } else {
-        None
     }
 }
 
@@ -131,9 +112,6 @@ fn each_job_is_run_to_its_end_or_returned(rt: HostRuntime) -> Result<(), Fail> {
     Ok(())
 }
 
-/// Refused memory, as a worker reports it.
-const MEMORY: RunFault = RunFault::Worker(PoolFault::Memory);
-
 #[test]
 fn a_job_is_returned_wherever_memory_ends(rt: HostRuntime) -> Result<(), Fail> {
     let (mut unspawned, mut stopped) = (0u32, 0u32);
@@ -143,13 +121,15 @@ fn a_job_is_returned_wherever_memory_ends(rt: HostRuntime) -> Result<(), Fail> {
             cores: 1,
             sort: PROLIFIC,
             free: Some(step * 20_000),
-            comes: Comes::Stopped(MEMORY, 1),
+            comes: Comes::Stopped(PoolFault::Memory, 1),
         };
         let comes = run(&rt, rt.alloc(), &row);
-        unspawned = unspawned.saturating_add(u32::from(comes == Some(Comes::NotSpawned(MEMORY))));
+        unspawned = unspawned.saturating_add(u32::from(
+            comes == Some(Comes::NotSpawned(PoolFault::Memory)),
+        ));
         stopped = stopped.saturating_add(u32::from(comes == Some(row.comes)));
-        let is_known = comes == Some(Comes::NotSpawned(MEMORY))
-            || comes == Some(Comes::Lost(MEMORY))
+        let is_known = comes == Some(Comes::NotSpawned(PoolFault::Memory))
+            || comes == Some(Comes::Lost(PoolFault::Memory))
             || comes == Some(row.comes);
         assert!(rt; is_known, "{}", row.shows);
     }

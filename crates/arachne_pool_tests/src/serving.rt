@@ -1,12 +1,11 @@
 //! Rows of what a server wants of a pool: sleeps and wakes, refusals, statistics, and kernel threads that are woken at
 //! once.
-use crate::orders::{GRANT, RELEASE};
-use crate::rounds::{Act, Comes, Is, On, Row, Wakes};
-use crate::rows::{ALONE, ALONE_PARENT, ELEVEN, NOTHING, TO_THE_END, holds};
-use crate::spells::{Spell, Until};
+use crate::rounds::{Act, GRANT, Is, RELEASE, Row, Wakes};
+use crate::rows::{ALONE, ALONE_PARENT, ELEVEN, NOTHING, TO_THE_END};
+use crate::spells::Spell;
 use crate::tasks::{Joins, LEAF, PARENT, Sort};
 use arachne_core::CORES;
-use std::test::Fail;
+use arachne_pool::Refusal;
 
 /// A job that sleeps until an answer was counted.
 const SLEEPER: Sort = Sort { answers: 1, ..LEAF };
@@ -57,7 +56,7 @@ const OFTEN: u32 = 100;
 /// all signals of one kind are lost, sleeps time out nearly as often as such a signal is sent.
 const FEW: u64 = OFTEN as u64 / 4;
 
-const ROWS: &[Row] = &[
+pub(crate) const ROWS: &[Row] = &[
     Row {
         shows: "a job that sleeps has no slice until it is woken, and a late wake hits no later job at its place",
         cores: 1,
@@ -65,40 +64,23 @@ const ROWS: &[Row] = &[
         acts: &[
             Act::Spawns(SLEEPER),
             Act::Wakes(0, 0, Wakes::Awake),
-            Act::Turns(0, true),
-            Act::Turns(0, false),
+            Act::Turns(0, 1),
+            Act::Turns(0, 0),
             Act::Answers,
-            Act::Turns(0, false),
+            Act::Turns(0, 0),
             Act::Wakes(0, 0, Wakes::It),
             Act::Wakes(0, 0, Wakes::Awake),
-            Act::Turns(0, true),
+            Act::Turns(0, 1),
             Act::Lives(0),
             Act::Wakes(0, 0, Wakes::Nobody),
             Act::Spawns(Sort { answers: 2, ..LEAF }),
-            Act::Turns(0, true),
+            Act::Turns(0, 1),
             Act::Answers,
             Act::Wakes(0, 0, Wakes::Nobody),
-            Act::Turns(0, false),
+            Act::Turns(0, 0),
             Act::Lives(1),
             Act::Wakes(0, 1, Wakes::It),
-            Act::Turns(0, true),
-            Act::Lives(0),
-        ],
-        ..NOTHING
-    },
-    Row {
-        shows: "a job that is woken before its answer has come sleeps again",
-        cores: 1,
-        slots: 1,
-        acts: &[
-            Act::Spawns(SLEEPER),
-            Act::Turns(0, true),
-            Act::Wakes(0, 0, Wakes::It),
-            Act::Turns(0, true),
-            Act::Turns(0, false),
-            Act::Answers,
-            Act::Wakes(0, 0, Wakes::It),
-            Act::Turns(0, true),
+            Act::Turns(0, 1),
             Act::Lives(0),
         ],
         ..NOTHING
@@ -112,24 +94,22 @@ const ROWS: &[Row] = &[
                 answers: 2,
                 ..PARENT
             }),
-            Act::Turns(0, true),
-            Act::Turns(0, true),
-            Act::Turns(0, true),
-            Act::Turns(0, false),
+            Act::Turns(0, 3),
+            Act::Turns(0, 0),
             Act::Lives(2),
             Act::Answers,
             Act::Wakes(0, 0, Wakes::It),
-            Act::Turns(0, true),
+            Act::Turns(0, 1),
             Act::Lives(1),
-            Act::Turns(0, true),
-            Act::Turns(0, false),
+            Act::Turns(0, 1),
+            Act::Turns(0, 0),
             Act::Wakes(0, 0, Wakes::It),
-            Act::Turns(0, true),
-            Act::Turns(0, false),
+            Act::Turns(0, 1),
+            Act::Turns(0, 0),
             Act::Lives(1),
             Act::Answers,
             Act::Wakes(0, 0, Wakes::It),
-            Act::Turns(0, true),
+            Act::Turns(0, 1),
             Act::Lives(0),
         ],
         ..NOTHING
@@ -142,21 +122,19 @@ const ROWS: &[Row] = &[
             Act::Spawns(SLEEPER),
             Act::Spawns(BESIDE),
             Act::Spawns(Sort { bound: 4, ..BESIDE }),
-            Act::Turns(0, true),
-            Act::Did(0, 3, 4, 0, 0),
-            Act::Turns(0, true),
-            Act::Turns(0, true),
-            Act::Did(0, 7, 8, 0, 0),
+            Act::Turns(0, 1),
+            Act::Stepped(4),
+            Act::Turns(0, 2),
+            Act::Stepped(8),
             Act::Has(0, 3, Is::Open),
             Act::Lives(5),
             Act::Answers,
             Act::Wakes(0, 0, Wakes::It),
-            Act::Turns(0, true),
+            Act::Turns(0, 1),
             Act::Has(0, 3, Is::Open),
             Act::Lives(4),
-            Act::Turns(0, true),
-            Act::Turns(0, true),
-            Act::Did(0, 14, 15, 1, 0),
+            Act::Turns(0, 2),
+            Act::Stepped(15),
         ],
         left: (3, 0),
         alive: 4,
@@ -168,15 +146,15 @@ const ROWS: &[Row] = &[
         slots: 1,
         orders: &[(0, RELEASE, 1)],
         acts: &[
-            Act::Turns(0, false),
+            Act::Turns(0, 0),
             Act::Spawns(SLEEPER),
             Act::Spawns(LEAF),
-            Act::Turns(0, true),
+            Act::Turns(0, 1),
             Act::Has(1, 0, Is::Closed),
             Act::Orders(&[(0, GRANT, 1)]),
-            Act::Turns(0, false),
-            Act::Turns(1, false),
-            Act::Turns(1, true),
+            Act::Turns(0, 0),
+            Act::Turns(1, 0),
+            Act::Turns(1, 1),
             Act::Lives(1),
         ],
         left: (1, 0),
@@ -189,99 +167,22 @@ const ROWS: &[Row] = &[
         slots: 1,
         orders: &[(0, RELEASE, 2)],
         acts: &[
-            Act::Turns(0, false),
-            Act::Tries(On::Any, ALONE, Comes::Begins),
-            Act::Tries(On::Any, LEAF, Comes::Begins),
+            Act::Turns(0, 0),
+            Act::Tries(ALONE, None),
+            Act::Tries(LEAF, None),
             Act::Has(1, 1, Is::Open),
-            Act::Tries(On::Any, LEAF, Comes::NoPlace(2, 1)),
-            Act::Tries(On::Any, ALONE, Comes::NoPlace(2, 1)),
-            Act::Tries(On::Core(0), LEAF, Comes::NoPlace(1, 0)),
-            Act::Tries(On::Core(1), LEAF, Comes::NoPlace(1, 0)),
-            Act::Tries(On::Core(2), LEAF, Comes::NoPlace(0, 1)),
+            Act::Tries(LEAF, Some(Refusal::NoPlace)),
+            Act::Tries(ALONE, Some(Refusal::NoPlace)),
             Act::Lives(2),
             Act::Counts(2),
-            Act::Turns(1, true),
-            Act::Tries(On::Core(1), LEAF, Comes::Begins),
+            Act::Turns(1, 1),
+            Act::Tries(LEAF, None),
             Act::Has(1, 1, Is::Open),
-            Act::Turns(1, true),
-            Act::Tries(On::Any, LEAF, Comes::Begins),
-            Act::Has(1, 1, Is::Open),
-            Act::Turns(0, true),
-            Act::Turns(1, true),
+            Act::Turns(0, 1),
+            Act::Turns(1, 1),
             Act::Lives(0),
-            Act::Counts(4),
+            Act::Counts(3),
         ],
-        ..NOTHING
-    },
-    Row {
-        shows: "jobs that name no core come to each of two, and a job's place is told",
-        cores: 2,
-        slots: 8,
-        acts: &[
-            Act::Tries(On::At(0, 0), LEAF, Comes::Begins),
-            Act::Tries(On::At(0, 1), LEAF, Comes::Begins),
-            Act::Tries(On::At(1, 0), LEAF, Comes::Begins),
-            Act::Tries(On::Any, LEAF, Comes::Begins),
-            Act::Tries(On::Any, LEAF, Comes::Begins),
-            Act::Tries(On::Any, LEAF, Comes::Begins),
-            Act::Has(0, 3, Is::Open),
-            Act::Has(1, 3, Is::Open),
-        ],
-        left: (6, 0),
-        alive: 6,
-        ..NOTHING
-    },
-    Row {
-        shows: "a worker that was split off and has worked for no core keeps no job, and the first one keeps it",
-        cores: 2,
-        slots: 1,
-        acts: &[Act::Works(0)],
-        spells: (Spell::Not, Spell::Spawns(4)),
-        then: &[Act::Lives(2), Act::Counts(2), Act::Spawns(LEAF)],
-        left: (2, 1),
-        alive: 3,
-        ..NOTHING
-    },
-    Row {
-        shows: "each core's slices, steps, wakes by ends and rests are told",
-        cores: 2,
-        slots: 1,
-        acts: &[
-            Act::Tries(On::Core(1), Sort { bound: 4, ..ELEVEN }, Comes::Begins),
-            Act::Turns(1, true),
-            Act::Did(1, 1, 4, 0, 0),
-            Act::Turns(1, true),
-            Act::Turns(1, true),
-            Act::Turns(1, false),
-            Act::Did(1, 3, 11, 0, 0),
-            Act::Did(0, 0, 0, 0, 0),
-            Act::Spawns(ALONE_PARENT),
-            Act::Turns(0, true),
-            Act::Turns(0, true),
-            Act::Turns(0, true),
-            Act::Turns(1, true),
-            Act::Did(1, 4, 12, 1, 0),
-            Act::Works(0),
-            Act::Lives(0),
-            Act::Did(0, 4, 3, 0, 1),
-        ],
-        ..NOTHING
-    },
-    Row {
-        shows: "a stop leaves jobs that sleep, which are handed back",
-        cores: 2,
-        slots: 2,
-        acts: &[
-            Act::Spawns(SLEEPER),
-            Act::Spawns(SLEEPER),
-            Act::Spawns(SLEEPER),
-            Act::Turns(0, true),
-            Act::Turns(1, true),
-        ],
-        spells: (Spell::Rounds(10_000), Spell::ToTheEnd),
-        then: &[Act::Lives(3)],
-        left: (3, 0),
-        alive: 3,
         ..NOTHING
     },
     Row {
@@ -290,14 +191,13 @@ const ROWS: &[Row] = &[
         slots: 3,
         acts: &[
             Act::Hoards,
-            Act::Tries(On::Any, LEAF, Comes::NoMemory),
-            Act::Tries(On::Core(0), LEAF, Comes::NoMemory),
+            Act::Tries(LEAF, Some(Refusal::Memory)),
             Act::Has(0, 0, Is::Open),
             Act::Lives(0),
             Act::Frees,
-            Act::Tries(On::Any, SLEEPER, Comes::Begins),
+            Act::Tries(SLEEPER, None),
             Act::Hoards,
-            Act::Turns(0, true),
+            Act::Turns(0, 1),
             Act::Answers,
             Act::Wakes(0, 0, Wakes::It),
             Act::Counts(1),
@@ -308,83 +208,45 @@ const ROWS: &[Row] = &[
         ..NOTHING
     },
     Row {
-        shows: "a wake counts at the core on which the job is, and one by which nothing is done counts nowhere",
-        cores: 2,
-        slots: 1,
+        shows: "with ample memory each of many places gets a job",
+        cores: CORES,
+        slots: 56,
         acts: &[
-            Act::Tries(On::Core(1), SLEEPER, Comes::Begins),
-            Act::Wakes(1, 0, Wakes::Awake),
-            Act::Turns(1, true),
-            Act::Did(1, 1, 1, 0, 0),
-            Act::Answers,
-            Act::Wakes(1, 0, Wakes::It),
-            Act::Did(1, 1, 1, 1, 0),
-            Act::Wakes(1, 0, Wakes::Awake),
-            Act::Turns(1, true),
-            Act::Wakes(1, 0, Wakes::Nobody),
-            Act::Did(1, 2, 2, 1, 0),
-            Act::Did(0, 0, 0, 0, 0),
+            Act::SpawnsMany(3584, LEAF),
+            Act::Tries(LEAF, Some(Refusal::NoPlace)),
         ],
-        ..NOTHING
-    },
-    Row {
-        shows: "each of many slices is told",
-        cores: 1,
-        slots: 1,
-        acts: &[
-            Act::Spawns(Sort {
-                steps: 4_999,
-                ..LEAF
-            }),
-            Act::Works(0),
-            Act::Did(0, 5_000, 5_000, 0, 1),
-        ],
-        ..NOTHING
-    },
-    Row {
-        shows: "an exclusive job gets a core alone, by whichever call it is spawned",
-        cores: 3,
-        slots: 2,
-        acts: &[
-            Act::Tries(On::Any, ALONE, Comes::Begins),
-            Act::Has(0, 1, Is::Alone),
-            Act::Tries(On::Any, ALONE, Comes::Begins),
-            Act::Has(1, 1, Is::Alone),
-            Act::Tries(On::AnyKept, ALONE, Comes::Begins),
-            Act::Has(2, 1, Is::Alone),
-        ],
-        left: (3, 0),
-        alive: 3,
+        left: (3584, 0),
+        alive: 3584,
         ..NOTHING
     },
     Row {
         shows: "a job that sleeps on a core whose kernel thread does is woken at once, each time",
         cores: 2,
         slots: 1,
-        acts: &[Act::Tries(
-            On::Core(1),
-            Sort {
+        acts: &[
+            Act::Spawns(ALONE),
+            Act::Spawns(Sort {
                 answers: OFTEN as u64,
                 ..LEAF
-            },
-            Comes::Begins,
-        )],
+            }),
+            Act::Turns(0, 1),
+        ],
         spells: (Spell::Wakes(OFTEN, true), Spell::ToTheEnd),
-        then: &[Act::Lives(0), Act::Overslept(FEW)],
+        then: &[Act::Lives(0), Act::Overslept(0, FEW)],
         ..NOTHING
     },
     Row {
         shows: "a wake that comes before the rest is not lost",
         cores: 2,
         slots: 1,
-        acts: &[Act::Tries(
-            On::Core(1),
-            Sort {
+        acts: &[
+            Act::Spawns(ALONE),
+            Act::Spawns(Sort {
                 answers: 2 * OFTEN as u64,
                 ..LEAF
-            },
-            Comes::Begins,
-        )],
+            }),
+            Act::Turns(0, 1),
+        ],
         spells: (Spell::Wakes(2 * OFTEN, false), Spell::ToTheEnd),
         then: &[Act::Lives(0)],
         ..NOTHING
@@ -398,7 +260,7 @@ const ROWS: &[Row] = &[
         then: &[
             Act::Lives(0),
             Act::Counts(3 * OFTEN as u64 + 1),
-            Act::Overslept(FEW),
+            Act::Overslept(0, FEW),
         ],
         ..NOTHING
     },
@@ -407,7 +269,7 @@ const ROWS: &[Row] = &[
         cores: 2,
         slots: 1,
         spells: (Spell::Finishes(OFTEN), Spell::ToTheStop),
-        then: &[Act::Overslept(FEW)],
+        then: &[Act::Overslept(0, FEW)],
         ..NOTHING
     },
     Row {
@@ -426,7 +288,7 @@ const ROWS: &[Row] = &[
         then: &[
             Act::Lives(0),
             Act::Counts(OFTEN as u64 + 1),
-            Act::Overslept(FEW),
+            Act::Overslept(0, FEW),
         ],
         ..NOTHING
     },
@@ -440,7 +302,7 @@ const ROWS: &[Row] = &[
         then: &[
             Act::Lives(0),
             Act::Counts(10 * OFTEN as u64),
-            Act::Overslept(FEW / 5),
+            Act::Overslept(0, FEW / 5),
         ],
         ..NOTHING
     },
@@ -448,10 +310,7 @@ const ROWS: &[Row] = &[
         shows: "once no job lives each result is there",
         cores: 2,
         slots: 2,
-        spells: (
-            Spell::Polls(5 * OFTEN, LADEN, Until::NoneLives),
-            Spell::ToTheStop,
-        ),
+        spells: (Spell::Polls(5 * OFTEN, LADEN, false), Spell::ToTheStop),
         then: &[Act::Answered(5 * OFTEN as u64)],
         ..NOTHING
     },
@@ -459,17 +318,8 @@ const ROWS: &[Row] = &[
         shows: "a round takes over a job to which the kernel thread that works for another core has not come",
         cores: 2,
         slots: 2,
-        acts: &[Act::Tries(On::Core(1), HELD, Comes::Begins)],
-        spells: (Spell::Fetches(0), Spell::ToTheEnd),
-        then: &[Act::Answered(1), Act::Lives(0)],
-        ..NOTHING
-    },
-    Row {
-        shows: "a round takes over a job of a core before its own",
-        cores: 3,
-        slots: 2,
-        acts: &[Act::Tries(On::Core(1), HELD, Comes::Begins)],
-        spells: (Spell::Fetches(2), Spell::ToTheEnd),
+        acts: &[Act::Spawns(ALONE), Act::Spawns(HELD)],
+        spells: (Spell::Fetches, Spell::ToTheEnd),
         then: &[Act::Answered(1), Act::Lives(0)],
         ..NOTHING
     },
@@ -479,13 +329,15 @@ const ROWS: &[Row] = &[
         slots: 1,
         acts: &[
             Act::Works(63),
-            Act::Tries(On::Core(63), ELEVEN, Comes::Begins),
-            Act::Turns(63, true),
-            Act::Turns(0, true),
+            Act::SpawnsMany(63, ALONE),
+            Act::Spawns(ELEVEN),
+            Act::Has(63, 1, Is::Open),
+            Act::Turns(63, 1),
+            Act::Turns(0, 2),
             Act::Has(63, 0, Is::Open),
-            Act::Works(0),
-            Act::Lives(0),
         ],
+        left: (63, 0),
+        alive: 63,
         ..NOTHING
     },
     Row {
@@ -493,38 +345,32 @@ const ROWS: &[Row] = &[
         cores: 2,
         slots: 1,
         acts: &[
-            Act::Turns(0, false),
-            Act::Tries(On::Core(0), SLEEPER, Comes::Begins),
-            Act::Turns(0, true),
-            Act::Tries(On::Core(1), LONGEST, Comes::Begins),
+            Act::Turns(0, 0),
+            Act::Spawns(Sort {
+                is_exclusive: true,
+                ..SLEEPER
+            }),
+            Act::Turns(0, 1),
+            Act::Spawns(LONGEST),
             Act::Spawns(LEAF),
         ],
         spells: (Spell::ToTheEnd, Spell::WakesLast),
-        then: &[Act::OversleptAtLeast(1), Act::Lives(0)],
-        ..NOTHING
-    },
-    Row {
-        shows: "a join on a core that is closed and empty returns, with the result of a job of another core",
-        cores: 2,
-        slots: 2,
-        orders: &[(0, RELEASE, 1)],
-        acts: &[Act::Turns(0, false), Act::KeepsOpen],
-        spells: (
-            Spell::ToTheEnd,
-            Spell::JoinsThere(3, LONG, Until::NoneLives),
-        ),
-        then: &[Act::Answered(3), Act::Lives(0)],
+        then: &[Act::Overslept(1, u64::MAX), Act::Lives(0)],
         ..NOTHING
     },
     Row {
         shows: "a round takes over no job of a core for which no kernel thread works",
         cores: 2,
         slots: 1,
+        orders: &[(0, RELEASE, 1)],
         acts: &[
-            Act::Turns(0, false),
-            Act::Tries(On::Core(0), ELEVEN, Comes::Begins),
-            Act::Turns(1, false),
+            Act::Turns(0, 0),
+            Act::Spawns(ELEVEN),
+            Act::Orders(&[(0, GRANT, 1)]),
+            Act::Turns(0, 1),
+            Act::Turns(1, 0),
             Act::Has(0, 1, Is::Open),
+            Act::Has(1, 0, Is::Open),
             Act::Works(0),
         ],
         then: &[Act::Lives(0)],
@@ -534,51 +380,8 @@ const ROWS: &[Row] = &[
         shows: "the last end wakes a kernel thread that sleeps, and once it returns from its work each result is there",
         cores: 2,
         slots: 2,
-        spells: (
-            Spell::Polls(OFTEN, LONG, Until::WorkReturns),
-            Spell::ToTheStop,
-        ),
-        then: &[Act::Answered(OFTEN as u64), Act::Overslept(FEW)],
+        spells: (Spell::Polls(OFTEN, LONG, true), Spell::ToTheStop),
+        then: &[Act::Answered(OFTEN as u64), Act::Overslept(0, FEW)],
         ..NOTHING
     },
 ];
-
-#[test]
-fn each_row_of_a_server_holds(rt: HostRuntime) -> Result<(), Fail> {
-    for row in ROWS {
-        assert!(rt; holds(&rt, rt.alloc(), row), "{}", row.shows);
-    }
-    Ok(())
-}
-
-const AMPLE: &[Row] = &[Row {
-    shows: "with ample memory each place gets a job",
-    acts: &[Act::Fills],
-    ..NOTHING
-}];
-
-/// The numbers of places of a core. Each number is tried with each number of cores.
-const SLOTS_OF: [u8; 4] = [1, 8, 30, 56];
-
-#[test]
-fn with_ample_memory_each_place_gets_a_job(rt: HostRuntime) -> Result<(), Fail> {
-    for cores in 1..=CORES {
-        for slots in SLOTS_OF {
-            let places = usize::from(cores) * usize::from(slots);
-            for row in AMPLE {
-                let row = Row {
-                    cores,
-                    slots,
-                    left: (places, 0),
-                    alive: places,
-                    ..*row
-                };
-                assert!(rt;
-                    holds(&rt, rt.alloc(), &row),
-                    "{cores} cores of {slots} places"
-                );
-            }
-        }
-    }
-    Ok(())
-}

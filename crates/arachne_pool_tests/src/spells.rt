@@ -3,12 +3,12 @@ ghost use Rattle.std.specs.Prelude.{◌≡◌, ◌<◌, IfSome};
 ghost use Rattle.arachne_pool.specs.Workers.{IsWorkerOf};
 
 use crate::board::Board;
-use crate::tasks::{LEAF, PARENT, Sort, Task};
+use crate::tasks::{LEAF, Sort, Task};
 use arachne_contexts::{Contexts, Seats};
 use arachne_core::OccWord;
 use arachne_pool::{Pool, PoolFault, Spawned, Worker};
 use arachne_shortage::Hoard;
-use std::sync::atomic::{AtomicU64, Ordering};
+use std::sync::atomic::Ordering;
 use std::sync::{Arc, Wait};
 use std::thread::{sleep, yield_now};
 use std::time::{Clock, Duration};
@@ -19,130 +19,88 @@ const LOOKS: u32 = 1_000;
 /// How often a kernel thread checks, every 5 ms, for something that happens soon or never.
 const GLANCES: u32 = 2000;
 
-/// An act of one of a test case's kernel threads.
+/// What one of a test case's kernel threads does.
 #[derive(Clone, Copy)]
 pub(crate) enum Spell {
-    /// The kernel thread does nothing.
+    /// Does nothing.
     Not,
-    /// The kernel thread works on its core until no job is left, or the pool is stopped.
+    /// Works on its core until no job is left, or the pool is stopped.
     ToTheEnd,
-    /// Works on this core until all jobs have ended, as `ToTheEnd` does on the thread's own core.
+    /// Does the same on this core.
     ToTheEndOn(u8),
-    /// The kernel thread works as in `ToTheEnd` each time that the turn is passed to it, until the pool is stopped.
+    /// Works as in `ToTheEnd` each time that the turn is passed to it, until the pool is stopped.
     ToTheStop,
-    /// The kernel thread makes this number of rounds, or fewer if no job is left before these are made. Then the kernel
-    /// thread stops the pool.
+    /// Makes this number of rounds, and then stops the pool. Ends earlier once no job is left.
     Rounds(u32),
-    /// The kernel thread makes rounds until all jobs have ended, and never calls `work`.
-    TurnsOut,
-    /// The kernel thread makes rounds on this core until its own core is open, for ten seconds at most. Then the kernel
-    /// thread stops the pool.
+    /// Makes rounds on this core until its own core is open, for ten seconds at most, and then stops the pool.
     TurnsUntilOpen(u8),
-    /// Once a job has begun elsewhere, the kernel thread works on its core while memory is used up, until memory is
-    /// refused. If `work` does not report the refusal, or if the refusal does not stop the pool, the kernel thread
-    /// counts an answer and stops the pool.
+    /// Once a job has begun elsewhere, works on its core while memory is used up, until memory is refused. Counts an
+    /// answer and stops the pool if `work` does not report that, or if the refusal does not stop the pool.
     InNeed,
-    /// Like `InNeed`, but first the kernel thread spawns a job on its core, and then joins this job.
-    JoinsInNeed,
-    /// The kernel thread spawns this number of leaves, which no worker may keep, and works for no core.
-    Spawns(u32),
-    /// The kernel thread spawns this number of leaves for core 1, each once that core's kernel thread sleeps and only
-    /// one job has not ended. Then the kernel thread calls `finish`, since no more leaves follow, and works to the end.
+    /// Spawns this number of leaves for core 1, each once that core's kernel thread sleeps and only one job has not
+    /// ended. Then calls `finish`, since no more leaves follow, and works to the end.
     Feeds(u32),
-    /// This number of times the kernel thread keeps a pool without a job open, and passes the turn. Once core 1's
-    /// kernel thread sleeps, this kernel thread calls `finish`, and waits until core 1's returns from its work. At last
-    /// this kernel thread stops the pool.
+    /// This number of times keeps a pool without a job open, passes the turn, calls `finish` once core 1's kernel
+    /// thread sleeps, and waits until that thread returns from its work. At last stops the pool.
     Finishes(u32),
-    /// This number of times an answer is counted once the job that wants it is about to sleep, and then the job is
-    /// woken. If the second value is true, the answer is counted only once the kernel thread of core 1 sleeps too.
+    /// This number of times counts an answer once the job that wants it is about to sleep, and wakes the job. If the
+    /// second value is true, it waits first until the kernel thread of core 1 sleeps too.
     Wakes(u32, bool),
-    /// This number of times the kernel thread spawns a job on core 1 and passes the turn. Once that job has begun on
-    /// core 1, the kernel thread works to the end, or looks until all jobs have ended. Then the kernel thread polls the
-    /// handle, and counts an answer if the handle gives the result. At last the kernel thread stops the pool.
-    Polls(u32, Sort, Until),
-    /// Once a job has begun, the kernel thread spawns a leaf on core 1, and makes rounds on this core until the leaf
-    /// has begun or an answer was counted. The kernel thread counts an answer if a round has found something to do and
-    /// the leaf has not begun. After the rounds it counts an answer in any case, and works to the end.
-    Fetches(u8),
-    /// This number of times the kernel thread spawns a job on core 0, passes the turn and joins the job on its own
-    /// core. The kernel thread counts an answer for each join; with `WorkReturns`, only if the other kernel thread
-    /// returns from `work` then. At last the kernel thread stops the pool.
-    JoinsThere(u32, Sort, Until),
-    /// The kernel thread makes rounds on its core until only one job has not ended, which sleeps, and wakes that job
-    /// with an answer.
+    /// This number of times spawns a job and passes the turn. Once that job has begun on core 1, works to the end if the
+    /// last value is true, or looks until all jobs have ended. Then polls the handle, and counts an answer if it gives
+    /// the result. At last stops the pool.
+    Polls(u32, Sort, bool),
+    /// Once a job has begun on core 1, spawns a leaf there, ends the job that is alone on core 0, and makes rounds on
+    /// core 0 until the leaf has begun or an answer was counted. Counts an answer if a round has found something to do
+    /// and the leaf has not begun, and one after the rounds; then works to the end.
+    Fetches,
+    /// Makes rounds on its core until only one job has not ended, which sleeps, and wakes that job with an answer.
     WakesLast,
 }
 
-/// The way in which a kernel thread waits until all jobs have ended.
-#[derive(Clone, Copy, PartialEq)]
-pub(crate) enum Until {
-    WorkReturns,
-    NoneLives,
-}
-
-/// Does a spell as the kernel thread of a core, which need not be one of the pool's. Returns the worker, if it still
-/// has its seat.
+/// Does a spell as the kernel thread of a core, which need not be one of the pool's.
 pub(crate) fn work<C: Contexts<Spawned<Task>>, R: Wait + Clock>(
     rt: &R,
     pool: &Pool<C>,
     board: &Arc<Board>,
-    worker: Worker<C::Seat, Task>,
+    worker: &mut Worker<C::Seat, Task>,
     core: u8,
     spell: Spell,
-) -> Option<Worker<C::Seat, Task>>
-    requires { IsWorkerOf C.sits C.idle pool.now.table pool.now.cores worker }
-    ensures { IfSome result (IsWorkerOf C.sits C.idle pool.now.table pool.now.cores) }
+)
+    requires { IsWorkerOf C.sits C.idle pool.now.table pool.now.cores worker.old }
+    ensures { IsWorkerOf C.sits C.idle pool.now.table pool.now.cores worker.new }
 {
-    let mut worker = worker;
     match spell {
         Spell::Not => {}
         Spell::ToTheEnd if core < pool.cores => {
-            let _ = pool.work(rt, &mut worker, core);
+            let _ = pool.work(rt, worker, core);
         }
         Spell::ToTheEndOn(other) if other < pool.cores => {
-            let _ = pool.work(rt, &mut worker, other);
+            let _ = pool.work(rt, worker, other);
         }
         Spell::ToTheStop if core < pool.cores => {
-            to_the_stop::<C, R>(rt, pool, board, &mut worker, core);
+            to_the_stop::<C, R>(rt, pool, board, worker, core);
         }
         Spell::Rounds(rounds) if core < pool.cores => {
-            turns::<C, R>(rt, pool, &mut worker, core, rounds);
-            pool.stop();
-        }
-        Spell::TurnsOut if core < pool.cores => {
-            turns::<C, R>(rt, pool, &mut worker, core, u32::MAX);
+            turns::<C, R>(rt, pool, worker, core, rounds, 0);
         }
         Spell::TurnsUntilOpen(other) if other < pool.cores && core < pool.cores => {
-            turns_until_open::<C, R>(rt, pool, &mut worker, other, core);
+            turns_until_open::<C, R>(rt, pool, worker, other, core);
         }
-        Spell::InNeed if core < pool.cores => in_need::<C, R>(rt, pool, board, &mut worker, core),
-        Spell::JoinsInNeed if core < pool.cores => {
-            joins_in_need::<C, R>(rt, pool, board, &mut worker, core);
-        }
-        Spell::Spawns(jobs) => spawns::<C, R>(rt, pool, board, &mut worker, jobs),
-        Spell::Feeds(jobs) if pool.cores > 1 => {
-            feeds::<C, R>(rt, pool, board, &mut worker, jobs);
-        }
+        Spell::InNeed if core < pool.cores => in_need::<C, R>(rt, pool, board, worker, core),
+        Spell::Feeds(jobs) if pool.cores > 1 => feeds::<C, R>(rt, pool, board, worker, jobs),
         Spell::Finishes(times) if pool.cores > 1 => finishes::<C, R>(rt, pool, board, times),
-        Spell::Wakes(times, sleeps) => {
-            return wakes::<C, R>(rt, pool, board, worker, times, sleeps);
+        Spell::Wakes(times, sleeps) => wakes::<C, R>(rt, pool, board, worker, times, sleeps),
+        Spell::Polls(times, sort, works) if pool.cores > 1 => {
+            polls::<C, R>(rt, pool, board, worker, times, sort, works);
         }
-        Spell::Polls(times, sort, until) if pool.cores > 1 => {
-            polls::<C, R>(rt, pool, board, &mut worker, times, sort, until);
-        }
-        Spell::Fetches(own) if pool.cores > 1 && own < pool.cores => {
-            fetches::<C, R>(rt, pool, board, &mut worker, own);
-        }
+        Spell::Fetches if pool.cores > 1 => fetches::<C, R>(rt, pool, board, worker),
         Spell::WakesLast if core < pool.cores => {
-            until_one::<C, R>(rt, pool, &mut worker, core);
-            return wakes::<C, R>(rt, pool, board, worker, 1, false);
-        }
-        Spell::JoinsThere(times, sort, until) if core < pool.cores => {
-            joins_there::<C, R>(rt, pool, board, &mut worker, core, times, sort, until);
+            turns::<C, R>(rt, pool, worker, core, u32::MAX, 1);
+            wakes::<C, R>(rt, pool, board, worker, 1, false);
         }
         _ => pool.stop(),
     }
-    Some(worker)
 }
 
 /// Does `Spell::ToTheStop`, and waits for the turn before each time.
@@ -159,34 +117,37 @@ fn to_the_stop<C: Contexts<Spawned<Task>>, R: Wait + Clock>(
 {
     let mut turns: u64 = 0;
     for _ in rt.forever() {
+        await_sign(rt, pool, board, Sign::Turns(turns));
         if pool.is_stopped() {
             return;
         }
-        board.await_turn(rt, turns);
-        turns = board.turns();
+        turns = board.turns.load(Ordering::SeqCst);
         let _ = pool.work(rt, worker, core);
         board.comes_back();
     }
 }
 
-/// Makes `rounds` rounds, or fewer if no job is left before these are made.
+/// Makes `rounds` rounds, and then stops the pool; fewer if at most `least` jobs are left before these are made, or the
+/// pool is stopped.
 fn turns<C: Contexts<Spawned<Task>>, R: Wait + Clock>(
     rt: &R,
     pool: &Pool<C>,
     worker: &mut Worker<C::Seat, Task>,
     core: u8,
     rounds: u32,
+    least: u64,
 )
     requires worker { IsWorkerOf C.sits C.idle pool.now.table pool.now.cores worker.old }
     requires core { core < pool.now.cores }
     ensures worker { IsWorkerOf C.sits C.idle pool.now.table pool.now.cores worker.new }
 {
     for _ in 0..rounds {
-        if pool.live() == 0 {
+        if pool.live() <= least || pool.is_stopped() {
             return;
         }
         let _ = pool.turn(rt, worker, core);
     }
+    pool.stop();
 }
 
 /// Does `Spell::TurnsUntilOpen`, with rounds on `core` until `own` is open.
@@ -226,7 +187,7 @@ fn in_need<C: Contexts<Spawned<Task>>, R: Wait + Clock>(
     requires core { core < pool.now.cores }
     ensures worker { IsWorkerOf C.sits C.idle pool.now.table pool.now.cores worker.new }
 {
-    await_more(rt, pool, &board.begun, 0);
+    await_sign(rt, pool, board, Sign::Begun(0));
     let hoard = Hoard::take(board.alloc);
     let worked = pool.work(rt, worker, core);
     if hoard.is_err() || worked != Err(PoolFault::Memory) || !pool.is_stopped() {
@@ -235,51 +196,7 @@ fn in_need<C: Contexts<Spawned<Task>>, R: Wait + Clock>(
     }
 }
 
-/// Does `Spell::JoinsInNeed`.
-fn joins_in_need<C: Contexts<Spawned<Task>>, R: Wait + Clock>(
-    rt: &R,
-    pool: &Pool<C>,
-    board: &Arc<Board>,
-    worker: &mut Worker<C::Seat, Task>,
-    core: u8,
-)
-    requires worker { IsWorkerOf C.sits C.idle pool.now.table pool.now.cores worker.old }
-    requires core { core < pool.now.cores }
-    ensures worker { IsWorkerOf C.sits C.idle pool.now.table pool.now.cores worker.new }
-{
-    if let Some(task) = Task::new(PARENT, board)
-        && let Ok((handle, _)) = pool.try_spawn_on(rt, worker, core, task)
-    {
-        await_more(rt, pool, &board.begun, 0);
-        let hoard = Hoard::take(board.alloc);
-        let joined = pool.join(rt, worker, core, handle);
-        if hoard.is_ok() && matches!(joined, Err((PoolFault::Memory, _))) && pool.is_stopped() {
-            return;
-        }
-    }
-    board.answer();
-    pool.stop();
-}
-
-/// Does `Spell::Spawns`.
-fn spawns<C: Contexts<Spawned<Task>>, R: Wait>(
-    rt: &R,
-    pool: &Pool<C>,
-    board: &Arc<Board>,
-    worker: &mut Worker<C::Seat, Task>,
-    jobs: u32,
-)
-    requires worker { IsWorkerOf C.sits C.idle pool.now.table pool.now.cores worker.old }
-    ensures worker { IsWorkerOf C.sits C.idle pool.now.table pool.now.cores worker.new }
-{
-    for _ in 0..jobs {
-        if let Some(task) = Task::new(LEAF, board) {
-            let _ = pool.spawn(rt, worker, task);
-        }
-    }
-}
-
-/// Does `Spell::Feeds`. Spawns the leaves by the two calls that name no core, in turn.
+/// Does `Spell::Feeds`. Spawns the leaves by the two calls in turn.
 fn feeds<C: Contexts<Spawned<Task>>, R: Wait + Clock>(
     rt: &R,
     pool: &Pool<C>,
@@ -295,7 +212,7 @@ fn feeds<C: Contexts<Spawned<Task>>, R: Wait + Clock>(
         let Some(task) = Task::new(LEAF, board) else {
             return;
         };
-        await_sleep(rt, pool, 1);
+        await_sign(rt, pool, board, Sign::Asleep);
         let is_begun = match job % 2 {
             0 => pool.spawn(rt, worker, task).is_ok(),
             _ => pool.try_spawn(rt, worker, task).is_ok(),
@@ -303,7 +220,7 @@ fn feeds<C: Contexts<Spawned<Task>>, R: Wait + Clock>(
         if !is_begun {
             pool.stop();
         }
-        await_ends(rt, pool, 1);
+        await_sign(rt, pool, board, Sign::Live(1));
     }
     pool.finish();
     let _ = pool.work(rt, worker, 0);
@@ -312,13 +229,11 @@ fn feeds<C: Contexts<Spawned<Task>>, R: Wait + Clock>(
 /// Does `Spell::Finishes`.
 fn finishes<C: Seats, R: Wait>(rt: &R, pool: &Pool<C>, board: &Board, times: u32) {
     for time in 0..times {
-        let rests = pool.statistics(1).rests;
         pool.keep_open();
         board.pass_turn();
-        await_rest(rt, pool, 1, rests);
-        await_sleep(rt, pool, 1);
+        await_sign(rt, pool, board, Sign::Asleep);
         pool.finish();
-        await_more(rt, pool, &board.returns, time);
+        await_sign(rt, pool, board, Sign::Returns(u64::from(time)));
     }
     pool.stop();
     board.pass_turn();
@@ -329,24 +244,21 @@ fn wakes<C: Contexts<Spawned<Task>>, R: Wait + Clock>(
     rt: &R,
     pool: &Pool<C>,
     board: &Board,
-    worker: Worker<C::Seat, Task>,
+    worker: &mut Worker<C::Seat, Task>,
     times: u32,
     sleeps: bool,
-) -> Option<Worker<C::Seat, Task>>
-    requires { IsWorkerOf C.sits C.idle pool.now.table pool.now.cores worker }
-    ensures { IfSome result (IsWorkerOf C.sits C.idle pool.now.table pool.now.cores) }
+)
+    requires { IsWorkerOf C.sits C.idle pool.now.table pool.now.cores worker.old }
+    ensures { IsWorkerOf C.sits C.idle pool.now.table pool.now.cores worker.new }
 {
-    let (worker, waker) = pool.split_waker(rt, worker);
-    let mut waker = waker?;
     for time in 0..times {
-        await_more(rt, pool, &board.sleeps, time);
+        await_sign(rt, pool, board, Sign::Sleeps(u64::from(time)));
         if sleeps {
-            await_sleep(rt, pool, 1);
+            await_sign(rt, pool, board, Sign::Asleep);
         }
         board.answer();
-        let _ = pool.wake::<R, Task>(rt, &mut waker, board.id());
+        let _ = pool.wake(rt, worker, board.id());
     }
-    Some(pool.join_waker(rt, worker, waker))
 }
 
 /// Does `Spell::Polls`.
@@ -357,7 +269,7 @@ fn polls<C: Contexts<Spawned<Task>>, R: Wait + Clock>(
     worker: &mut Worker<C::Seat, Task>,
     times: u32,
     sort: Sort,
-    until: Until,
+    works: bool,
 )
     requires worker { IsWorkerOf C.sits C.idle pool.now.table pool.now.cores worker.old }
     requires core { 1 < pool.now.cores }
@@ -367,16 +279,15 @@ fn polls<C: Contexts<Spawned<Task>>, R: Wait + Clock>(
         let Some(task) = Task::new(sort, board) else {
             break;
         };
-        let Ok((handle, _)) = pool.try_spawn_on(rt, worker, 1, task) else {
+        let Ok(handle) = pool.try_spawn(rt, worker, task) else {
             break;
         };
         board.pass_turn();
-        await_more(rt, pool, &board.begun, time);
-        match until {
-            Until::WorkReturns => {
-                let _ = pool.work(rt, worker, 0);
-            }
-            Until::NoneLives => await_ends(rt, pool, 0),
+        await_sign(rt, pool, board, Sign::Begun(u64::from(time)));
+        if works {
+            let _ = pool.work(rt, worker, 0);
+        } else {
+            await_sign(rt, pool, board, Sign::Live(0));
         }
         if handle.poll().is_ok() {
             board.answer();
@@ -392,145 +303,66 @@ fn fetches<C: Contexts<Spawned<Task>>, R: Wait + Clock>(
     pool: &Pool<C>,
     board: &Arc<Board>,
     worker: &mut Worker<C::Seat, Task>,
-    core: u8,
 )
     requires worker { IsWorkerOf C.sits C.idle pool.now.table pool.now.cores worker.old }
     requires core { 1 < pool.now.cores }
-    requires own { core < pool.now.cores }
     ensures worker { IsWorkerOf C.sits C.idle pool.now.table pool.now.cores worker.new }
 {
-    await_more(rt, pool, &board.begun, 0);
+    await_sign(rt, pool, board, Sign::Begun(0));
     if let Some(task) = Task::new(LEAF, board) {
-        let _ = pool.try_spawn_on(rt, worker, 1, task);
+        let _ = pool.spawn(rt, worker, task);
     }
+    let _ = pool.turn(rt, worker, 0);
     for _ in rt.forever() {
-        if board.begun.load(Ordering::SeqCst) > 1 || board.answers() > 0 {
+        if board.begun.load(Ordering::SeqCst) > 2 || board.answers() > 0 {
             break;
         }
-        let found = matches!(pool.turn(rt, worker, core), Ok(true));
-        if found && board.begun.load(Ordering::SeqCst) <= 1 {
+        let found = matches!(pool.turn(rt, worker, 0), Ok(true));
+        if found && board.begun.load(Ordering::SeqCst) <= 2 {
             board.answer();
         }
     }
     board.answer();
-    let _ = pool.work(rt, worker, core);
+    let _ = pool.work(rt, worker, 0);
 }
 
-/// Makes rounds until at most one job has not ended, or the pool is stopped.
-fn until_one<C: Contexts<Spawned<Task>>, R: Wait + Clock>(
-    rt: &R,
-    pool: &Pool<C>,
-    worker: &mut Worker<C::Seat, Task>,
-    core: u8,
-)
-    requires worker { IsWorkerOf C.sits C.idle pool.now.table pool.now.cores worker.old }
-    requires core { core < pool.now.cores }
-    ensures worker { IsWorkerOf C.sits C.idle pool.now.table pool.now.cores worker.new }
-{
+/// A state for which a kernel thread waits.
+#[derive(Clone, Copy)]
+enum Sign {
+    /// More than this number of jobs have begun.
+    Begun(u64),
+    /// Jobs were about to sleep more than this number of times.
+    Sleeps(u64),
+    /// The turn was passed more than this number of times.
+    Turns(u64),
+    /// Kernel threads have returned from their work more than this number of times.
+    Returns(u64),
+    /// At most this number of jobs have not ended.
+    Live(u64),
+    /// The kernel thread of core 1 sleeps.
+    Asleep,
+}
+
+/// Waits until a state has come, or the pool is stopped: looks again at once for the first `LOOKS` times, and later
+/// after a yield of the processor.
+fn await_sign<C: Seats, R: Wait>(rt: &R, pool: &Pool<C>, board: &Board, sign: Sign) {
+    let mut looks: u32 = 0;
     for _ in rt.forever() {
-        if pool.live() <= 1 || pool.is_stopped() {
-            return;
-        }
-        let _ = pool.turn(rt, worker, core);
-    }
-}
-
-/// Does `Spell::JoinsThere`.
-fn joins_there<C: Contexts<Spawned<Task>>, R: Wait + Clock>(
-    rt: &R,
-    pool: &Pool<C>,
-    board: &Arc<Board>,
-    worker: &mut Worker<C::Seat, Task>,
-    core: u8,
-    times: u32,
-    sort: Sort,
-    until: Until,
-)
-    requires worker { IsWorkerOf C.sits C.idle pool.now.table pool.now.cores worker.old }
-    requires core { core < pool.now.cores }
-    ensures worker { IsWorkerOf C.sits C.idle pool.now.table pool.now.cores worker.new }
-{
-    for time in 0..times {
-        let Some(task) = Task::new(sort, board) else {
-            break;
+        let is_so = match sign {
+            Sign::Begun(than) => board.begun.load(Ordering::SeqCst) > than,
+            Sign::Sleeps(than) => board.sleeps.load(Ordering::SeqCst) > than,
+            Sign::Turns(than) => board.turns.load(Ordering::SeqCst) > than,
+            Sign::Returns(than) => board.returns.load(Ordering::SeqCst) > than,
+            Sign::Live(most) => pool.live() <= most,
+            Sign::Asleep => pool.is_asleep(1),
         };
-        let Ok((handle, _)) = pool.try_spawn_on(rt, worker, 0, task) else {
-            break;
-        };
-        board.pass_turn();
-        if pool.join(rt, worker, core, handle).is_err() {
-            break;
-        }
-        if until == Until::WorkReturns && !has_returned(rt, board, time) {
-            break;
-        }
-        board.answer();
-    }
-    pool.stop();
-    board.pass_turn();
-}
-
-/// Returns true if kernel threads have returned from `work` more than `than` times, at once or within ten seconds.
-fn has_returned<R: Clock>(rt: &R, board: &Board, than: u32) -> bool {
-    for _ in 0..GLANCES {
-        if board.returns.load(Ordering::SeqCst) > u64::from(than) {
-            return true;
-        }
-        sleep(rt, Duration::from_millis(5));
-    }
-    false
-}
-
-/// Waits until a count of the board is greater than `than`, or the pool is stopped.
-fn await_more<C: Seats, R: Wait>(rt: &R, pool: &Pool<C>, count: &AtomicU64, than: u32) {
-    let mut looks: u32 = 0;
-    for _ in rt.forever() {
-        if count.load(Ordering::SeqCst) > u64::from(than) || pool.is_stopped() {
+        if is_so || pool.is_stopped() {
             return;
         }
-        looks = look_again(looks);
-    }
-}
-
-/// Waits until at most `most` jobs have not ended, or the pool is stopped.
-fn await_ends<C: Seats, R: Wait>(rt: &R, pool: &Pool<C>, most: u64) {
-    let mut looks: u32 = 0;
-    for _ in rt.forever() {
-        if pool.live() <= most || pool.is_stopped() {
-            return;
+        if looks < LOOKS {
+            looks += 1;
+        } else {
+            yield_now();
         }
-        looks = look_again(looks);
     }
-}
-
-/// Waits until more than `than` rounds on a core have found nothing, or the pool is stopped.
-fn await_rest<C: Seats, R: Wait>(rt: &R, pool: &Pool<C>, core: u8, than: u64) {
-    let mut looks: u32 = 0;
-    for _ in rt.forever() {
-        if pool.statistics(core).rests > than || pool.is_stopped() {
-            return;
-        }
-        looks = look_again(looks);
-    }
-}
-
-/// Waits until the kernel thread of a core sleeps, or the pool is stopped.
-fn await_sleep<C: Seats, R: Wait>(rt: &R, pool: &Pool<C>, core: u8) {
-    let mut looks: u32 = 0;
-    for _ in rt.forever() {
-        if pool.is_asleep(core) || pool.is_stopped() {
-            return;
-        }
-        looks = look_again(looks);
-    }
-}
-
-/// Lets the caller look again: at once for the first `LOOKS` times, and later after a yield of the processor. Returns
-/// the number of looks that were taken at once.
-fn look_again(looks: u32) -> u32 {
-    if looks < LOOKS {
-        return looks + 1;
-    }
-    yield_now();
-    looks
 }

@@ -4,6 +4,7 @@ use arachne_contexts::Tagged;
 use arachne_core::ThreadId;
 use arachne_pool::{PoolJob, Step};
 use std::alloc::Global;
+use std::mem::replace;
 use std::sync::Arc;
 
 /// A kind of job: it forks children, joins them, sleeps until answers were counted, goes on for some steps and ends.
@@ -26,8 +27,7 @@ pub(crate) struct Sort {
     pub(crate) is_exclusive: bool,
     /// True if the job's first child is exclusive, even if the job itself is not.
     pub(crate) is_first_exclusive: bool,
-    /// True if the job's first step lasts until an answer was counted, so that its kernel thread runs no other job
-    /// meanwhile.
+    /// True if the job's first step lasts until an answer was counted.
     pub(crate) is_held: bool,
 }
 
@@ -38,8 +38,6 @@ pub(crate) enum Joins {
     InTurn,
     /// The job joins all children once it has forked the last one.
     AtLast,
-    /// The job joins only the last child, once it has forked that child.
-    Newest,
     /// The job joins no child.
     Never,
 }
@@ -118,7 +116,6 @@ impl Task {
         match self.sort.joins {
             Joins::InTurn => self.awaited > 0,
             Joins::AtLast => self.awaited > 0 && self.forked == self.sort.forks,
-            Joins::Newest => self.awaited > 0 && self.awaited == self.sort.forks,
             Joins::Never => false,
         }
     }
@@ -149,12 +146,10 @@ impl PoolJob for Task {
     ghost awaits = { λ task children. Unit {0} };
 
     fn step(&mut self) -> Step<Task, u64> {
-        if !self.has_begun {
-            self.has_begun = true;
-            self.board.begins();
-            if self.sort.is_held {
-                self.board.await_answer();
-            }
+        let is_first = !replace(&mut self.has_begun, true);
+        self.board.counts_step(is_first);
+        if is_first && self.sort.is_held {
+            self.board.await_answer();
         }
         if self.is_to_join() {
             return Step::Waits;

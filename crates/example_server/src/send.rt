@@ -3,14 +3,14 @@
 //! gives them back.
 ghost use Rattle.std.specs.Prelude.{◌≡◌, ◌+◌, ◌<◌, IfOk, IfSome, IsSome, OnSome, Some, if◌then◌else◌, length, slice_get, vec_len};
 ghost use Rattle.std.specs.VecDeque.{deque_len};
-ghost use Rattle.arachne_pool.specs.Workers.{IsIdleAt, IsWorkerOf};
+ghost use Rattle.arachne_pool.specs.Workers.{IsWorkerOf};
 
 use crate::job::{Answer, Job, Request, now};
 use crate::keeper::{Judged, Keeper};
 use crate::requests::Due;
 use crate::server::Server;
 use crate::timer::wake_due;
-use arachne_pool::{Handle, Refusal, Spawned, Waker, Worker};
+use arachne_pool::{Handle, Refusal, Spawned, Worker};
 use arachne_table::Contexts;
 use std::collections::VecDeque;
 use std::sync::Wait;
@@ -45,8 +45,7 @@ pub fn send<R: Wait + Clock, C: Contexts<Spawned<Job>>>(
     ensures worker { IfSome result (λ sent. IsWorkerOf C.sits C.idle server.now.pool.table server.now.pool.cores sent.0) }
     ensures all { IfSome result (λ sent. vec_len sent.1.answers + sent.1.refused ≡ length server.now.requests.now) }
 {
-    let (mut worker, waker) = server.pool.split_waker(rt, worker);
-    let mut waker = waker?;
+    let mut worker = worker;
     let begin = now(rt);
     let mut report = Report {
         begin,
@@ -56,17 +55,10 @@ pub fn send<R: Wait + Clock, C: Contexts<Spawned<Job>>>(
         judged: Vec::new(server.alloc),
     };
     let mut keeper = Keeper::new(server.alloc, server.settings, begin);
-    send_all::<R, C>(
-        rt,
-        server,
-        &mut worker,
-        &mut waker,
-        &mut keeper,
-        &mut report,
-    )?;
+    send_all::<R, C>(rt, server, &mut worker, &mut keeper, &mut report)?;
     server.pool.finish();
     report.judged = keeper.judged;
-    Some((server.pool.join_waker(rt, worker, waker), report))
+    Some((worker, report))
 }
 
 /// The loop of `send`.
@@ -74,16 +66,13 @@ fn send_all<R: Wait + Clock, C: Contexts<Spawned<Job>>>(
     rt: &R,
     server: &Server<'_, C>,
     worker: &mut Worker<C::Seat, Job>,
-    waker: &mut Waker<C::Seat>,
     keeper: &mut Keeper,
     report: &mut Report,
 ) -> Option<()>
     requires worker { IsWorkerOf C.sits C.idle server.now.pool.table server.now.pool.cores worker.old }
-    requires waker { IsIdleAt C.sits C.idle server.now.pool.table waker.old }
     requires cores { keeper.old.most + 1 ≡ server.now.pool.cores }
     requires none { (vec_len report.old.answers ≡ 0) × (report.old.refused ≡ 0) }
     ensures worker { IsWorkerOf C.sits C.idle server.now.pool.table server.now.pool.cores worker.new }
-    ensures waker { IsIdleAt C.sits C.idle server.now.pool.table waker.new }
     ensures all { OnSome result (vec_len report.new.answers + report.new.refused ≡ length server.now.requests.now) }
 {
     let mut sent: VecDeque<Handle<Job>> = VecDeque::new(server.alloc);
@@ -106,7 +95,7 @@ fn send_all<R: Wait + Clock, C: Contexts<Spawned<Job>>>(
         }
         if look <= now {
             look = now.saturating_add(BETWEEN_LOOKS);
-            wake_due::<R, C>(rt, server, waker, now);
+            wake_due::<R, C>(rt, server, worker, now);
             keep_cores::<R, C>(rt, server, worker, keeper, now, report.busy)?;
         }
     }
@@ -153,7 +142,7 @@ fn settles<R: Wait, C: Contexts<Spawned<Job>>>(
             Some(true)
         }
         Err(refused) => match refused.why {
-            Refusal::NoPlace(_) => {
+            Refusal::NoPlace => {
                 let due = report.begin.saturating_add(request.due.at);
                 let is_late = request.taken.saturating_sub(due) > server.settings.patience;
                 report.refused += usize::from(is_late);

@@ -3,7 +3,7 @@ use Rattle.std.proofs.Crossing as std
 use Rattle.arachne_words.proofs.seat.WordSeat.TheSendSync as seat
 use Rattle.arachne_words.proofs.table.WordContexts.TheSendSync as table
 use Rattle.arachne_pool.proofs.Crossing.{spawned_send, worker_send}
-use Rattle.arachne_pool_tests.proofs.crew.Crew.TheSendSync as crew
+use Rattle.arachne_pool_tests.proofs.rows.Crew.TheSendSync as crew
 use Rattle.arachne_pool_tests.proofs.tasks.Task.TheSendSync as task
 use Rattle.arachne_pool_tests.proofs.rows.holds.Goals as goal
 

@@ -1,6 +1,6 @@
-use Rattle.arachne_pool.specs.Workers.{IsIdleAt}
+use Rattle.arachne_pool.specs.Workers.{IsWorkerOf}
 use Rattle.example_server.proofs.timer.wake_due.Given as goal
 
--- between two wakes the waker is the pool's
+-- between two wakes the worker is the pool's
 abbrev pub invariant-loop-context : goal.invariant-loop-context
-invariant-loop-context g l = IsIdleAt g.C.Seats.sits g.C.Seats.idle l.server.pool.table l.waker
+invariant-loop-context g l = IsWorkerOf g.C.Seats.sits g.C.Seats.idle l.server.pool.table l.server.pool.cores l.worker

@@ -7,4 +7,4 @@ always_on_ok (Err error) p = tt
 
 -- the worker has its seat whatever the rounds came to
 pub returns-clause-seat : goal.returns-clause-seat
-returns-clause-seat g c = let has : IsSome c.leave.new.worker.seat = search rules in always_on_ok c.run_once-found.result has
+returns-clause-seat g c = let has : IsSome c.leave-has_seat.new.worker.seat = search rules in always_on_ok c.run_once-found.result (search (rules, has))

@@ -1,6 +1,0 @@
-use Rattle.arachne_pool.specs.Workers.{IsWorkerOf}
-use Rattle.arachne_pool_tests.proofs.spells.joins_there.Given as goal
-
--- between two joins the worker is the pool's
-abbrev pub invariant-loop-time : goal.invariant-loop-time
-invariant-loop-time g l = IsWorkerOf g.C.Seats.sits g.C.Seats.idle l.pool.table l.pool.cores l.worker
