@@ -193,7 +193,6 @@ impl Arbiter {
             }
             // A client that can't be moved, or doesn't read, is dropped, and a turn ends once: so this loop ends.
             if !self.end_turn() && all_moved && self.connections.values().all(|it| !it.gone) {
-                self.means.carry_out();
                 return self.update_rest();
             }
         }
@@ -222,7 +221,7 @@ impl Arbiter {
         let late = Instant::now() >= *client.until.get_or_insert_with(|| Instant::now() + PATIENCE);
         let mut left = share.held;
         while let Some(taken) = self.state.take_back(number, late) {
-            self.unplace(id, taken.place as u32, false);
+            self.unplace(id, taken.place as u32);
             self.forced += late as u64;
             self.clients.get_mut(&id).unwrap().forced += late as u64;
             left -= 1;
@@ -264,16 +263,14 @@ impl Arbiter {
     }
 
     fn drop_thread(&mut self, id: u32, place: u32) {
-        self.unplace(id, place, false);
+        self.unplace(id, place);
         if let Some(client) = self.clients.get(&id) {
             self.state.end(client.number, place as usize);
         }
         let client = self.clients.get_mut(&id);
         if let Some((process, thread)) = client.and_then(|it| Some((it.process, it.threads.remove(&place)?))) {
             self.connections.remove(&thread.connection);
-            if thread.is_of(process) {
-                self.means.release(thread.id, &self.all);
-            }
+            self.means.leave(thread.id, thread.is_of(process), &self.kept, &self.all);
         }
     }
 
@@ -305,9 +302,8 @@ impl Arbiter {
         true
     }
 
-    /// Moves a thread that has a core to `rest`, the processors on which threads without a core run. `sleeps` is true
-    /// if the thread waits.
-    fn unplace(&mut self, client: u32, place: u32, sleeps: bool) {
+    /// Moves a thread that has a core to `rest`, the processors on which threads without a core run.
+    fn unplace(&mut self, client: u32, place: u32) {
         let of = self.clients.get_mut(&client).and_then(|it| Some((it.process, it.threads.get_mut(&place)?)));
         let (process, thread) = match of {
             Some(of) => of,
@@ -316,7 +312,7 @@ impl Arbiter {
         if let Some(core) = thread.core.take() {
             (self.cores[core].owner, self.cores[core].since) = (None, Instant::now());
             if thread.is_of(process) {
-                let _ = self.means.unplace(thread.id, sleeps, &self.rest);
+                let _ = self.means.run_on(thread.id, &self.rest);
             }
             self.say(|| format!("core {} back from {client}.{place}", self.cores[core].cpus[0]));
         }
@@ -335,8 +331,8 @@ impl Arbiter {
         };
         let moved = match self.host.takes(core) {
             _ if !thread.is_of(process) => return false,
-            true => self.means.unplace(thread.id, false, &self.rest),
-            false => self.means.place(thread.id, self.cores[core].cpus[0], &mut self.rest),
+            true => self.means.run_on(thread.id, &self.rest),
+            false => self.means.run_on(thread.id, &self.cores[core].cpus[..1]),
         };
         moved.is_ok()
     }
@@ -376,7 +372,7 @@ impl Arbiter {
         for _ in 0..AT_ONCE {
             let (all, thread) = match self.look.as_mut().map(|look| (look.all, look.threads.next())) {
                 Some((all, Some(thread))) => (all, thread),
-                _ => return self.look = self.next_look(&cpus),
+                _ => return self.look = self.next_look(),
             };
             if known.contains(&thread) {
                 continue;
@@ -391,22 +387,27 @@ impl Arbiter {
 
     /// Returns the next look: at the threads of a client that has connected, or each second at threads that clients'
     /// threads may have begun. Each second the daemon also drops threads that have ended.
-    fn next_look(&mut self, cpus: &[usize]) -> Option<Look> {
+    fn next_look(&mut self) -> Option<Look> {
         if let Some(client) = self.clients.values_mut().find(|client| client.arrives != 0) {
             client.arrives -= 1;
             return Some(Look { threads: self.means.arrivals(client.process), all: true });
+        }
+        if let Some(threads) = self.means.next_left() {
+            return Some(Look { threads, all: true });
         }
         if self.looked.elapsed() <= LOOKS {
             return None;
         }
         self.looked = Instant::now();
+        self.means.remove_emptied();
         let all =
             self.clients.iter().flat_map(|(&id, it)| it.threads.iter().map(move |(&place, t)| (id, it, place, t)));
         let ended = all.filter(|(_, client, _, thread)| !thread.is_of(client.process));
         let ended: Vec<_> = ended.map(|(id, _, place, _)| (id, place)).collect();
         ended.into_iter().for_each(|(id, place)| self.drop_thread(id, place));
         let processes = self.clients.values().map(|client| client.process).collect();
-        Some(Look { threads: self.means.strangers(cpus, processes), all: false })
+        let known = self.clients.values().flat_map(|it| it.threads.values().map(|thread| thread.id)).collect();
+        Some(Look { threads: self.means.strangers(known, processes), all: false })
     }
 
     /// Moves the threads on processors that the host began or ceased to take.

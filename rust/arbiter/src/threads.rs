@@ -9,6 +9,8 @@ const IN_A_NAMESPACE: usize = 128;
 const FAMILY: usize = 256;
 /// The most bytes that are read of the list of the processes that a thread has begun.
 const CHILDREN: usize = 4096;
+/// More bytes than a thread's `stat` has, so that one read takes all.
+const STAT: usize = 2048;
 
 /// Threads that are found one after another, so that a step takes no longer if there are more of them.
 pub type Threads = Box<dyn Iterator<Item = u32>>;
@@ -48,8 +50,10 @@ fn begun_by(process: u32, thread: u32) -> Vec<u32> {
 
 /// Returns when a thread of a process began, in hundredths of a second since the machine did; None if it has ended.
 pub fn began(process: u32, thread: u32) -> Option<u64> {
-    let text = fs::read_to_string(format!("/proc/{process}/task/{thread}/stat")).ok()?;
+    let mut text = [0; STAT];
+    let len = fs::File::open(format!("/proc/{process}/task/{thread}/stat")).ok()?.read(&mut text).ok()?;
     // The thread's name is in brackets, and may have any letters.
+    let text = String::from_utf8_lossy(&text[..len]);
     text.rsplit_once(')')?.1.split_whitespace().nth(19)?.parse().ok()
 }
 
