@@ -385,21 +385,19 @@ impl Arbiter {
         }
     }
 
-    /// Returns the next look: at the threads of a client that has connected, or each second at threads that clients'
-    /// threads may have begun. Each second the daemon also drops threads that have ended.
+    /// Returns the next look: at the threads of a client that has connected, each second at threads that clients'
+    /// threads may have begun, or at what is in the cpuset of a thread that has left. Each second the daemon also drops
+    /// threads that have ended.
     fn next_look(&mut self) -> Option<Look> {
         if let Some(client) = self.clients.values_mut().find(|client| client.arrives != 0) {
             client.arrives -= 1;
             return Some(Look { threads: self.means.arrivals(client.process), all: true });
         }
-        if let Some(threads) = self.means.next_left() {
-            return Some(Look { threads, all: true });
-        }
         if self.looked.elapsed() <= LOOKS {
-            return None;
+            return self.means.next_left().map(|threads| Look { threads, all: true });
         }
         self.looked = Instant::now();
-        self.means.remove_emptied();
+        self.means.try_again();
         let all =
             self.clients.iter().flat_map(|(&id, it)| it.threads.iter().map(move |(&place, t)| (id, it, place, t)));
         let ended = all.filter(|(_, client, _, thread)| !thread.is_of(client.process));

@@ -6,6 +6,9 @@ use std::fs;
 use std::io;
 use std::path::{Path, PathBuf};
 
+/// The most sets that are removed before a decision.
+const REMOVED: usize = 8;
+
 pub enum Means {
     /// Cpusets of version 1, in a folder of the arbiter's: `rest`, and a set for each client's thread.
     Cpusets(Sets),
@@ -24,11 +27,10 @@ pub struct Sets {
     /// All processors that an affinity can name. A thread whose affinity names fewer would be kept on these even if its
     /// set has others.
     all: Vec<usize>,
-    /// The threads that have left, whose sets may have threads in them: those that a client's thread has begun begin in
-    /// its set.
+    /// The threads that have left, whose sets are still to be removed.
     left: Vec<u32>,
-    /// The threads that have left, whose sets can be removed.
-    emptied: Vec<u32>,
+    /// Those whose sets weren't empty: what a client's thread has begun begins in its set.
+    again: Vec<u32>,
 }
 
 impl Sets {
@@ -48,7 +50,7 @@ impl Sets {
 
     /// Moves a thread to a set of its own, of these processors.
     fn enter(&mut self, thread: u32, cpus: &[usize]) -> io::Result<()> {
-        for threads in [&mut self.left, &mut self.emptied] {
+        for threads in [&mut self.left, &mut self.again] {
             threads.retain(|it| *it != thread);
         }
         let set = self.set_of(thread);
@@ -99,7 +101,7 @@ impl Means {
         let top = parent.join("arbiter");
         let mems = fs::read_to_string(parent.join("cpuset.mems"))?;
         let all = (0..sys::PROCESSORS).collect();
-        let sets = Sets { top, mems: mems.trim().into(), all, left: Vec::new(), emptied: Vec::new() };
+        let sets = Sets { top, mems: mems.trim().into(), all, left: Vec::new(), again: Vec::new() };
         sets.make(&sets.top, cpus)?;
         sets.make(&sets.top.join("rest"), cpus)?;
         Ok(Means::Cpusets(sets))
@@ -166,27 +168,29 @@ impl Means {
         }
     }
 
-    /// Returns the threads in the set of a thread that has left, which must be moved to the set `rest`.
+    /// Removes some sets of threads that have left. Returns the threads in the first of these that isn't empty, which
+    /// must be moved to the set `rest`.
     pub fn next_left(&mut self) -> Option<Threads> {
-        match self {
-            Means::Cpusets(sets) => {
-                let thread = sets.left.pop()?;
-                sets.emptied.push(thread);
-                Some(Box::new(numbers(sets.set_of(thread).join("tasks")).into_iter()))
+        let sets = match self {
+            Means::Cpusets(sets) => sets,
+            Means::Affinity(_) => return None,
+        };
+        for _ in 0..REMOVED {
+            let thread = sets.left.pop()?;
+            let set = sets.set_of(thread);
+            if fs::remove_dir(&set).is_err() && set.exists() {
+                sets.again.push(thread);
+                return Some(Box::new(numbers(set.join("tasks")).into_iter()));
             }
-            Means::Affinity(_) => None,
         }
+        None
     }
 
-    /// Removes the sets of threads that have left. Linux frees a set some time after its last thread has ended.
-    pub fn remove_emptied(&mut self) {
+    /// Lets `next_left` try those sets again that weren't empty. Linux frees a set some time after its last thread has
+    /// ended.
+    pub fn try_again(&mut self) {
         if let Means::Cpusets(sets) = self {
-            for thread in std::mem::take(&mut sets.emptied) {
-                let set = sets.set_of(thread);
-                if fs::remove_dir(&set).is_err() && set.exists() {
-                    sets.left.push(thread);
-                }
-            }
+            sets.left.append(&mut sets.again);
         }
     }
 
