@@ -1,9 +1,9 @@
 //! Takes processors as a machine's host does: `taker SHARE FILE PROCESSOR..`.
 //!
 //! On each PROCESSOR a thread of the highest real-time priority computes for SHARE per cent of the time: for 5 to 20 ms
-//! each time, at random times. Each 50 ms FILE gets the lines of /proc/stat, in which the host has stolen that time. The
-//! program ends with its standard input. Unlike a host it is seen by the kernel, which brings other threads to another
-//! processor, and a processor that sleeps waits for nothing as it wakes.
+//! each time, at random times. Each 50 ms FILE gets the lines of /proc/stat, in which the host has stolen that time.
+//! The program ends with its standard input. Unlike a host it is seen by the kernel, which brings other threads to
+//! another processor, and a processor that sleeps waits for nothing as it wakes.
 use std::sync::atomic::{AtomicU64, Ordering::Relaxed};
 use std::time::{Duration, Instant};
 use std::{fs, thread};
