@@ -344,8 +344,10 @@ impl Arbiter {
         let rest: Vec<usize> = self.kept.iter().chain(free).copied().collect();
         if rest != self.rest {
             let all = self.clients.values().flat_map(|it| it.threads.values().map(move |thread| (it.process, thread)));
+            // A set is its thread's even after the thread has ended.
+            let by_set = matches!(self.means, Means::Cpusets(_));
             let others = all.filter(|(process, thread)| {
-                thread.core.map_or(true, |core| host.takes(core)) && thread.is_of(*process)
+                thread.core.map_or(true, |core| host.takes(core)) && (by_set || thread.is_of(*process))
             });
             self.means.set_rest(&rest, others.map(|(_, thread)| thread.id));
             self.rest = rest;
