@@ -194,7 +194,6 @@ impl Arbiter {
             }
             // This loop ends: a client that doesn't read or can't be moved is dropped, and a turn ends only once.
             if !self.end_turn() && all_moved && self.connections.values().all(|it| !it.gone) {
-                self.means.carry_out();
                 return self.update_rest();
             }
         }
@@ -224,7 +223,7 @@ impl Arbiter {
         let late = Instant::now() >= *client.until.get_or_insert_with(|| Instant::now() + PATIENCE);
         let mut left = share.held;
         while let Some(taken) = self.state.take_back(number, late) {
-            self.unplace(id, taken.place as u32, false);
+            self.unplace(id, taken.place as u32);
             self.forced += late as u64;
             self.clients.get_mut(&id).unwrap().forced += late as u64;
             left -= 1;
@@ -266,16 +265,14 @@ impl Arbiter {
     }
 
     fn drop_thread(&mut self, id: u32, place: u32) {
-        self.unplace(id, place, false);
+        self.unplace(id, place);
         if let Some(client) = self.clients.get(&id) {
             self.state.end(client.number, place as usize);
         }
         let client = self.clients.get_mut(&id);
         if let Some((process, thread)) = client.and_then(|it| Some((it.process, it.threads.remove(&place)?))) {
             self.connections.remove(&thread.connection);
-            if thread.is_of(process) {
-                self.means.release(thread.id, &self.all);
-            }
+            self.means.leave(thread.id, thread.is_of(process), &self.kept, &self.all);
         }
     }
 
@@ -307,9 +304,8 @@ impl Arbiter {
         true
     }
 
-    /// Moves a thread that has a core to `rest`, the processors on which threads without a core run. `sleeps` is true
-    /// if the thread waits.
-    fn unplace(&mut self, client: u32, place: u32, sleeps: bool) {
+    /// Moves a thread that has a core to `rest`, the processors on which threads without a core run.
+    fn unplace(&mut self, client: u32, place: u32) {
         let of = self.clients.get_mut(&client).and_then(|it| Some((it.process, it.threads.get_mut(&place)?)));
         let (process, thread) = match of {
             Some(of) => of,
@@ -318,7 +314,7 @@ impl Arbiter {
         if let Some(core) = thread.core.take() {
             (self.cores[core].owner, self.cores[core].since) = (None, Instant::now());
             if thread.is_of(process) {
-                let _ = self.means.unplace(thread.id, sleeps, &self.rest);
+                let _ = self.means.run_on(thread.id, &self.rest);
             }
             self.say(|| format!("core {} back from {client}.{place}", self.cores[core].cpus[0]));
         }
@@ -338,8 +334,8 @@ impl Arbiter {
         };
         let moved = match self.host.takes(core) {
             _ if !thread.is_of(process) => return false,
-            true => self.means.unplace(thread.id, false, &self.rest),
-            false => self.means.place(thread.id, self.cores[core].cpus[0], &mut self.rest),
+            true => self.means.run_on(thread.id, &self.rest),
+            false => self.means.run_on(thread.id, &self.cores[core].cpus[..1]),
         };
         moved.is_ok()
     }
@@ -351,8 +347,10 @@ impl Arbiter {
         let rest: Vec<usize> = self.kept.iter().chain(free).copied().collect();
         if rest != self.rest {
             let all = self.clients.values().flat_map(|it| it.threads.values().map(move |thread| (it.process, thread)));
+            // A set is its thread's even after the thread has ended.
+            let by_set = matches!(self.means, Means::Cpusets(_));
             let others = all.filter(|(process, thread)| {
-                thread.core.map_or(true, |core| host.takes(core)) && thread.is_of(*process)
+                thread.core.map_or(true, |core| host.takes(core)) && (by_set || thread.is_of(*process))
             });
             self.means.set_rest(&rest, others.map(|(_, thread)| thread.id));
             self.rest = rest;
@@ -380,7 +378,7 @@ impl Arbiter {
         for _ in 0..AT_ONCE {
             let (all, thread) = match self.look.as_mut().map(|look| (look.all, look.threads.next())) {
                 Some((all, Some(thread))) => (all, thread),
-                _ => return self.look = self.next_look(&cpus),
+                _ => return self.look = self.next_look(),
             };
             if known.contains(&thread) {
                 continue;
@@ -393,24 +391,27 @@ impl Arbiter {
         }
     }
 
-    /// Returns the threads to check next: those of a newly connected client, or once a second those that clients'
-    /// threads may have started. Once a second, also drops threads that have ended.
-    fn next_look(&mut self, cpus: &[usize]) -> Option<Look> {
+    /// Returns the next look: at the threads of a client that has connected, each second at threads that clients'
+    /// threads may have begun, or at what is in the cpuset of a thread that has left. Each second the daemon also drops
+    /// threads that have ended.
+    fn next_look(&mut self) -> Option<Look> {
         if let Some(client) = self.clients.values_mut().find(|client| client.arrives != 0) {
             client.arrives -= 1;
             return Some(Look { threads: self.means.arrivals(client.process), all: true });
         }
         if self.looked.elapsed() <= LOOKS {
-            return None;
+            return self.means.next_left().map(|threads| Look { threads, all: true });
         }
         self.looked = Instant::now();
+        self.means.try_again();
         let all =
             self.clients.iter().flat_map(|(&id, it)| it.threads.iter().map(move |(&place, t)| (id, it, place, t)));
         let ended = all.filter(|(_, client, _, thread)| !thread.is_of(client.process));
         let ended: Vec<_> = ended.map(|(id, _, place, _)| (id, place)).collect();
         ended.into_iter().for_each(|(id, place)| self.drop_thread(id, place));
         let processes = self.clients.values().map(|client| client.process).collect();
-        Some(Look { threads: self.means.strangers(cpus, processes), all: false })
+        let known = self.clients.values().flat_map(|it| it.threads.values().map(|thread| thread.id)).collect();
+        Some(Look { threads: self.means.strangers(known, processes), all: false })
     }
 
     /// Moves threads off a processor that the host of this virtual machine has taken, or back after the host has

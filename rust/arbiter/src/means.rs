@@ -6,55 +6,60 @@ use std::fs;
 use std::io;
 use std::path::{Path, PathBuf};
 
+/// The most sets that are removed before a decision.
+const REMOVED: usize = 8;
+
 pub enum Means {
-    /// By cpusets of version 1, in a folder of the arbiter's: the set `rest`, and a set `cpuN` for each processor.
+    /// Cpusets of version 1, in a folder of the arbiter's: `rest`, and a set for each client's thread.
     Cpusets(Sets),
     /// By the affinity of clients' threads; these control groups (version 2) restrict the processors of other
     /// processes. Without a group, other processes run on any processor.
     Affinity(Vec<PathBuf>),
 }
 
-/// The folder of an arbiter's cpusets, and the moves of threads that are still to be made there.
+/// The folder of an arbiter's cpusets, in which each client's thread has a set of its own.
 ///
-/// Linux may delay a move to another set for a grace period, some 10 ms. So a thread is first moved to its core by
-/// affinity, while the core's processor is still in `rest` (the processors of threads without a core). The thread is
-/// moved into the core's set only after the client was notified.
+/// Linux lets a move to another set wait for a grace period, some 10 ms, but changes a set's processors at once. So a
+/// thread is moved only as it joins and once it has left, and no decision waits for that.
 pub struct Sets {
     top: PathBuf,
-    /// All processors that an affinity can name. A thread whose affinity names fewer would stay on those even in
-    /// another set.
+    mems: String,
+    /// All processors that an affinity can name. A thread whose affinity names fewer would be kept on these even if its
+    /// set has others.
     all: Vec<usize>,
-    /// Threads, each with the name of the set that it is moved to.
-    later: Vec<(u32, String)>,
+    /// The threads that have left, whose sets are still to be removed.
+    left: Vec<u32>,
+    /// Those whose sets weren't empty: what a client's thread has begun begins in its set.
+    again: Vec<u32>,
 }
 
 impl Sets {
-    /// Moves a thread to the cpuset `set`, and lets it run on all processors of that set.
-    fn put(&mut self, thread: u32, set: &str) -> io::Result<()> {
-        self.later.retain(|(it, _)| *it != thread);
-        let moved = write(self.top.join(set).join("tasks"), thread);
+    fn set_of(&self, thread: u32) -> PathBuf {
+        self.top.join(format!("thread{thread}"))
+    }
+
+    fn run_on(&self, thread: u32, cpus: &[usize]) -> io::Result<()> {
+        write(self.set_of(thread).join("cpuset.cpus"), list(cpus))
+    }
+
+    fn make(&self, set: &Path, cpus: &[usize]) -> io::Result<()> {
+        fs::create_dir(set)?;
+        write(set.join("cpuset.cpus"), list(cpus))?;
+        write(set.join("cpuset.mems"), &self.mems)
+    }
+
+    /// Moves a thread to a set of its own, of these processors.
+    fn enter(&mut self, thread: u32, cpus: &[usize]) -> io::Result<()> {
+        for threads in [&mut self.left, &mut self.again] {
+            threads.retain(|it| *it != thread);
+        }
+        let set = self.set_of(thread);
+        match set.exists() {
+            true => self.run_on(thread, cpus)?,
+            false => self.make(&set, cpus)?,
+        }
+        write(set.join("tasks"), thread)?;
         let _ = sys::set_affinity(thread, &self.all);
-        moved
-    }
-
-    fn set_rest(&self, rest: &[usize]) {
-        let _ = write(self.top.join("rest/cpuset.cpus"), list(rest));
-    }
-
-    /// Moves a thread to the core `cpu`.
-    ///
-    /// First adds `cpu` to `rest`, if it isn't there: a thread's affinity can only name processors of its cpuset.
-    fn place(&mut self, thread: u32, cpu: usize, rest: &mut Vec<usize>) -> io::Result<()> {
-        if !rest.contains(&cpu) {
-            rest.push(cpu);
-            self.set_rest(rest);
-        }
-        let set = format!("cpu{cpu}");
-        // A thread that is still to be moved to the set `rest` can't go to another core by affinity.
-        if self.later.iter().any(|(it, _)| *it == thread) || sys::set_affinity(thread, &[cpu]).is_err() {
-            return self.put(thread, &set);
-        }
-        self.later.push((thread, set));
         Ok(())
     }
 }
@@ -76,8 +81,8 @@ fn numbers(file: PathBuf) -> Vec<u32> {
 }
 
 impl Means {
-    /// If `parent` is given, makes cpusets below it: one for each of `cpus`, and one (`rest`) for the other processors.
-    /// Otherwise restricts each control group in `groups` to `cpus`, by its `cpuset.cpus`.
+    /// If `parent` is given, makes cpusets of these processors below it. Otherwise restricts each control group in
+    /// `groups` to `cpus`, by its `cpuset.cpus`.
     ///
     /// If an arbiter was killed and has left cpusets below `parent`, first moves their threads back and removes them.
     pub fn new(parent: Option<&Path>, groups: &[PathBuf], cpus: &[usize]) -> io::Result<Means> {
@@ -95,17 +100,11 @@ impl Means {
         restore(parent);
         let top = parent.join("arbiter");
         let mems = fs::read_to_string(parent.join("cpuset.mems"))?;
-        let make = |folder: &Path, cpus: &[usize]| {
-            fs::create_dir(folder)?;
-            write(folder.join("cpuset.cpus"), list(cpus))?;
-            write(folder.join("cpuset.mems"), mems.trim())
-        };
-        make(&top, cpus)?;
-        make(&top.join("rest"), cpus)?;
-        for &cpu in cpus {
-            make(&top.join(format!("cpu{cpu}")), &[cpu])?;
-        }
-        Ok(Means::Cpusets(Sets { top, all: (0..sys::PROCESSORS).collect(), later: Vec::new() }))
+        let all = (0..sys::PROCESSORS).collect();
+        let sets = Sets { top, mems: mems.trim().into(), all, left: Vec::new(), again: Vec::new() };
+        sets.make(&sets.top, cpus)?;
+        sets.make(&sets.top.join("rest"), cpus)?;
+        Ok(Means::Cpusets(sets))
     }
 
     /// Moves each process in the parent's own cpuset to the set `rest`, and returns the number of these processes.
@@ -135,72 +134,98 @@ impl Means {
         }
     }
 
-    /// Lets a thread that no longer belongs to a client run on all processors.
-    pub fn release(&self, thread: u32, all: &[usize]) {
-        if let Means::Affinity(_) = self {
-            let _ = sys::set_affinity(thread, all);
-        }
-    }
-
-    /// Moves a thread to the core `cpu`. With cpusets, only `carry_out` moves the thread into the core's set; until
-    /// then, `rest` also has the core's processor.
-    pub fn place(&mut self, thread: u32, cpu: usize, rest: &mut Vec<usize>) -> io::Result<()> {
+    /// Takes in a thread that has joined, which runs on the processors `rest` until it is moved to a core.
+    pub fn enter(&mut self, thread: u32, rest: &[usize]) -> io::Result<()> {
         match self {
-            Means::Cpusets(sets) => sets.place(thread, cpu, rest),
-            Means::Affinity(_) => sys::set_affinity(thread, &[cpu]),
-        }
-    }
-
-    /// Moves a thread that has no core to the set `rest`. With cpusets, a thread that sleeps is moved only by
-    /// `carry_out`.
-    pub fn unplace(&mut self, thread: u32, sleeps: bool, rest: &[usize]) -> io::Result<()> {
-        match self {
-            Means::Cpusets(sets) if sleeps => sets.later.push((thread, "rest".into())),
-            Means::Cpusets(sets) => sets.put(thread, "rest")?,
-            Means::Affinity(_) => sys::set_affinity(thread, rest)?,
-        }
-        Ok(())
-    }
-
-    /// Moves the threads that are still in `Sets::later` to their sets.
-    pub fn carry_out(&mut self) {
-        if let Means::Cpusets(sets) = self {
-            for (thread, set) in std::mem::take(&mut sets.later) {
-                let _ = sets.put(thread, &set);
+            Means::Cpusets(sets) => sets.enter(thread, rest),
+            Means::Affinity(_) => {
+                // Its own cpuset may have none of these processors, and yet a core.
+                let _ = sys::set_affinity(thread, rest);
+                Ok(())
             }
+        }
+    }
+
+    /// Lets a client's thread run on these processors only.
+    pub fn run_on(&self, thread: u32, cpus: &[usize]) -> io::Result<()> {
+        match self {
+            Means::Cpusets(sets) => sets.run_on(thread, cpus),
+            Means::Affinity(_) => sys::set_affinity(thread, cpus),
+        }
+    }
+
+    /// Lets a thread that is no client's any more run on all processors: with cpusets, on the processors `kept` until
+    /// the next look moves it to the set `rest`. `lives` is false if the thread has ended.
+    pub fn leave(&mut self, thread: u32, lives: bool, kept: &[usize], all: &[usize]) {
+        match self {
+            Means::Cpusets(sets) => {
+                let _ = sets.run_on(thread, kept);
+                sets.left.push(thread);
+            }
+            Means::Affinity(_) if lives => drop(sys::set_affinity(thread, all)),
+            Means::Affinity(_) => {}
+        }
+    }
+
+    /// Removes some sets of threads that have left. Returns the threads in the first of these that isn't empty, which
+    /// must be moved to the set `rest`.
+    pub fn next_left(&mut self) -> Option<Threads> {
+        let sets = match self {
+            Means::Cpusets(sets) => sets,
+            Means::Affinity(_) => return None,
+        };
+        for _ in 0..REMOVED {
+            let thread = sets.left.pop()?;
+            let set = sets.set_of(thread);
+            if fs::remove_dir(&set).is_err() && set.exists() {
+                sets.again.push(thread);
+                return Some(Box::new(numbers(set.join("tasks")).into_iter()));
+            }
+        }
+        None
+    }
+
+    /// Lets `next_left` try those sets again that weren't empty. Linux frees a set some time after its last thread has
+    /// ended.
+    pub fn try_again(&mut self) {
+        if let Means::Cpusets(sets) = self {
+            sets.left.append(&mut sets.again);
         }
     }
 
     /// Sets the processors of threads without a core to `rest`. `others` are the clients' threads that have no core.
     pub fn set_rest(&self, rest: &[usize], others: impl Iterator<Item = u32>) {
         match self {
-            Means::Cpusets(sets) => sets.set_rest(rest),
+            Means::Cpusets(Sets { top, .. }) => drop(write(top.join("rest/cpuset.cpus"), list(rest))),
             Means::Affinity(groups) => {
-                groups.iter().for_each(|group| drop(write(group.join("cpuset.cpus"), list(rest))));
-                others.for_each(|thread| drop(sys::set_affinity(thread, rest)));
+                groups.iter().for_each(|group| drop(write(group.join("cpuset.cpus"), list(rest))))
             }
         }
+        others.for_each(|thread| drop(self.run_on(thread, rest)));
     }
 
-    /// Returns the threads that may run on clients' cores without being registered: a new thread has the cpuset and
-    /// affinity of the thread that started it.
-    pub fn strangers(&self, cpus: &[usize], processes: Vec<u32>) -> Threads {
+    /// Returns the threads that may run on clients' cores without being registered: a thread begins with the cpuset and
+    /// affinity of the one that began it. `known` are the clients' threads.
+    pub fn strangers(&self, known: Vec<u32>, processes: Vec<u32>) -> Threads {
         let begun = processes.into_iter().flat_map(family);
         match self {
-            Means::Cpusets(Sets { top, .. }) => {
-                let sets: Vec<_> = cpus.iter().map(|cpu| top.join(format!("cpu{cpu}/tasks"))).collect();
-                Box::new(sets.into_iter().flat_map(numbers).chain(begun))
+            Means::Cpusets(sets) => {
+                let files: Vec<_> = known.into_iter().map(|thread| sets.set_of(thread).join("tasks")).collect();
+                Box::new(files.into_iter().flat_map(numbers).chain(begun))
             }
             Means::Affinity(_) => Box::new(begun),
         }
     }
 
-    /// Moves a thread that belongs to no client off a client's core.
-    pub fn free(&mut self, thread: u32, all: &[usize]) {
-        let _ = match self {
-            Means::Cpusets(sets) => sets.put(thread, "rest"),
-            Means::Affinity(_) => sys::set_affinity(thread, all),
-        };
+    /// Moves a thread that is no client's off its core.
+    pub fn free(&self, thread: u32, all: &[usize]) {
+        match self {
+            Means::Cpusets(sets) => {
+                self.admit(thread);
+                let _ = sys::set_affinity(thread, &sets.all);
+            }
+            Means::Affinity(_) => drop(sys::set_affinity(thread, all)),
+        }
     }
 }
 

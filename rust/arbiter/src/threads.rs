@@ -9,6 +9,8 @@ const IN_A_NAMESPACE: usize = 128;
 const FAMILY: usize = 256;
 /// The most bytes to read from the kernel's list of the processes that a thread has started.
 const CHILDREN: usize = 4096;
+/// More bytes than a thread's `stat` has, so that one read takes all.
+const STAT: usize = 2048;
 
 /// An iterator over thread ids, which reads /proc step by step, so that a step takes no longer if there are more
 /// threads.
@@ -50,8 +52,10 @@ fn begun_by(process: u32, thread: u32) -> Vec<u32> {
 /// Returns the time at which a thread was started, in hundredths of a second since the machine started; None if the
 /// thread has ended.
 pub fn began(process: u32, thread: u32) -> Option<u64> {
-    let text = fs::read_to_string(format!("/proc/{process}/task/{thread}/stat")).ok()?;
-    // The thread's name is in brackets, and may contain any characters.
+    let mut text = [0; STAT];
+    let len = fs::File::open(format!("/proc/{process}/task/{thread}/stat")).ok()?.read(&mut text).ok()?;
+    // The thread's name is in brackets, and may have any letters.
+    let text = String::from_utf8_lossy(&text[..len]);
     text.rsplit_once(')')?.1.split_whitespace().nth(19)?.parse().ok()
 }
 

@@ -12,6 +12,7 @@ use std::os::unix::fs::{FileExt, MetadataExt};
 use std::os::unix::io::{AsRawFd, FromRawFd};
 use std::os::unix::net::UnixStream;
 use std::os::unix::process::CommandExt;
+use std::path::PathBuf;
 use std::process::{Child, Command, Stdio};
 use std::sync::mpsc;
 use std::thread;
@@ -497,6 +498,45 @@ fn all_threads_that_one_with_a_core_begins_leave_it() {
         let may = |thread: u32| processors_of(&thread.to_string());
         becomes("it may run on all processors that this thread may", || may(thread) == may(number()));
     }
+}
+
+/// What a thread begins stands in the thread's own cpuset.
+#[test]
+fn the_cpuset_of_a_thread_that_has_left_is_emptied_and_removed() {
+    let folder = match env::var_os("ARBITER_CPUSET") {
+        Some(folder) => PathBuf::from(folder),
+        None => return println!("skipped: there are no cpusets"),
+    };
+    let daemon = Daemon::new("left");
+    let (mut control, [_, client, ..]) = daemon.hello(5, 0);
+    let ((tells, told), (goes, waits)) = (mpsc::channel(), mpsc::channel());
+    thread::spawn(move || {
+        tells.send(number()).unwrap();
+        waits.recv().unwrap();
+        let sleeps = move || tells.send(number()).map(|()| thread::sleep(Duration::from_secs(100)));
+        thread::spawn(sleeps).join().unwrap().unwrap();
+    });
+    let id = told.recv().unwrap();
+    let set = folder.join(format!("arbiter/thread{id}"));
+    send(&mut control, [ASK, 1, 0, 0]);
+    // The second time the set may be there still.
+    for _ in 0..2 {
+        let mut thread = daemon.join(client, id, 0, false);
+        send(&mut thread, [WAIT, 0, 0, 0]);
+        assert!(is_granted(&mut thread));
+        assert!(set.exists());
+        drop(thread);
+        becomes("it has left", || status(&daemon).contains(", has 0;"));
+    }
+    let mut thread = daemon.join(client, id, 0, false);
+    send(&mut thread, [WAIT, 0, 0, 0]);
+    assert!(is_granted(&mut thread));
+    goes.send(()).unwrap();
+    let begun = told.recv().unwrap();
+    drop(thread);
+    becomes("the set is removed", || !set.exists());
+    let may = |thread: u32| processors_of(&thread.to_string());
+    assert_eq!([may(id), may(begun)], [may(number()), may(number())]);
 }
 
 #[test]

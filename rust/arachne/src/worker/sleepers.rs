@@ -13,11 +13,11 @@
 //! poll begins within about 4 ms plus the delays of the machine. If all workers sleep, nobody checks. The first worker
 //! that runs a job after a sleep wakes another worker, which checks again (`goes_on`).
 //!
-//! **Without a core.** While only the first worker has a core, the second one stands in for it (`cover`): each
-//! millisecond, the second worker checks whether the first makes progress. If it doesn't, because it is in a long poll
-//! or has lost its processor, the second worker runs the waiting jobs, on any processor that it may use. If nothing has
-//! run for a while, the second worker checks less and less often, until `goes_on` makes it check each millisecond
-//! again.
+//! **Without a core.** While only the first worker has a core, the second one covers for it (`cover`): each millisecond
+//! the second worker looks if the first makes progress, under an arbiter each fifth of a millisecond, since the first
+//! can't go to another processor. If there is no progress, as the first is in a long poll or has lost its processor,
+//! the second runs the waiting jobs, on any processor that it may use. Once nothing has run for a while the second
+//! worker looks less and less often, and `goes_on` makes it look as often as before.
 //!
 //! With the watcher, ready jobs also run if all workers are in long polls.
 
@@ -36,9 +36,9 @@ const SPINS: usize = 4;
 const LONG_REST: i32 = 2;
 /// The milliseconds between two checks of the other workers while all workers sleep: some 17 minutes, as good as never.
 const FOR_EVER: i32 = 1 << 20;
-/// Nanoseconds between two checks of the first worker by the second while only the first has a core and tasks run.
+/// Nanoseconds between two looks of the worker that covers for the first, while tasks run without an arbiter.
 const COVER: u64 = 1_000_000;
-/// Nanoseconds until the next of these checks after one that found a task to run.
+/// Nanoseconds between these looks under an arbiter, or once the last one found a task to run.
 const COVER_SOON: u64 = 200_000;
 /// The most nanoseconds between these checks while the first worker is awake.
 const COVER_LONG: u64 = 2_000_000;
@@ -278,7 +278,7 @@ impl Shared {
     /// Waits for a core by calls of `waits`, whose argument is the most nanoseconds to wait. Between these calls, runs
     /// the jobs that the first worker, the only one with a core, doesn't get to.
     pub(crate) fn cover(&self, context: &Context, turn: &mut Turn, mut waits: impl FnMut(u64) -> Ends) {
-        let mut rests = COVER;
+        let mut rests = self.cover_often();
         loop {
             self.covers.0.store(rests, SeqCst);
             // Written before the check: when the first worker wakes, it first clears its sleeper bit and then reads
@@ -289,7 +289,7 @@ impl Shared {
             }
             rests = match waits(rests) {
                 Ends::Core => break,
-                Ends::Call => COVER,
+                Ends::Call => self.cover_often(),
                 Ends::Time => self.look_at_first(context, turn, rests),
             };
         }
@@ -300,7 +300,7 @@ impl Shared {
     fn look_at_first(&self, context: &Context, turn: &mut Turn, rested: u64) -> u64 {
         let polls = self.workers[0].0.polls.load(Relaxed);
         if std::mem::replace(&mut turn.seen[0], polls) != polls {
-            return COVER;
+            return self.cover_often();
         }
         // Without a core of its own the first worker runs on the processor that this worker would use.
         if self.arbiter.limit() != 0 && self.runs_what_waits(context, turn) {
@@ -309,7 +309,15 @@ impl Shared {
         (2 * rested).clamp(COVER, COVER_MOST)
     }
 
-    /// Makes the second worker check the first each millisecond again, while only the first has a core.
+    /// Returns the nanoseconds between two looks of the worker that covers for the first, while tasks run.
+    fn cover_often(&self) -> u64 {
+        match self.arbiter.is_up() {
+            true => COVER_SOON,
+            false => COVER,
+        }
+    }
+
+    /// Makes the worker that covers for the first look often again.
     fn call_cover(&self) {
         let gate = self.workers[1].0.given_back.0.lock().unwrap();
         self.covers.0.store(COVER, SeqCst);

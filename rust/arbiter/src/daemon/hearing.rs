@@ -222,10 +222,13 @@ impl Arbiter {
         if !self.state.join(number, place as usize, floats) {
             return Err("two threads of one place");
         }
+        if self.means.enter(thread, &self.rest).is_err() {
+            self.state.end(number, place as usize);
+            return Err("a thread that can't be moved");
+        }
         let client = self.clients.get_mut(&id).unwrap();
         client.threads.insert(place, Thread { id: thread, began, connection: name, core: None });
         self.connections.get_mut(&name).unwrap().role = Role::Thread(id, place);
-        let _ = self.means.unplace(thread, false, &self.rest);
         Ok(())
     }
 
@@ -235,7 +238,7 @@ impl Arbiter {
         if !self.state.wait(number, place as usize) {
             return Err("one that floats, or waits, waits");
         }
-        self.unplace(client, place, true);
+        self.unplace(client, place);
         Ok(())
     }
 }
