@@ -1,2 +1,92 @@
 //! A timer that wakes the jobs of slow requests after two milliseconds.
 ghost use Rattle.arachne_pool.specs.Workers.{IsWorkerOf};
+
+use crate::job::Job;
+use crate::server::Server;
+use arachne_core::ThreadId;
+use arachne_pool::{Spawned, Worker};
+use arachne_table::Contexts;
+use std::alloc::{AllocError, Global};
+use std::sync::Wait;
+use std::sync::atomic::AtomicU64;
+use std::sync::atomic::Ordering::SeqCst;
+
+/// The nanoseconds that the slow part of a request takes.
+pub const SLOW: u64 = 2_000_000;
+
+/// When the timer must wake the job in a context, and which job that is.
+#[derive(Drop)]
+struct Alarm {
+    /// The time at which the job must be woken, or 0 if no alarm is set.
+    at: AtomicU64,
+    /// The generation of the job's id.
+    generation: AtomicU64,
+}
+
+/// For each context of the pool's table, the time at which the timer must wake its job.
+#[derive(Drop)]
+pub struct Timer {
+    alarms: Vec<Alarm>,
+}
+
+impl Timer {
+    /// Returns a timer for the jobs in this many contexts.
+    pub fn new(alloc: Global, contexts: u32) -> Result<Timer, AllocError> {
+        let mut alarms = Vec::new(alloc);
+        for _ in 0..contexts {
+            alarms.push(Alarm {
+                at: AtomicU64::new(0),
+                generation: AtomicU64::new(0),
+            })?;
+        }
+        Ok(Timer { alarms })
+    }
+
+    /// Sets the alarm of the job of this id, which is about to sleep.
+    pub fn wake_at(&self, at: u64, id: ThreadId) {
+        if let Some(alarm) = self.alarms.get(id.context as usize) {
+            // The time is stored last: whoever sees it finds the generation for which it is set.
+            alarm.generation.store(id.generation, SeqCst);
+            alarm.at.store(at, SeqCst);
+        }
+    }
+
+    /// Returns the number of jobs whose alarm is set.
+    pub fn sleepers(&self) -> u64 {
+        let is_set = |alarm: &&Alarm| alarm.at.load(SeqCst) != 0;
+        self.alarms.iter().filter(is_set).count() as u64
+    }
+
+    /// Returns the id of the job in this context and takes its alarm back, if the alarm's time has come.
+    fn take_due(&self, context: u32, now: u64) -> Option<ThreadId> {
+        let alarm = self.alarms.get(context as usize)?;
+        let at = alarm.at.load(SeqCst);
+        if at == 0 || now < at {
+            return None;
+        }
+        // The next job of the context may have set its own alarm meanwhile, which stays.
+        alarm.at.compare_exchange(at, 0, SeqCst, SeqCst).ok()?;
+        Some(ThreadId {
+            context,
+            generation: alarm.generation.load(SeqCst),
+        })
+    }
+}
+
+/// Wakes each job whose time has come.
+pub fn wake_due<R: Wait, C: Contexts<Spawned<Job>>>(
+    rt: &R,
+    server: &Server<'_, C>,
+    worker: &mut Worker<C::Seat, Job>,
+    now: u64,
+)
+    requires { IsWorkerOf C.sits C.idle server.now.pool.table server.now.pool.cores worker.old }
+    ensures { IsWorkerOf C.sits C.idle server.now.pool.table server.now.pool.cores worker.new }
+{
+    let contexts = u32::from(server.pool.cores) * u32::from(server.pool.slots);
+    for context in 0..contexts {
+        if let Some(id) = server.timer.take_due(context, now) {
+            let _ = server.pool.wake(rt, worker, id);
+        }
+    }
+}
