@@ -28,48 +28,71 @@ run_on_words_spec = tie.close (λ T1 T2 T3 T4 T5 T6 T7 L1 L2 L3 L4 L5 L6 L7 P H-
     (λ c κs within. (
       (within.0, tt),
       (
-      within.1.0,
-      (
-      within.1.1.0,
-      (
-      words_laws.the_within T2 T-Tagged _ within.1.1.1.0,
-      (
-      within.1.1.1.1.0,
-      (
-      within.1.1.1.1.1.0,
-      (
-      within.1.1.1.1.1.1.0,
-      (
-      within.1.1.1.1.1.1.1.0,
-      (
-      within.1.1.1.1.1.1.1.1.0,
-      (
-      ⊑_static _,
-      (
-      ⊑_static _,
-      (
-      seat_laws.the_within T2 _ within.1.1.1.1.1.1.1.1.1,
-      (
-      search (sendable, c.requires.1.1.1.1.1.1.1.0) depth 20,
-      (
-      search (sendable, c.requires.1.1.1.1.1.1.1.1.0) depth 20,
-      (
-      search (sendable, c.requires.1.1.1.1.1.1.1.1.1.0) depth 20,
-      (
-      search (sendable, c.requires.1.1.1.1.1.1.1.1.1.1.0) depth 20,
-      (
-      search (sendable, c.requires.1.1.1.1.1.1.1.1.1.1.1.0) depth 20,
-      (
-      search (sendable, claim.the_send) depth 20,
-      (
-      search (sendable, hold.the_send) depth 20,
-      (
-      param_send _ _ (arg_send _ no _ (seat_send (param 1 T2) c.requires.1.1.1.1.1.1.1.0)),
-      (
-      search (sendable, c.requires.1.1.1.1.1.1.1.1.1.1.1.1.0) depth 20,
-      (
-      search (sendable, std.crosses, words.the_sync, c.requires.1.1.1.1.1.1.1.0) depth 20,
-      (
-      search (sendable, c.requires.1.1.1.1.1.1.1.1.1.1.1.1.1.0) depth 20,
-      ((refl, tt), c.requires.1.1.1.1.1.1.1.1.1.1.1.1.1.1.1)))))))))))))))))))))))))
+        within.1.0,
+        (
+          within.1.1.0,
+          (
+            words_laws.the_within T2 T-Tagged _ within.1.1.1.0,
+            (
+              within.1.1.1.1.0,
+              (
+                within.1.1.1.1.1.0,
+                (
+                  within.1.1.1.1.1.1.0,
+                  (
+                    within.1.1.1.1.1.1.1.0,
+                    (
+                      within.1.1.1.1.1.1.1.1.0,
+                      (
+                        ⊑_static _,
+                        (
+                          ⊑_static _,
+                          (
+                            seat_laws.the_within T2 _ within.1.1.1.1.1.1.1.1.1,
+                            (
+                              search (sendable, c.requires.1.1.1.1.1.1.1.0) depth 20,
+                              (
+                                search (sendable, c.requires.1.1.1.1.1.1.1.1.0) depth 20,
+                                (
+                                  search (sendable, c.requires.1.1.1.1.1.1.1.1.1.0) depth 20,
+                                  (
+                                    search (sendable, c.requires.1.1.1.1.1.1.1.1.1.1.0) depth 20,
+                                    (
+                                      search (sendable, c.requires.1.1.1.1.1.1.1.1.1.1.1.0) depth 20,
+                                      (
+                                        search (sendable, claim.the_send) depth 20,
+                                        (
+                                          search (sendable, hold.the_send) depth 20,
+                                          (
+                                            param_send _ _ (arg_send _ no _ (seat_send (param 1 T2) c.requires.1.1.1.1.1.1.1.0)),
+                                            (
+                                              search (sendable, c.requires.1.1.1.1.1.1.1.1.1.1.1.1.0) depth 20,
+                                              (
+                                                search (sendable, std.crosses, words.the_sync, c.requires.1.1.1.1.1.1.1.0) depth 20,
+                                                (
+                                                  search (sendable, c.requires.1.1.1.1.1.1.1.1.1.1.1.1.1.0) depth 20,
+                                                  ((refl, tt), c.requires.1.1.1.1.1.1.1.1.1.1.1.1.1.1.1),
+                                                ),
+                                              ),
+                                            ),
+                                          ),
+                                        ),
+                                      ),
+                                    ),
+                                  ),
+                                ),
+                              ),
+                            ),
+                          ),
+                        ),
+                      ),
+                    ),
+                  ),
+                ),
+              ),
+            ),
+          ),
+        ),
+      ),
+    ))
     (λ c. c.run.ensures))
