@@ -66,7 +66,20 @@ impl Lag {
         false
     }
 
-    /// Carries out the orders that are due, if there are orders. Returns what `Desk::tend` returns.
+    /// Returns whether the run has orders, which the worker must then look at.
+    #[inline(always)]
+    pub(crate) fn has_orders<D: Desk>(&mut self, desk: &D) -> bool
+        ensures none { result ≡ false → self.new.untended ≡ 0 }
+        ensures same { (self.new.unread ≡ self.old.unread) × (self.new.most ≡ self.old.most) }
+    {
+        if desk.has_orders() {
+            return true;
+        }
+        self.untended = 0;
+        false
+    }
+
+    /// Carries out the orders that are due. Returns what `Desk::tend` returns.
     #[inline(always)]
     pub(crate) fn tend<D: Desk>(&mut self, desk: &mut D) -> (Option<usize>, u64)
         ensures desk { desk.new ≡ desk.old }
@@ -74,10 +87,6 @@ impl Lag {
         ensures same { (self.new.unread ≡ self.old.unread) × (self.new.most ≡ self.old.most) }
     {
         self.untended = 0;
-        if desk.has_orders() {
-            desk.tend()
-        } else {
-            (None, 0)
-        }
+        desk.tend()
     }
 }

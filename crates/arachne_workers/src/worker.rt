@@ -219,14 +219,19 @@ impl<'a, H: Wait + Clock, D: Desk> CoreWorker<'a, H, D> {
         ensures tended { self.new.agenda.lag.untended ≡ 0 }
         ensures lag { (self.new.agenda.lag.unread ≡ self.old.agenda.lag.unread) × (self.new.agenda.lag.most ≡ self.old.agenda.lag.most) }
     {
-        let (applied, receivers) = self.agenda.lag.tend(&mut self.desk);
-        if applied.is_some() || receivers != 0 {
-            self.signal_orders(applied, receivers);
+        if self.agenda.lag.has_orders(&self.desk) {
+            self.apply_orders();
         }
     }
 
-    /// Reports the orders that were carried out, and wakes the workers that they concern.
-    fn signal_orders(&self, applied: Option<usize>, receivers: u64) {
+    /// Carries out the orders to open or close cores that are due, and wakes the workers that they concern.
+    fn apply_orders(&mut self)
+        ensures desk { self.new.desk ≡ self.old.desk }
+        ensures same { (self.new.agenda ≡ record self.old.agenda { lag = self.new.agenda.lag }) × (self.new.slices ≡ self.old.slices) }
+        ensures tended { self.new.agenda.lag.untended ≡ 0 }
+        ensures lag { (self.new.agenda.lag.unread ≡ self.old.agenda.lag.unread) × (self.new.agenda.lag.most ≡ self.old.agenda.lag.most) }
+    {
+        let (applied, receivers) = self.agenda.lag.tend(&mut self.desk);
         if let Some(count) = applied {
             self.desk.told(WorkerEvent::Applied(count));
             // The worker of a core that was closed may sleep, and must look at its core.
