@@ -25,7 +25,8 @@ struct Row {
     shards: usize,
 }
 
-/// A thread's handles: one to work with, one to wake others, and which worker it is. A handle is written by each call, so
+/// A thread's handles: one to work with, one to wake others, and which worker it is. A handle is written by each call,
+/// so
 /// those of two threads stand on cache lines of their own.
 #[repr(align(128))]
 struct Library {

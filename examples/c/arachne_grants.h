@@ -27,7 +27,7 @@ enum {
     /* The call succeeded. */
     ARACHNE_GRANTS_DONE = 0,
     /* The call was refused, and has changed nothing: the handle is empty, or is in use although it must be
-     * empty, or this event is not allowed now. */
+     * empty, or this call is not allowed now. */
     ARACHNE_GRANTS_REFUSED = 1,
     /* The allocator refused memory. Nothing has changed. */
     ARACHNE_GRANTS_NO_MEMORY = 2,
@@ -55,7 +55,7 @@ enum {
     ARACHNE_GRANTS_NOTHING = 13,
     /* The core was taken from the thread: move the thread away from the core. */
     ARACHNE_GRANTS_TAKEN = 14,
-    /* The core was given to the thread, which floats (it doesn't wait for cores): move the thread to the core. */
+    /* The core was given to the thread, which floats (never waits for a core): move the thread to the core. */
     ARACHNE_GRANTS_PLACED = 15,
     /* The core was given to the thread, which waited for one: move the thread to the core, and notify the
      * thread. */
@@ -66,8 +66,7 @@ enum {
 
 /* A message from a client. Fields that this kind of message does not use are 0. */
 typedef struct {
-    /* HELLO, JOIN, WAIT or ASK if the bytes begin with such a message; otherwise the code that says why they
-     * don't. */
+    /* HELLO, JOIN, WAIT or ASK if the bytes begin with such a message; otherwise the code of the fault. */
     uint32_t code;
     uint32_t priority;
     uint32_t reserved;
@@ -95,7 +94,7 @@ typedef struct {
 } arachne_arbiter;
 #define ARACHNE_ARBITER_NULL {0}
 
-/* The action that the caller must take on a thread. Fields that this action does not use are 0. */
+/* The action that the caller must take on a thread of a client. Fields that this action does not use are 0. */
 typedef struct {
     /* TAKEN, PLACED, GRANTED or NOTHING, or REFUSED if the handle is empty. */
     uint32_t code;
@@ -112,9 +111,11 @@ typedef struct {
     uint32_t held;
 } arachne_share;
 
-/* Creates an arbiter of the cores 0 to `cores` - 1, without clients, in `arbiter`, which must be empty.
+/* Creates an arbiter (a daemon's state) of the cores 0 to `cores` - 1, without clients, in `arbiter`, which must
+ * be empty.
  *
- * Returns DONE; REFUSED if the handle is in use, or if `cores` is greater than 1,024; NO_MEMORY.
+ * Returns DONE; REFUSED if the handle is in use, or if `cores` is greater than 1,024; NO_MEMORY if memory is
+ * refused.
  *
  * Threads: safe beside calls with other handles; two at once with `arbiter` are undefined behaviour. */
 uint32_t arachne_arbiter_new(arachne_arbiter *arbiter, uint32_t cores);
@@ -124,65 +125,77 @@ uint32_t arachne_arbiter_new(arachne_arbiter *arbiter, uint32_t cores);
  * Threads: safe beside calls with other handles; two at once with `arbiter` are undefined behaviour. */
 void arachne_arbiter_close(arachne_arbiter *arbiter);
 
-/* Adds a client with its priority (0 is the highest), the cores that it reserves, and the most cores that it may
- * ask for.
+/* Adds a client (a program) with its priority (0 is the highest), the number of cores that it reserves, and the
+ * greatest number of cores that it may ask for.
  *
- * `client`, the client's number, must be from 0 to 63 and not in use. Returns DONE or REFUSED. The caller must
- * check that the client is entitled to this priority and these cores.
+ * Returns DONE, or REFUSED if the handle is empty, or if the client's number `client` is greater than 63 or in
+ * use. The caller must check that the client is entitled to this priority and these cores.
  *
  * Threads: safe beside calls with other handles; two at once with `arbiter` are undefined behaviour. */
 uint32_t arachne_arbiter_hello(arachne_arbiter *arbiter, size_t client, uint8_t priority, uint32_t reserved, uint32_t most);
 
-/* Sets the number of cores that a client asks for. Returns DONE, or REFUSED if there is no such client.
+/* Sets the number of cores for which a client asks.
+ *
+ * Returns DONE, or REFUSED if the handle is empty or there is no such client.
  *
  * Threads: safe beside calls with other handles; two at once with `arbiter` are undefined behaviour. */
 uint32_t arachne_arbiter_ask(arachne_arbiter *arbiter, size_t client, uint32_t cores);
 
-/* Removes a client, with all of its threads. Returns DONE, or REFUSED if the client's number is greater than 63.
+/* Removes a client, with all of its threads.
+ *
+ * Returns DONE, or REFUSED if the handle is empty or the client's number is greater than 63.
  *
  * Threads: safe beside calls with other handles; two at once with `arbiter` are undefined behaviour. */
 uint32_t arachne_arbiter_leave(arachne_arbiter *arbiter, size_t client);
 
-/* Adds a thread to a client, with a number `place` from 0 to 63 that is free. A thread that floats never waits
- * for a core. Returns DONE or REFUSED.
+/* Adds a thread to a client. `place`, the thread's number, must be from 0 to 63 and not in use. If `floats` is
+ * true, the thread never waits for a core.
+ *
+ * Returns DONE or REFUSED.
  *
  * Threads: safe beside calls with other handles; two at once with `arbiter` are undefined behaviour. */
 uint32_t arachne_arbiter_join(arachne_arbiter *arbiter, size_t client, size_t place, bool floats);
 
 /* Takes the core from a thread, if it has one, and makes the thread wait until a core is granted to it.
  *
- * Returns DONE, or REFUSED if the thread floats, already waits, or does not exist.
+ * Returns DONE, or REFUSED if the thread floats (never waits for a core), already waits, or does not exist.
  *
  * Threads: safe beside calls with other handles; two at once with `arbiter` are undefined behaviour. */
 uint32_t arachne_arbiter_wait(arachne_arbiter *arbiter, size_t client, size_t place);
 
-/* Removes a thread. Returns DONE, or REFUSED if the number of the client or of the thread is greater than 63.
+/* Removes a thread of a client, because the thread has ended.
+ *
+ * Returns DONE, or REFUSED if the handle is empty or the number of the client or of the thread is greater than
+ * 63.
  *
  * Threads: safe beside calls with other handles; two at once with `arbiter` are undefined behaviour. */
 uint32_t arachne_arbiter_end(arachne_arbiter *arbiter, size_t client, size_t place);
 
-/* Computes anew how many cores each client may have, from the numbers that all clients ask for now. Returns DONE
- * or REFUSED.
+/* Computes anew how many cores each client may have, from the numbers of cores for which all clients ask now.
+ *
+ * Returns DONE, or REFUSED if the handle is empty.
  *
  * Threads: safe beside calls with other handles; two at once with `arbiter` are undefined behaviour. */
 uint32_t arachne_arbiter_decide(arachne_arbiter *arbiter);
 
-/* Takes a core from a client that has more cores than it may have, namely from its last thread that has a core.
+/* Takes a core from the client `client`, if it has more cores than it may have: that of its last thread that has
+ * a core.
  *
- * If that thread floats, its core is taken at once; otherwise only if `late` is true, which means that the
- * client hasn't given a core back in time. Returns TAKEN or NOTHING.
+ * If that thread floats (never waits for a core), takes its core at once; otherwise only if `late` is true,
+ * which means that the client hasn't given a core back in time. Returns TAKEN or NOTHING.
  *
  * Threads: safe beside calls with other handles; two at once with `arbiter` are undefined behaviour. */
 arachne_action arachne_arbiter_take_back(arachne_arbiter *arbiter, size_t client, bool late);
 
 /* Gives a free core to a thread that can take one, of a client that has fewer cores than it may have.
  *
- * A client of higher priority goes first. Returns GRANTED if the thread waited, PLACED if it floats, or NOTHING.
+ * A client of higher priority goes first. Returns GRANTED if the thread waited for a core; PLACED if it floats,
+ * which means that it never waits for one; NOTHING if no core was given.
  *
  * Threads: safe beside calls with other handles; two at once with `arbiter` are undefined behaviour. */
 arachne_action arachne_arbiter_give(arachne_arbiter *arbiter);
 
-/* Returns how many cores a client may have, and how many it has. Both are 0 if the handle is empty.
+/* Returns how many cores a client may have, and how many its threads have. Both are 0 if the handle is empty.
  *
  * Threads: safe beside calls with other handles; two at once with `arbiter` are undefined behaviour. */
 arachne_share arachne_arbiter_share(arachne_arbiter *arbiter, size_t client);

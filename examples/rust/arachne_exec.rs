@@ -109,7 +109,8 @@ impl Exec {
         }
     }
 
-    /// Puts a job at a place of a block and into the hand. None where a place has to be tried again, none is free, there
+    /// Puts a job at a place of a block and into the hand. None where a place has to be tried again, none is free,
+    /// there
     /// is no such block, or a job is in hand.
     pub fn spawn_here(&mut self, block: usize, number: u64) -> Option<Job> {
         let told = unsafe { c::arachne_exec_spawn_here(&mut self.handle, block, number) };
@@ -126,7 +127,8 @@ impl Exec {
         unsafe { c::arachne_exec_ready(&mut self.handle, block) }
     }
 
-    /// Takes up to so many of a block's ready jobs at once: their places, a bit for each. The lowest is the newest in hand.
+    /// Takes up to so many of a block's ready jobs at once: their places, a bit for each. The lowest is the newest in
+    /// hand.
     pub fn take_many(&mut self, block: usize, most: u32) -> u64 {
         unsafe { c::arachne_exec_take_many(&mut self.handle, block, most) }
     }
@@ -143,7 +145,8 @@ impl Exec {
         (told.code == c::READY).then(|| whom(&told))
     }
 
-    /// Ends the executor: the jobs that were spawned and haven't ended. The seat comes back where another wasn't joined, a
+    /// Ends the executor: the jobs that were spawned and haven't ended. The seat comes back where another wasn't
+    /// joined, a
     /// job is in hand, or there is no memory.
     pub fn end(mut self) -> Result<Vec<u64>, Exec> {
         let mut left = vec![0; 4096 * self.shards];

@@ -1,20 +1,20 @@
-//! An explorer of interleavings: it runs real threads one at a time, in an order that a seed determines.
+//! Explores interleavings of threads: runs real threads, but only one at a time, in an order that a seed determines.
 //!
-//! Each step of an atomic, a lock, a condition variable, an epoll, a clock or a thread is a *point*, at which another
-//! thread may take over. Each thread has a random priority, and the runnable thread of the highest priority runs; at a
-//! few random points of a run, the running thread's priority becomes the lowest. Unless the load's time is *exact*, the
-//! running thread may also lose its processor for up to 16 ms. Locks and condition variables are the scheduler's own,
-//! so it knows which threads wait.
+//! Each step of an atomic, a lock, a condition variable, an epoll, a clock or a thread is a *point*, at which the
+//! explorer may switch to another thread. Each thread has a random priority, and of the threads that can run, the one
+//! with the highest priority runs. At a few random points of a run, the running thread gets the lowest priority. The
+//! running thread may also lose its processor for up to 16 ms, unless the load is marked as *exact*. Locks and
+//! condition variables are implemented by the explorer, so it knows which threads wait.
 //!
-//! Time is virtual. A point takes some nanoseconds; if no thread can run, time jumps to the wake of the next thread
-//! that sleeps. If no thread sleeps until a time either, that is a *hang*, and so is a run of more than `LONGEST`. More
-//! than `STEPS` points are a *livelock*. Freed memory keeps a pattern until the end of the run: an atomic or a lock
-//! that has the pattern, or a block whose pattern has changed, was used after it was freed. A run must free all that it
-//! has allocated.
+//! Time is virtual. A point takes some nanoseconds. If no thread can run, time jumps to the moment at which the first
+//! sleeping thread wakes. If no thread sleeps with a time limit either, the run is a *hang*; so is a run that takes
+//! more than `LONGEST`. A run of more than `STEPS` points is a *livelock*. Freed memory is filled with a pattern until
+//! the end of the run. If an atomic or a lock has the pattern, or the pattern of a block has changed, memory was used
+//! after it was freed. A run must free all memory that it has allocated.
 //!
 //! At a hang, a livelock, a use of freed memory, a failed assertion or a fault, the explorer prints the last points
-//! (`TRACE=1000` for more), the point at which each thread waits, and the load's name with the seed, which repeats the
-//! run. The script `explore/run` builds and runs the explorer.
+//! (more of them with `TRACE=1000`), and the point at which each thread waits. It also prints the name of the load and
+//! the seed, by which the run can be repeated. The script `explore/run` builds and runs the explorer.
 //!
 //! The crate, and the model of its core, use atomics, locks and threads only through `sync.rs`. So the model's steps
 //! are points too, and nothing is assumed about the model; the proved library is not tested here. Each point is
@@ -32,13 +32,14 @@ use std::sync::atomic::{AtomicBool, AtomicPtr, Ordering::*};
 mod types;
 pub use types::*;
 
-/// The most threads, the most points of a run, the points kept for the trace, and the longest run in nanoseconds.
+/// The four limits of a run: its threads, its points, the points that are kept for the trace, and its length in
+/// nanoseconds.
 const MOST: usize = 16;
 const STEPS: u64 = 300_000;
 const KEPT: usize = 1 << 12;
 const LONGEST: u64 = 10_000_000_000;
-/// After this many points (steps at which threads may switch), a thread always gets the lowest priority. It may be
-/// waiting in a loop for another thread.
+/// After this many points (steps at which threads may switch) a thread always gets the lowest priority, because it may
+/// be waiting in a loop for another thread.
 const PATIENCE: u64 = 3000;
 const START: u64 = 1_000_000_000;
 const NEVER: u64 = u64::MAX;
@@ -56,8 +57,8 @@ type Job = Box<dyn FnOnce() + Send>;
 
 struct Thread {
     state: Cell<State>,
-    /// How this thread waits, in four fields: for which object, until which time, in which epoll, and whether it was
-    /// woken.
+    /// This and the next three fields say how the thread waits: for which object, until which time, in which epoll, and
+    /// if it was woken.
     on: Cell<usize>,
     until: Cell<u64>,
     epoll: Cell<i32>,
@@ -95,17 +96,16 @@ struct World {
     switches: Cell<u64>,
     now: Cell<u64>,
     tick: Cell<u64>,
-    /// Here and in the next two fields: the point (the number of a step) of the next change of priority, the mean
-    /// number of points between two changes, and the last point at which another thread took over.
+    /// This and the next two fields are about changes of priority, in numbers of points (steps): the point of the next
+    /// change, the mean number of points between two changes, and the point at which another thread last took over.
     change: Cell<u64>,
     gap: Cell<u64>,
     began: Cell<u64>,
     lowest: Cell<u64>,
-    /// The thread that will lose its processor, the point (the number of a step) at which it does, and for how many
-    /// nanoseconds.
+    /// Which thread will lose its processor, at which point (the number of a step), and for how many nanoseconds.
     loss: Cell<(usize, u64, u64)>,
-    /// The point (the number of a step) and, in the next field, the time at which the scheduler next chooses which
-    /// thread runs. The scheduler also chooses again when a thread was woken.
+    /// The point (the number of a step) at which the scheduler next chooses which thread runs; the next field is the
+    /// time for this. The scheduler also chooses when a thread is woken.
     alarm: Cell<u64>,
     timer: Cell<u64>,
     stirred: Cell<bool>,
@@ -206,7 +206,7 @@ impl World {
         self.began.set(self.steps.get());
     }
 
-    /// Lets the runnable thread with the highest priority run. Returns when the calling thread may run again.
+    /// Lets the thread with the highest priority run, of those that can. Returns when the calling thread may run again.
     fn go_on(&self, me: usize) {
         let next = loop {
             self.stirred.set(false);
@@ -247,8 +247,8 @@ impl World {
         }
     }
 
-    /// Advances the virtual time, because no thread can run. Wakes the thread that sleeps for the shortest time, unless
-    /// an epoll has an event that no thread was notified of.
+    /// Advances the virtual time, because no thread can run. Wakes the thread whose sleep ends first, unless an epoll
+    /// has an event of which no thread was notified.
     fn pass_time(&self, timer: u64) {
         for thread in self.all().filter(|thread| thread.state.get() == State::Waits && thread.epoll.get() >= 0) {
             let mut what = [thread.epoll.get(), 1];
@@ -265,8 +265,8 @@ impl World {
         self.now.set(timer);
     }
 
-    /// Blocks this thread until another thread wakes it, or until the time `until`. Returns true if the thread was
-    /// woken before its time.
+    /// Blocks the calling thread until another thread wakes it, or until the virtual time `until`. Returns true if it
+    /// was woken before that time.
     fn wait(&self, me: usize, on: usize, until: u64, epoll: i32) -> bool {
         let thread = &self.threads[me];
         (thread.on.set(on), thread.until.set(until), thread.epoll.set(epoll), thread.told.set(false));
@@ -275,7 +275,7 @@ impl World {
         thread.told.get()
     }
 
-    /// Wakes the threads that wait for the object `on`: all of them or, if `one` is true, one chosen at random.
+    /// Wakes the threads that wait for the object `on`. If `one` is true, wakes only one of them, chosen at random.
     fn tell(&self, on: usize, one: bool) {
         let waits = |thread: &&Thread| thread.state.get() == State::Waits && thread.on.get() == on;
         let count = self.all().filter(waits).count();
@@ -288,7 +288,7 @@ impl World {
         }
     }
 
-    /// Begins a job on an idle kernel thread or, if none is idle, on a new one.
+    /// Runs `job` on an idle kernel thread or, if there is none, on a new one.
     fn begin(&'static self, name: &str, job: Job) {
         let tracks = HELD.tracks.replace(false);
         let idle = (1..self.count.get()).find(|&at| self.threads[at].state.get() == State::Idle);
@@ -334,8 +334,8 @@ impl World {
     }
 }
 
-/// Marks a step of the calling thread; before the step, the scheduler may let another thread run. Does nothing outside
-/// of a run.
+/// Marks a step of the calling thread. Before the step, the scheduler may let another thread run. Outside of a run,
+/// does nothing.
 #[inline]
 fn point(what: &'static str, at: &'static Location<'static>) {
     let me = me();
@@ -344,7 +344,7 @@ fn point(what: &'static str, at: &'static Location<'static>) {
     }
 }
 
-/// Records, for the trace, the value that was read by the step at the last point.
+/// Adds to the trace the value that the calling thread has read in its last step.
 #[inline]
 fn seen(value: u64) {
     let world = world();
@@ -354,7 +354,7 @@ fn seen(value: u64) {
 
 // ------------------------------------------------------------------------------------------- a run
 
-/// Ends the process, and prints the last points, the point at which each thread waits, and the seed.
+/// Prints the last points, the point at which each thread waits, and the seed; then ends the process.
 pub fn fail(what: &str) -> ! {
     let world = world();
     HELD.tracks.set(false);
@@ -379,15 +379,15 @@ pub fn fail(what: &str) -> ! {
     }
     let (load, seed) = (world.load.get(), world.seed.get());
     text += &format!("FAILED {load} seed {seed} after {steps} points: {}\n", what.replace('\n', " "));
-    // It is no failure if nobody reads the text.
+    // If nobody reads the text, that is no failure.
     let _ = std::io::stdout().write_all(text.as_bytes());
     // SAFETY: the call takes only a number. No destructor may run, so the process ends at once.
     unsafe { _exit(1) }
 }
 
-/// Prepares the process for the first run. Keeps all threads on one processor, which makes it cheap for one thread to
-/// wake another. A panic on any thread, or a fault, ends the process. `clean` must free what a kernel thread keeps for
-/// its later calls of the crate.
+/// Prepares the process for the first run. All threads are kept on one processor, so that one thread wakes another
+/// cheaply. A panic on any thread ends the process, and so does a fault. `clean` must free what the crate has cached
+/// for the calling kernel thread.
 pub fn prepare(clean: fn()) {
     extern "C" fn fault(_: i32) {
         fail("a fault: something was used after it was freed, most likely");
@@ -441,9 +441,9 @@ pub fn prepare(clean: fn()) {
     std::panic::set_hook(Box::new(|panic| fail(&panic.to_string())));
 }
 
-/// Runs a load once, in the order that `seed` determines. Returns the number of points, and the number of switches
-/// between threads. All threads that the load starts must end, and the load or `end` must free all memory that the load
-/// allocates.
+/// Runs a load once, in the order that `seed` determines. Returns how many points there were, and how often the
+/// explorer switched between threads. All threads that the load starts must end. The load and `end` must free all
+/// memory that the load has allocated.
 pub fn run(name: &'static str, load: fn(), exact: bool, seed: u64, end: fn()) -> (u64, u64) {
     let world = world();
     (world.load.set(name), world.seed.set(seed), world.exact.set(exact));
@@ -470,7 +470,7 @@ pub fn run(name: &'static str, load: fn(), exact: bool, seed: u64, end: fn()) ->
     (world.steps.get(), world.switches.get())
 }
 
-/// Takes the processor from the calling thread for `time`, after `points` more points have passed.
+/// After `points` more points, the calling thread loses its processor for `time`.
 pub fn lose_processor(points: usize, time: std::time::Duration) {
     let world = world();
     let from = world.steps.get() + points as u64;
@@ -487,8 +487,8 @@ pub fn choose(count: usize) -> usize {
 
 const PATTERN: u8 = 0xdb;
 
-/// The blocks of memory that a run has freed, and the number of blocks that it has allocated and not yet freed; counted
-/// only if `tracks` is true.
+/// The blocks of memory that a run has freed, and the number of blocks that it has allocated and not freed. Nothing is
+/// counted while `tracks` is false.
 struct Held {
     tracks: Cell<bool>,
     live: Cell<isize>,
@@ -522,7 +522,7 @@ impl Held {
     }
 }
 
-/// The allocator of a program that explores.
+/// The allocator that a program must use to be explored; it detects the use of freed memory.
 pub struct Memory;
 
 // SAFETY: each call goes to the system's allocator, which gets each block back once.
@@ -543,7 +543,7 @@ unsafe impl GlobalAlloc for Memory {
     }
 }
 
-/// Fails if the value `at` lies in memory that was freed.
+/// Fails if the value `at` is in memory that was freed.
 #[inline]
 fn check<T>(at: &T) {
     let bytes = at as *const T as *const u8;

@@ -1,4 +1,4 @@
-//! The loads that the explorer runs, of some three kernel threads each.
+//! The loads that the explorer runs. Each has about three kernel threads.
 
 use arachne::net::Async;
 use arachne::{
@@ -41,7 +41,7 @@ impl Count {
     }
 }
 
-/// Tasks are spawned from outside while workers fall asleep: each task runs once.
+/// A thread that is no worker spawns tasks while the workers fall asleep: each task must run once.
 fn sleepers() {
     let (runtime, ran) = (runtime(2), Arc::new(Count::default()));
     for round in 0..3 {
@@ -57,7 +57,7 @@ fn sleepers() {
     }
 }
 
-/// If workers sleep, spawned and woken tasks run at once, that is, before any virtual time passes.
+/// If workers sleep, a task that is spawned or woken must run at once: before any virtual time passes.
 fn prompt() {
     let (runtime, gate) = (runtime(2 + choose(2)), Arc::new(Semaphore::new(0)));
     for _ in 0..3 {
@@ -76,8 +76,8 @@ fn prompt() {
     }
 }
 
-/// There are as many tasks as workers, and each task blocks its worker until all have begun, so each needs a worker of
-/// its own.
+/// There are as many tasks as workers. Each task blocks its worker until all have begun, so each needs a worker for
+/// itself.
 fn hands() {
     let (runtime, begun) = (runtime(2), Arc::new(Count::default()));
     for round in 1..3 {
@@ -142,7 +142,8 @@ fn aborts() {
     dropped.is(1);
 }
 
-/// Tasks of a set end on workers while another thread joins, aborts and detaches: each end is returned exactly once.
+/// Tasks of a set end on workers while another thread joins, aborts and detaches tasks. The end of each task is
+/// returned exactly once.
 fn sets() {
     let runtime = runtime(2);
     let waits = runtime.spawn(async {
@@ -185,8 +186,8 @@ fn closing() {
     assert_eq!(permits.available_permits(), free + count);
 }
 
-/// Handles spawn tasks while their runtime ends, and while another runtime begins and reuses its tables. Each task
-/// ends, or never begins, and no task gets into the other runtime.
+/// Handles spawn tasks while their runtime ends, and while another runtime begins and reuses its state. Each task ends
+/// or never begins, and none runs in the other runtime.
 fn door() {
     let (first, dropped) = (runtime(2), Arc::new(Count::default()));
     let (handle, within) = (first.handle(), dropped.clone());
@@ -209,8 +210,8 @@ fn door() {
     }
 }
 
-/// A thread resets a sleep while a task waits for it: the task is woken soon after the time that was set last, and
-/// never before.
+/// A thread resets a sleep while a task waits for it. The task must be woken soon after the time that was set last, and
+/// not before it.
 fn resets() {
     let runtime = runtime(2);
     let nap = Arc::new(Mutex::new((sleep(LONG), false)));
@@ -238,12 +239,12 @@ fn resets() {
     assert!(now() + 100_000 >= until && now() < until + SOON, "{} us", (now() as i64 - until as i64) / 1000);
 }
 
-/// The nanoseconds of virtual time within which a ready task must begin; virtual time doesn't depend on the machine's
-/// load.
+/// A ready task must begin within this many nanoseconds of virtual time, which doesn't depend on the load of the
+/// machine.
 const SOON: u64 = 5_000_000;
 
-/// Ready tasks behind a poll of 200 ms begin soon: those in its worker's local queue, the one to run next, and those
-/// that the poll makes ready.
+/// A poll takes 200 ms. The ready tasks behind it must begin soon: those in its worker's local queue, the one to run
+/// next, and those that the poll makes ready.
 fn behind() {
     let (runtime, begun) = (runtime(2 + choose(2)), Arc::new(Count::default()));
     let each = begun.clone();
@@ -272,8 +273,8 @@ fn behind() {
     begun.is(8);
 }
 
-/// A worker has one task in its local queue, makes another ready in its task slot, and begins a long poll: a free
-/// worker runs one of them at once.
+/// A worker has one task in its local queue, makes another ready in its task slot, and begins a long poll. A free
+/// worker must run one of the two at once.
 fn apart() {
     let (runtime, begun) = (runtime(2), Arc::new(Mutex::new(Vec::new())));
     thread::sleep(choose(12) as u32 * MS);
@@ -292,13 +293,13 @@ fn apart() {
     assert!(late < 300_000, "after {} us", late / 1000);
 }
 
-/// A worker loses its processor as it ends a poll, or a little later: all its ready tasks begin soon, except for the
-/// task that it has taken to run.
+/// A worker loses its processor as it ends a poll, or a little later. All its ready tasks must begin soon, except for
+/// one that it has already taken to run.
 fn stands() {
     stands_on(runtime(2 + choose(2)));
 }
 
-/// As in `stands`, but only this worker has a core, and another worker stands in for it.
+/// As in `stands`, but only this worker has a core; a worker without a core must run its tasks.
 fn covered() {
     let runtime = runtime(2 + choose(2));
     arachne::set_active(&runtime, 1);
@@ -333,7 +334,8 @@ fn stands_on(runtime: Runtime) {
     assert!(late <= 1, "{late} begin late");
 }
 
-/// Long polls spawn and wake tasks, while another worker makes the jobs in their workers' local queues ready.
+/// Long polls spawn and wake tasks. Meanwhile another worker makes the jobs in the local queues of the workers in these
+/// polls ready.
 fn relief() {
     let (runtime, ran, gate) = (runtime(2), Arc::new(Count::default()), Arc::new(Semaphore::new(0)));
     let task = |waits: u32| {
@@ -362,8 +364,8 @@ fn relief() {
     ran.is(4);
 }
 
-/// A worker that wakes each millisecond for its own task takes over the tasks of a worker whose poll waits for one of
-/// them.
+/// A worker is in a poll that waits for one of its own ready tasks. Another worker, which wakes each millisecond for a
+/// task of its own, must take those tasks over.
 fn ticks() {
     let (runtime, ran) = (runtime(2), Arc::new(Count::default()));
     let ticking = runtime.spawn(async {
@@ -388,8 +390,8 @@ fn ticks() {
     assert!(runtime.block_on(ticking).unwrap_err().is_cancelled());
 }
 
-/// A worker wakes for a timer that was removed, just as a task becomes ready in one of its task slots. That task waits
-/// for a task that it has spawned.
+/// A worker wakes for a timer that was removed, just as a task becomes ready in one of its task slots. That task spawns
+/// another one and waits for it.
 fn stale() {
     let (runtime, mut waits, due) = (runtime(2 + choose(2)), sleep(40 * MS), now() + 40_000_000);
     let _ = runtime.enter(|| poll(&mut waits, &Arc::default()));
@@ -405,9 +407,8 @@ fn stale() {
     runtime.block_on(task).unwrap();
 }
 
-/// A worker whose tasks take some 50 us each and yield helps a worker that is in a long poll. The helping worker soon
-/// runs the task that was to run next on the other, and still runs its own tasks in turn, however many tasks that poll
-/// makes ready.
+/// One worker is in a long poll. Another, whose tasks take some 50 us each and yield, must soon run the task that was
+/// to run next on the first. It must also keep running its own tasks in turn, however many tasks the poll makes ready.
 fn phases() {
     let runtime = Builder::new(2).places(512).slices(None).build().unwrap();
     let (begun, ended) = (Arc::new(Count::default()), Arc::new(Count::default()));
@@ -471,7 +472,7 @@ fn watcher() {
     ran.is(3);
 }
 
-/// A handle is polled by two wakers, and then awaited, aborted or dropped, while its task ends.
+/// While a task ends, its handle is polled with two wakers, and then awaited, aborted or dropped.
 fn handles() {
     let (runtime, dropped) = (runtime(1), Arc::new(Count::default()));
     for round in 1..3 {
@@ -508,7 +509,7 @@ fn handles() {
     }
 }
 
-/// A value that counts its drop.
+/// A value that increments a count when it is dropped.
 struct Counted(Arc<Count>);
 impl Drop for Counted {
     fn drop(&mut self) {
@@ -516,8 +517,8 @@ impl Drop for Counted {
     }
 }
 
-/// At an orderly end, all tasks that wait for it are woken, even one that begins to wait or changes its waker at that
-/// moment. Tasks that these tasks then spawn still run.
+/// When the runtime begins to end, all tasks that wait for this are woken, even a task that begins to wait, or changes
+/// its waker, at that moment. The tasks that these then spawn still run.
 fn drain() {
     let (runtime, ended) = (runtime(2), Arc::new(Count::default()));
     for yields in 0..2 {
@@ -536,7 +537,8 @@ fn drain() {
     ended.is(2);
 }
 
-/// At a sudden end, each task has run or is dropped, exactly once, and its handle returns which of the two.
+/// The runtime ends without waiting for its tasks. Each task has run or is dropped, exactly once, and its handle tells
+/// which.
 fn shutdown() {
     let (runtime, dropped, gate) = (runtime(2), Arc::new(Count::default()), Arc::new(Semaphore::new(0)));
     let task = |kind: usize| {
@@ -586,8 +588,8 @@ fn own() {
     dropped.await_all(2);
 }
 
-/// There are more tasks than task slots, and all tasks with a slot wait for a task that gets a slot only when another
-/// task ends.
+/// There are more tasks than task slots. All tasks with a slot wait for a task without one, which gets a slot only when
+/// another task ends.
 fn room() {
     let (runtime, gate) = (runtime(2), Arc::new(Semaphore::new(0)));
     let mut tasks: Vec<JoinHandle<()>> = Vec::new();
@@ -602,8 +604,8 @@ fn room() {
     }
 }
 
-/// Three senders share a full channel of one value: no value is lost, and each sender's values stay in order. A sender
-/// that got its turn and found the channel full again is the next to get a turn.
+/// Three senders share a full channel of one value. No value is lost, and the values of each sender stay in order. If a
+/// sender is woken and finds the channel full again, it is the next to be woken.
 fn channels() {
     let (sender, receiver) = channel(1);
     sender.try_send(0).unwrap();
@@ -638,7 +640,7 @@ fn channels() {
     senders.into_iter().for_each(|task| runtime.block_on(task).unwrap());
 }
 
-/// Waiters of a semaphore and a channel leave when their time is over: no permit and no value is lost.
+/// Waiters of a semaphore and of a channel stop waiting at a deadline. No permit and no value is lost.
 fn leaving() {
     let (runtime, gate, (sender, receiver)) = (runtime(2), Arc::new(Semaphore::new(1)), channel(1));
     let tasks: Vec<_> = (0..3)
@@ -664,7 +666,7 @@ fn leaving() {
     runtime.block_on(gate.acquire()).unwrap().forget();
 }
 
-/// Timers of a worker, and of another thread: none fires early, and none is late by more than a millisecond.
+/// Timers of a worker, and of another thread: no timer fires early, or more than a millisecond late.
 fn timers() {
     let runtime = runtime(2);
     let sleeps = |millis: u32| async move {
@@ -682,7 +684,7 @@ fn timers() {
     }
 }
 
-/// The worker that stands in for a core that was given back runs the ready tasks in its blocks at once.
+/// One worker has given its core back. The worker that takes over its jobs must run its ready tasks at once.
 fn cores() {
     let policy = Policy { every: MS, ..Policy::default() };
     let runtime = Builder::new(4).places(16).slices(None).policy(policy).build().unwrap();
@@ -704,7 +706,8 @@ fn cores() {
     assert!(now() - since < 300_000, "after {} us", (now() - since) / 1000);
 }
 
-/// A core is given back while its worker is in a poll that waits for the jobs in the worker's own local queues.
+/// A worker's core is taken back while the worker is in a poll, which waits for the jobs in the worker's own local
+/// queues.
 fn returned() {
     let policy = Policy { every: MS, min_cores: 2, ..Policy::default() };
     let runtime = Builder::new(3).places(12).slices(None).policy(policy).build().unwrap();
@@ -728,7 +731,7 @@ fn returned() {
     }
 }
 
-/// Cores are given and taken at any time, as by an arbiter, and ready tasks are still run at once.
+/// Cores are granted and taken back at any time, as an arbiter does it. Ready tasks must still run at once.
 fn granted() {
     let runtime = Builder::new(3).places(12).slices(None).build().unwrap();
     for _ in 0..3 {
@@ -752,8 +755,8 @@ fn granted() {
     }
 }
 
-/// Sockets are opened and closed: an event of a closed socket doesn't reach the next socket with the same number, whose
-/// task would read in vain.
+/// Sockets are opened and closed. The event of a closed socket must not reach the next socket with the same number,
+/// whose task would then read in vain.
 fn sockets() {
     let runtime = runtime(2);
     for round in 0..2 {
@@ -791,7 +794,7 @@ fn sockets() {
     }
 }
 
-/// Three tasks wait for one socket, and one of them may leave: each of the others reads a byte.
+/// Three tasks wait for one socket, and one of them may stop waiting. Each of the others must read a byte.
 fn crowd() {
     let (runtime, (mut near, far)) = (runtime(2), UnixStream::pair().unwrap());
     let (far, leaves) = (Arc::new(Async::new(far).unwrap()), choose(2) == 0);
@@ -812,7 +815,7 @@ fn crowd() {
     assert!(read == 3 || leaves && read == 2);
 }
 
-/// Three tasks want a lock, and one of them may leave the queue of waiters, while the blocking pool has work, too.
+/// Three tasks want a lock, and one of them may stop waiting. At the same time, the blocking pool has work.
 fn locks() {
     let (runtime, lock, inside) = (runtime(2), Arc::new(Lock::new(0)), Arc::new(Mutex::new(false)));
     let tasks: Vec<_> = (0..3)

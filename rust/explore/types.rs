@@ -116,7 +116,7 @@ unsafe impl<T: ?Sized + Send> Sync for Mutex<T> {}
 
 pub struct MutexGuard<'a, T: ?Sized>(&'a Mutex<T>);
 
-/// Returns the address of `of`, by which the scheduler knows the object that a thread waits for.
+/// Returns the address of `of`. The scheduler uses it as the name of the object for which a thread waits.
 fn id<T: ?Sized>(of: &T) -> usize {
     of as *const T as *const u8 as usize
 }
@@ -297,7 +297,7 @@ impl std::ops::Add<Duration> for Instant {
     }
 }
 
-/// The number by which the scheduler knows that a thread waits for an epoll.
+/// For a thread that waits for an epoll, the scheduler stores this number instead of an object's address.
 const TOLD: usize = 1;
 
 #[track_caller]
@@ -314,7 +314,7 @@ pub fn wait(epoll: i32, timeout: i32, mut look: impl FnMut(i32) -> usize) -> usi
     }
 }
 
-/// Reports to the scheduler that an epoll may have an event.
+/// Wakes the threads that wait for an epoll, because an epoll may have an event.
 pub fn told() {
     world().tell(TOLD, false);
 }

@@ -1,4 +1,4 @@
-//! The arbiter of a run, through which core 0's kernel thread closes cores and opens them again, as orders say.
+//! The arbiter of a run. Core 0's kernel thread uses it to close cores and open them again, as orders say.
 ghost use Rattle.std.specs.Prelude.{◌≡◌, ℕ, ◌<◌, ◌≤◌, length, if◌then◌else◌, IfOk, MatchBool};
 ghost use Rattle.arachne_core.specs.declared.layout.TheConstants.{CORES};
 ghost use Rattle.arachne_policy.specs.Orders.{AreInOrder};
@@ -18,7 +18,7 @@ use std::sync::Wait;
 
 /// Closes and opens cores of a table as orders say, and moves threads away from the cores that it has closed.
 ///
-/// Only one kernel thread has the arbiter, and nobody else may close or open cores as long as it exists.
+/// Only one kernel thread has the arbiter. As long as the arbiter exists, nobody else may close or open cores.
 ///
 /// Contracts describe an arbiter by its orders, the number of cores, and the number of orders that it has carried out.
 #[derive(Debug, Drop)]
@@ -40,7 +40,7 @@ impl Model for Arbiter {
 impl Arbiter {
     ghost use Rattle.arachne_arbiter.specs.Orders.{with_next, IsDue, IsNoneDue, HasAppliedDue};
 
-    /// Creates an arbiter for `cores` open cores, which is to carry out `orders`.
+    /// Creates an arbiter for `cores` cores, all of them open, with the orders that it must carry out.
     ///
     /// Returns `Err` if memory is refused.
     pub fn new(alloc: Global, orders: Vec<CoreOrder>, cores: u8) -> Result<Arbiter, AllocError>
@@ -64,8 +64,8 @@ impl Arbiter {
     /// Carries out the orders to close or open a core that are due now, and moves threads away from one closed core.
     ///
     /// Returns a bit for each core to which threads were moved. Core 0's kernel thread must call this before each slice
-    /// (some steps of one thread), and while it finds nothing to run. The counts of ended slices, `slices`, are read
-    /// only while an order is left to carry out.
+    /// (some steps of one thread), and again and again while it finds nothing to run. Reads `slices`, the counts of
+    /// ended slices, only if an order is left to carry out.
     pub fn tend<H: Wait, T: Tagged, C: Contexts<T>>(
         &mut self,
         cores: &Cores<'_, H, T, C>,
@@ -90,7 +90,7 @@ impl Arbiter {
     /// Carries out each order to close or open a core that is due after `ended` slices (some steps of one thread each).
     ///
     /// A release closes its core; a grant opens its core and unparks that core's kernel thread. A release of a closed
-    /// core and a grant of an open one are counted, and change nothing.
+    /// core, or a grant of an open one, is counted as carried out, and changes nothing.
     pub fn apply_due<H: Wait, T: Tagged, C: Contexts<T>>(
         &mut self,
         cores: &Cores<'_, H, T, C>,
@@ -109,8 +109,8 @@ impl Arbiter {
         while self.apply_next(cores, seat, parking, ended) {}
     }
 
-    /// Carries out the next order to close or open a core, if it is due after `ended` slices. Returns whether it was
-    /// due.
+    /// Carries out the next order to close or open a core, if it is due after `ended` slices (some steps of one thread
+    /// each). Returns whether it was due.
     fn apply_next<H: Wait, T: Tagged, C: Contexts<T>>(
         &mut self,
         cores: &Cores<'_, H, T, C>,
@@ -136,8 +136,8 @@ impl Arbiter {
                 self.draining.start(core);
             }
             Effect::Opens(core) => {
-                // The core is opened before the unpark, since a kernel thread that finds its core still closed parks
-                // again.
+                // The core is opened before the unpark, since a kernel thread that wakes and finds its core still
+                // closed parks again.
                 cores.table.open_core(cores.rt, seat, core);
                 self.draining.stop(core);
                 parking.unpark(core);
@@ -147,12 +147,12 @@ impl Arbiter {
         true
     }
 
-    /// Moves threads away from one closed core. The next call takes the next closed core.
+    /// Moves threads away from one closed core, and at the next call from the next closed core.
     ///
     /// Returns a bit for each core to which threads were moved. A thread that no worker holds goes to the first other
     /// core, in ascending order, that has room. A thread stays if a worker holds it, if it is not yet in the slot that
     /// was claimed for it, or if it has its core for itself. If no closed core has a thread left, the call reads no
-    /// core's state.
+    /// core's occupancy.
     pub fn drain<H: Wait, T: Tagged, C: Contexts<T>>(
         &mut self,
         cores: &Cores<'_, H, T, C>,

@@ -12,9 +12,9 @@ fn is_candidate(occupancy: OccWord) -> bool
     !occupancy.is_closed() && !occupancy.is_exclusive()
 }
 
-/// Returns whether a core with `slots` thread slots has room for a thread that shares the core.
+/// Returns whether a core with `slots` thread slots has a free one for a thread that shares the core.
 ///
-/// The core has room if it is open, no thread has it for itself, and one of its slots is free.
+/// This is so if the core is open, no thread has it for itself, and one of its slots is free.
 pub fn has_place(occupancy: OccWord, slots: u8) -> bool
     requires { slots ≤ SLOTS }
     ensures { IsTrue result ↔ HasPlace slots occupancy }
@@ -24,8 +24,8 @@ pub fn has_place(occupancy: OccWord, slots: u8) -> bool
 
 /// Draws two cores by the random `word` from those that threads may share, and returns the one with fewer threads.
 ///
-/// `occupancies` has the occupancy word (a bit for each occupied thread slot) of each core, from core 0 on. Threads may
-/// share a core if it is open and no thread has it for itself. Returns `None` if there is no such core.
+/// `occupancies` has the occupancy word (a bit for each occupied thread slot) of each core, in the order of the cores.
+/// Threads may share a core if it is open and no thread has it for itself. Returns `None` if there is no such core.
 pub fn first_core(word: u64, occupancies: &[OccWord]) -> Option<u8>
     requires { length occupancies.now ≤ CORES }
     ensures chosen { result ≡ core_chosen word (loads_of occupancies.now (length occupancies.now)) }

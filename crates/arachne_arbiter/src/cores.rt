@@ -1,4 +1,4 @@
-//! Reads, for a kernel thread, which thread slots of each core are occupied, and which cores are closed.
+//! Reads which thread slots of each core are occupied, and which cores are closed.
 ghost use Rattle.std.specs.Prelude.{◌≡◌, ◌<◌, ◌≤◌};
 ghost use Rattle.arachne_core.specs.declared.layout.TheConstants.{CORES, SLOTS};
 ghost use Rattle.arachne_contexts.specs.Out.{KeepsOut};
@@ -26,8 +26,8 @@ pub struct Cores<'a, H, T, C: Seats> {
 }
 
 impl<'a, H: Wait, T: Tagged, C: Contexts<T>> Cores<'a, H, T, C> {
-    /// Returns the occupancy of a core: its occupied thread slots, whether it is closed, and whether one thread has it
-    /// for itself.
+    /// Returns the occupancy word of a core: its occupied thread slots, and if it is closed or one thread has it for
+    /// itself.
     pub(crate) fn look(&self, seat: &mut C::Seat, core: u8) -> OccWord
         requires seat { C.sits self.now.table.now seat.old }
         requires core { core < self.now.count }

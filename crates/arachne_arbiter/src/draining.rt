@@ -1,4 +1,4 @@
-//! Moves the threads of a core that an order has closed to other cores.
+//! Moves the threads of a closed core to other cores.
 ghost use Rattle.std.specs.Prelude.{◌≡◌, ◌<◌, ◌≤◌, true, false, replicate, slice_set, slice_index_or, vec_len, IfOk, IfSome};
 ghost use Rattle.arachne_arbiter.specs.Draining.{IsSettled, WaitsForNoMore};
 ghost use Rattle.arachne_contexts.specs.Out.{KeepsOut};
@@ -9,12 +9,12 @@ use arachne_core::Place;
 use std::alloc::{AllocError, Global};
 use std::sync::Wait;
 
-/// The closed cores that may still have threads. `last` is the core from which threads were moved last.
+/// The closed cores that perhaps still have threads. `last` is the core from which threads were moved last.
 #[derive(Debug, Drop)]
 pub(crate) struct Draining {
     waiting: Vec<bool>,
     last: u8,
-    // True only if no core must be drained. It may be false even then.
+    // If true, no closed core has a thread that must be moved. Can be false even then.
     settled: bool,
     ghost rests: { IsSettled settled waiting.items },
 }
@@ -32,7 +32,7 @@ impl Draining {
         })
     }
 
-    /// Adds a core that was closed, and whose threads must be moved away.
+    /// Adds a core that was closed, and whose threads must be moved to other cores.
     pub(crate) fn start(&mut self, core: u8)
         requires { core < vec_len self.old.waiting }
         ensures { self.new.waiting.items ≡ slice_set self.old.waiting.items core true }
@@ -49,10 +49,11 @@ impl Draining {
         self.waiting[usize::from(core)] = false;
     }
 
-    /// Moves threads away from one of the cores that must be drained. The next call takes the next such core.
+    /// Moves threads away from one closed core that has not been found empty, and at the next call from the next such
+    /// core.
     ///
-    /// Adds to `receivers` a bit for each core to which threads were moved. If no core must be drained, reads no core's
-    /// state.
+    /// Adds to `receivers` a bit for each core to which threads were moved. If there is no such core, reads no core's
+    /// occupancy.
     pub(crate) fn round<H: Wait, T: Tagged, C: Contexts<T>>(
         &mut self,
         cores: &Cores<'_, H, T, C>,
@@ -79,7 +80,7 @@ impl Draining {
         }
     }
 
-    /// Returns the core from which threads are to be moved next, or `None` if no closed core may have a thread.
+    /// Returns the core from which threads are to be moved next, or `None` if each closed core is known to be empty.
     fn next_core(&mut self, cores: u8) -> Option<u8>
         requires { vec_len self.old.waiting ≡ cores }
         ensures next { IfSome result (λ core. (core < cores) × (slice_index_or self.old.waiting.items core false ≡ true)) }
@@ -103,9 +104,9 @@ impl<'a, H: Wait, T: Tagged, C: Contexts<T>> Cores<'a, H, T, C> {
     /// Moves the threads that no worker holds from the closed core `core` to other cores. Returns whether the core was
     /// empty.
     ///
-    /// A thread goes to the first other core, in ascending order, that has room; that core's bit is set in `receivers`.
-    /// A thread stays, for a later call, if a worker holds it, if it is not yet in the slot that was claimed for it, if
-    /// another call changed the slot meanwhile, or if no core has room.
+    /// A thread goes to the first other core, in ascending order, that has room; the bit of that core is set in
+    /// `receivers`. A thread stays on `core`, for a later call, if a worker holds it, if it is not yet in the slot that
+    /// was claimed for it, if another call changed the slot meanwhile, or if no core has room.
     pub(crate) fn move_away(&self, seat: &mut C::Seat, core: u8, receivers: &mut u64) -> bool
         requires seat { C.sits self.now.table.now seat.old }
         requires core { core < self.now.count }
@@ -132,10 +133,10 @@ impl<'a, H: Wait, T: Tagged, C: Contexts<T>> Cores<'a, H, T, C> {
         false
     }
 
-    /// Moves the thread at `place` to the first other core, from core `from` on, that has room.
+    /// Moves the thread at `place` to the first other core, in ascending order from core `from` on, that has room.
     ///
-    /// Sets that core's bit in `receivers`. Returns the core to try first for the next thread: the cores before it have
-    /// no room.
+    /// Sets that core's bit in `receivers`. Returns the core with which to begin for the next thread, since the cores
+    /// before it have no room.
     fn move_from(&self, seat: &mut C::Seat, place: Place, from: u8, receivers: &mut u64) -> u8
         requires seat { C.sits self.now.table.now seat.old }
         requires core { place.core < self.now.count }

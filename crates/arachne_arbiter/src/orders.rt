@@ -18,7 +18,7 @@ pub enum Effect {
     Nothing,
 }
 
-/// A list of orders to open or close cores, the number of them that were carried out, and which cores are closed now.
+/// A list of orders to open or close cores, how many of them were carried out, and which cores are closed now.
 ///
 /// Contracts describe it by the list, the number of cores, and the number of orders that were carried out.
 #[derive(Debug, Drop)]
@@ -42,7 +42,8 @@ impl Model for Orders {
 impl Orders {
     ghost use Rattle.arachne_arbiter.specs.Orders.{is_closed_after, next_effect, with_next, IsDue, IsNoneDue, IsWithin};
 
-    /// Creates the orders of `list`, none of them carried out yet, for `cores` cores, all of them open.
+    /// Creates the record of the orders in `list`, of which none was carried out yet, for `cores` cores, all of them
+    /// open.
     ///
     /// Returns `Err` if memory is refused.
     pub fn new(alloc: Global, list: Vec<CoreOrder>, cores: u8) -> Result<Orders, AllocError>
@@ -73,7 +74,7 @@ impl Orders {
         self.applied == self.list.len()
     }
 
-    /// Returns whether the orders that were carried out have left this core closed.
+    /// Returns whether core `core` is closed by the orders that were carried out so far.
     pub fn has_closed(&self, core: u8) -> bool
         requires { core < self.now.cores }
         ensures { result ≡ is_closed_after self.now.list self.now.applied core }
@@ -81,8 +82,8 @@ impl Orders {
         self.closed[usize::from(core)]
     }
 
-    /// If the next order is due after `ended` slices (some steps of one thread each), counts it as carried out, and
-    /// returns its effect.
+    /// If the next order is due after `ended` slices (some steps of one thread each), counts that order as carried out,
+    /// and returns its effect.
     ///
     /// Otherwise, or if no order is left, returns `None`, and changes nothing.
     pub fn next_due(&mut self, ended: u64) -> Option<Effect>

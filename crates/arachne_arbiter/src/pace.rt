@@ -6,21 +6,21 @@ use std::marker::Model;
 use std::thread;
 use std::time::{Clock, Duration, Instant};
 
-/// The greatest length of a short yield of the processor, in microseconds. In a longer one, another process has had a
-/// time slice of some milliseconds.
+/// The greatest length of a short yield of the processor, in microseconds. In a longer yield, another process has run
+/// for a time slice of some milliseconds.
 const AT_ONCE: u64 = 2000;
 
-/// After a long yield, a kernel thread doesn't yield until its loop has found work this many times.
+/// The number of times that a worker's loop must find work after a long yield before its kernel thread yields again.
 const ROUNDS_WITHOUT_YIELDS: u32 = 4096;
 
 /// Decides whether a kernel thread that waits may yield its processor.
 ///
 /// On an idle machine, a yield returns immediately. If other processes want the processor, a yield gives away a whole
 /// time slice, and the user threads of this kernel thread wait all that time. So each yield is timed. After a long
-/// yield, the kernel thread doesn't yield for a while: when it waits, it spins for a short time, and then sleeps.
+/// yield, the kernel thread doesn't yield for a while: when it must wait, it spins for a short time, and then sleeps.
 ///
-/// Contracts describe a pace by the number of times that the loop must find work before a yield is allowed. They say
-/// nothing of the clock.
+/// Contracts describe a `Pace` by the number of times that the worker's loop must find work before a yield is allowed.
+/// They say nothing of the clock.
 #[derive(Drop)]
 pub struct Pace {
     rounds: u32,
@@ -33,7 +33,7 @@ impl Model for Pace {
 }
 
 impl Pace {
-    /// Creates a pace that allows yields from the beginning.
+    /// Creates a `Pace` that allows yields from the beginning.
     pub fn new() -> Pace
         ensures { result ≡ 0 }
     {
@@ -47,14 +47,15 @@ impl Pace {
         self.rounds == 0
     }
 
-    /// Records that the worker's loop has found work. After enough such calls, yields are allowed again.
+    /// Records that the worker's loop has found work. After enough such calls since a long yield, yields are allowed
+    /// again.
     pub fn found(&mut self)
         ensures { self.new ≡ self.old - 1 }
     {
         self.rounds = self.rounds.saturating_sub(1);
     }
 
-    /// Yields the processor once. If this takes long, forbids further yields for a while.
+    /// Yields the processor once. If the yield takes long, forbids further yields for a while.
     pub fn yield_once<H: Clock>(&mut self, rt: &H)
         ensures { (self.new ≡ self.old) ⊎ (self.new ≡ ROUNDS_WITHOUT_YIELDS) }
     {
@@ -64,7 +65,7 @@ impl Pace {
     }
 }
 
-/// Yields the processor. Returns whether the yield was short.
+/// Yields the processor. Returns whether the yield was short, which means at most two milliseconds.
 ///
 /// Returns false if the clock can't be read.
 fn came_back_at_once<H: Clock>(rt: &H) -> bool {

@@ -12,14 +12,14 @@ use std::thread::Parker;
 
 /// One parker for each core, on which the core's kernel thread sleeps.
 ///
-/// If an unpark comes before the park, the park returns immediately. So a kernel thread that checks whether it must
+/// If an unpark comes before the park, the park returns immediately. So a kernel thread that first checks if it must
 /// park, and then parks, misses no unpark between the two.
 #[derive(Drop)]
 pub struct Parking {
     parkers: Vec<CachePadded<Parker>>,
 }
 
-/// Evidence, without data, that the kernel threads of all cores were unparked. Only [`Parking::unpark_all`] returns a
+/// A proof, without data, that the kernel threads of all cores were unparked. Only [`Parking::unpark_all`] returns a
 /// value of this type.
 #[derive(Drop)]
 pub struct Unparked {
@@ -38,7 +38,7 @@ impl Parking {
         Ok(Parking { parkers })
     }
 
-    /// Sleeps until `core` is unparked. Only the kernel thread of `core` may call `park`.
+    /// Sleeps until another thread unparks `core`. Only the kernel thread of `core` may call `park`.
     pub fn park<H: Wait>(&self, rt: &H, core: u8)
         requires { core < parked_cores self.now }
     {
@@ -64,8 +64,8 @@ impl Parking {
 impl<'a, H: Wait, T: Tagged, C: Contexts<T>> Cores<'a, H, T, C> {
     /// Parks the kernel thread of `core` if the core is closed and empty. Returns whether it parked.
     ///
-    /// If the result is true, the kernel thread has been unparked since, and must look for work again. Only the kernel
-    /// thread of `core` may call `park_if_drained`.
+    /// If the result is true, another thread has unparked the kernel thread since, and it must look for work again.
+    /// Only the kernel thread of `core` may call `park_if_drained`.
     pub fn park_if_drained(&self, seat: &mut C::Seat, parking: &Parking, core: u8) -> bool
         requires seat { C.sits self.now.table.now seat.old }
         requires core { core < self.now.count }

@@ -15,9 +15,9 @@ use std::sync::Wait;
 impl<'a, H: Wait, T: Tagged, C: Contexts<T>> Cores<'a, H, T, C> {
     /// Claims a thread slot for a thread that shares its core with others.
     ///
-    /// Of two cores drawn at random, takes a slot of the one with fewer threads; if that fails, takes a slot of the
-    /// first other core that has a free one. Returns `None` if no core has a free slot. Returns `Err` if memory for the
-    /// thread is refused. Draws exactly one word from `chooser` (a random generator), whatever the result.
+    /// Of two cores drawn at random, takes a slot of the one with fewer threads; if that core has no free slot, takes a
+    /// slot of the first other core that has one. Returns `None` if no core has a free slot. Returns `Err` if memory
+    /// for the thread is refused. Draws exactly one word from `chooser` (a random generator), whatever the result.
     pub fn claim_normal<R: Rng>(
         &self,
         seat: &mut C::Seat,
@@ -34,16 +34,15 @@ impl<'a, H: Wait, T: Tagged, C: Contexts<T>> Cores<'a, H, T, C> {
         if self.count == 1 {
             return self.claim_on(seat, 0);
         }
-        // For most forks of a large program, no core has a free slot. For them this check must be cheap; it writes
-        // nothing.
+        // For most forks of a large program, no core has a free slot. So this check must be cheap; it writes nothing.
         if !self.is_any_free() {
             return Ok(None);
         }
         self.claim_on_chosen(seat, word)
     }
 
-    /// Of two cores that `word` draws, claims a thread slot of the one with fewer threads; if that fails, one of the
-    /// first other core that has a free slot.
+    /// Draws two cores by `word`, and claims a thread slot of the one with fewer threads. If that core has no free
+    /// slot, claims one of the first other core that has one.
     fn claim_on_chosen(&self, seat: &mut C::Seat, word: u64) -> Result<Option<C::Claim>, AllocError>
         requires { C.sits self.now.table.now seat.old }
         ensures seat { C.sits self.now.table.now seat.new }
@@ -82,8 +81,8 @@ impl<'a, H: Wait, T: Tagged, C: Contexts<T>> Cores<'a, H, T, C> {
 
     /// Returns whether some core seems to have a free slot for a thread that shares the core.
     ///
-    /// Reads the cores' occupancy words without a seat, and stops at the first core that has a free slot. The result is
-    /// only a hint: only a claim decides.
+    /// Reads the cores' occupancy words without a seat (a right to call the table), and stops at the first core that
+    /// has a free slot. The result is only a hint: only a claim decides.
     pub(crate) fn is_any_free(&self) -> bool {
         for core in 0..self.count {
             let seen = OccWord::from_word(self.table.glance(self.rt, core));
@@ -96,7 +95,8 @@ impl<'a, H: Wait, T: Tagged, C: Contexts<T>> Cores<'a, H, T, C> {
         false
     }
 
-    /// Writes the occupancy of each core (its occupied slots, closed, exclusive) into `occupancies`.
+    /// Writes the occupancy word of each core (a bit for each occupied slot, and the closed and exclusive bits) into
+    /// `occupancies`.
     fn look_at_all(&self, seat: &mut C::Seat, occupancies: &mut [OccWord; CORES as usize])
         requires { C.sits self.now.table.now seat.old }
         ensures seat { C.sits self.now.table.now seat.new }
@@ -134,9 +134,9 @@ impl<'a, H: Wait, T: Tagged, C: Contexts<T>> Cores<'a, H, T, C> {
         Ok(None)
     }
 
-    /// Claims a thread slot of `core`. Returns `None` if the core has no free one.
+    /// Claims a thread slot of `core`. Returns `None` if the core has no free slot.
     ///
-    /// Tries again if another claim took the slot in the meantime. Draws no random word.
+    /// If another claim took the slot in the meantime, tries again. Draws no random word.
     pub fn claim_on(&self, seat: &mut C::Seat, core: u8) -> Result<Option<C::Claim>, AllocError>
         requires seat { C.sits self.now.table.now seat.old }
         requires core { core < self.now.count }
@@ -156,7 +156,7 @@ impl<'a, H: Wait, T: Tagged, C: Contexts<T>> Cores<'a, H, T, C> {
 
     /// Claims the whole core `core`. Returns `None` if the core is not both open and empty.
     ///
-    /// Tries again if the core's occupancy word changed in the meantime.
+    /// If the core's occupancy word changed in the meantime, tries again.
     fn claim_whole(&self, seat: &mut C::Seat, core: u8) -> Result<Option<C::Claim>, AllocError>
         requires seat { C.sits self.now.table.now seat.old }
         requires core { core < self.now.count }

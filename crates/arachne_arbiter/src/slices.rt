@@ -1,5 +1,5 @@
-//! Counts the ended slices (some steps of one thread each) for each core, so that an order can be due after a number of
-//! slices.
+//! Counts the ended slices for each core, so that an order can be due after a number of slices. A slice is some steps
+//! of one thread.
 ghost use Rattle.std.specs.Prelude.{◌≡◌, ◌<◌, IfOk};
 ghost use Rattle.arachne_arbiter.specs.KernelThreads.{counted_cores};
 
@@ -7,7 +7,8 @@ use crossbeam_utils::CachePadded;
 use std::alloc::{AllocError, Global};
 use std::sync::atomic::{AtomicU64, Ordering};
 
-/// A count of ended slices for each core, on a cache line of its own. Only the core's kernel thread writes it.
+/// A count of ended slices (some steps of one thread each) for each core, on a cache line of its own. Only the core's
+/// kernel thread writes it.
 #[derive(Drop)]
 pub struct SliceCounts {
     counts: Vec<CachePadded<AtomicU64>>,
@@ -27,7 +28,7 @@ impl SliceCounts {
 
     /// Adds one to the count of `core`. A count of 2^64 - 1 stays as it is.
     ///
-    /// Only the kernel thread of `core` may call `count`: of two calls at the same time, one might not be counted.
+    /// Only the kernel thread of `core` may call `count`: of two calls at the same time, perhaps only one is counted.
     pub fn count(&self, core: u8)
         requires { core < counted_cores self.now }
     {
@@ -36,7 +37,7 @@ impl SliceCounts {
         count.store(ended.saturating_add(1), Ordering::SeqCst);
     }
 
-    /// Returns the number of slices that have ended on all cores together, at most 2^64 - 1.
+    /// Returns the number of slices (some steps of one thread each) that have ended on all cores, up to 2^64 - 1.
     pub fn total(&self) -> u64 {
         let mut total: u64 = 0;
         for count in &self.counts {

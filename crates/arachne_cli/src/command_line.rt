@@ -16,10 +16,10 @@ use clap::{Arg, ArgAction, ArgMatches, Command, Error};
 use std::alloc::{AllocError, Global};
 use std::convert::AsStr;
 
-/// The request that the command-line arguments make.
+/// The command that the command-line arguments ask for, with its settings.
 #[derive(Debug, Drop)]
 pub enum Request {
-    /// Run a program on several cores.
+    /// Run a program on several cores, with a kernel thread for each.
     Run(RunSettings),
     /// Run a command that needs only the calling kernel thread.
     Serial(SerialRequest),
@@ -28,36 +28,37 @@ pub enum Request {
 /// A command that needs only the calling kernel thread.
 #[derive(Clone, Copy, Debug)]
 pub enum SerialRequest {
-    /// Evaluate a program. If `names` is true, also print a line for each of its task threads.
+    /// Evaluate a program. If `names` is true, also print a line for each of the program's threads.
     Eval { names: bool },
     /// Check if a program may run.
     Check,
-    /// Print the advice of the core policy, which says when to add or remove a core, for each sample of a load.
+    /// For each sample of a load, print the advice of the core policy: to add a core, to remove one, or neither.
     Policy(Settings),
 }
 
-/// The settings of a run as the command line gives them. Any numbers are accepted here; `run` refuses those that are
-/// out of its range.
+/// The settings of a run, as the command line gives them. They may have any values here; the command `run` later
+/// refuses those out of its range.
 #[derive(Debug, Drop)]
 pub struct RunSettings {
     /// The number of cores.
     pub cores: u64,
-    /// The seed of the random generators, one for each core, by which a fork chooses the child's core.
+    /// The seed of the cores' random generators, by which a fork chooses the child's core.
     pub seed: u64,
-    /// The greatest number of steps of a slice, after which another thread may run.
+    /// The greatest number of steps that a thread runs before its core may run another thread.
     pub quantum: u64,
-    /// The number of thread slots of each core.
+    /// The number of thread slots of each core, each with room for one thread.
     pub slots: u64,
-    /// True if the output must have a line for each task thread.
+    /// True if the output must have a line for each of the program's threads.
     pub names: bool,
-    /// The orders to close or open cores while the program runs.
+    /// The orders to take cores away or grant them while the program runs.
     pub orders: Sequence<CoreOrder>,
 }
 
-/// The reason why the arguments make no request.
+/// The reason why the arguments are no valid request.
 #[derive(Debug, Drop)]
 pub enum NotAsked {
-    /// An order is malformed. `index` is the index of the first such argument among those for orders, counted from 0.
+    /// An order to grant or release a core is malformed. `index` is the index of the first malformed one among the
+    /// orders, counted from 0.
     NoOrder { index: usize },
     /// The parser refused the arguments, or memory was refused. The error has the text to print.
     Refused(Error),
@@ -113,7 +114,7 @@ fn run_alone<'a>(alloc: Global) -> Result<Command<'a>, AllocError>
     Ok(arachne)
 }
 
-/// Returns the flag `--names`, which asks for a line for each task thread.
+/// Returns the flag `--names`, which asks for a line for each of the program's threads.
 fn names_flag<'a>(alloc: Global) -> Arg<'a>
     ensures rule { rule_of result ≡ names_flag }
     ensures local { result.global ≡ false }
@@ -124,7 +125,7 @@ fn names_flag<'a>(alloc: Global) -> Arg<'a>
         .help("Print a line for each thread")
 }
 
-/// Returns the argument `ORDER`, which may be repeated: an order to close or open a core.
+/// Returns the argument `ORDER`, which can be repeated: an order to grant or release a core.
 fn order_words<'a>(alloc: Global) -> Arg<'a>
     ensures rule { rule_of result ≡ orders_rule }
     ensures local { result.global ≡ false }
@@ -322,9 +323,9 @@ fn policy_in(matches: &ArgMatches<'_>) -> Option<Request>
     })))
 }
 
-/// Parses all orders to close or open cores.
+/// Parses all orders to grant or release cores.
 ///
-/// Returns `Err` with the index of the first malformed word, or if memory is refused.
+/// Returns `Err` if a word is malformed, with the index of the first such word, or if memory is refused.
 fn orders_in(alloc: Global, words: &[&str]) -> Result<Sequence<CoreOrder>, NotAsked>
     ensures orders { IfOk result (λ orders. orders_of (map (λ word. word.now) words.now) ≡ Ok orders) }
     ensures none { IfErr result (IsNoOrderAmong (map (λ word. word.now) words.now)) }
@@ -341,7 +342,7 @@ fn orders_in(alloc: Global, words: &[&str]) -> Result<Sequence<CoreOrder>, NotAs
     Ok(Sequence::from(orders))
 }
 
-/// Returns the orders that `matches` holds. Returns `Err` as `orders_in` does.
+/// Returns the orders to grant or release cores that `matches` holds. Returns `Err` as `orders_in` does.
 fn orders_met(alloc: Global, matches: &ArgMatches<'_>) -> Result<Sequence<CoreOrder>, NotAsked>
     ensures orders { IfOk result (λ orders. orders_of (order_words (rows_of (found_of matches.now))) ≡ Ok orders) }
     ensures none { IfErr result (IsNoOrderAmong (order_words (rows_of (found_of matches.now)))) }
@@ -352,8 +353,8 @@ fn orders_met(alloc: Global, matches: &ArgMatches<'_>) -> Result<Sequence<CoreOr
     }
 }
 
-/// Returns the request of `run` that `matches` holds. Returns `Err` if one of its orders is malformed, or if memory is
-/// refused.
+/// Returns the request of `run` that `matches` holds, or `None` if a number doesn't fit 64 bits. Returns `Err` if one
+/// of the orders is malformed, or if memory is refused.
 fn run_in(alloc: Global, matches: &ArgMatches<'_>) -> Result<Option<Request>, NotAsked>
     ensures asked { IfOk result (λ request. request ≡ run_asked (rows_of (found_of matches.now))) }
     ensures allowed { IfOk result (λ request. IfSome request IsAllowed) }
@@ -364,7 +365,8 @@ fn run_in(alloc: Global, matches: &ArgMatches<'_>) -> Result<Option<Request>, No
     Ok(run_by(matches, orders))
 }
 
-/// Returns the request of `run` that `matches` holds, with `orders` as its orders.
+/// Returns the request of `run` that `matches` holds, with the orders `orders`, or `None` if a number doesn't fit 64
+/// bits.
 fn run_by(matches: &ArgMatches<'_>, orders: Sequence<CoreOrder>) -> Option<Request>
     ensures asked { result ≡ with_orders (rows_of (found_of matches.now)) orders }
     ensures allowed { IfSome result IsAllowed }
@@ -383,7 +385,8 @@ fn run_by(matches: &ArgMatches<'_>, orders: Sequence<CoreOrder>) -> Option<Reque
     }))
 }
 
-/// Returns the request that `matches` holds for its subcommand, or `None` if the program has no such subcommand.
+/// Returns the request that `matches` holds for its subcommand, or `None` if this program has no such subcommand or one
+/// of its numbers is out of range.
 fn request_in(alloc: Global, matches: &ArgMatches<'_>) -> Result<Option<Request>, NotAsked>
     ensures asked { IfOk result (λ request. request ≡ request_met (subcommand_rows_of matches.now)) }
     ensures allowed { IfOk result (λ request. IfSome request IsAllowed) }
@@ -404,7 +407,7 @@ fn request_in(alloc: Global, matches: &ArgMatches<'_>) -> Result<Option<Request>
     }
 }
 
-/// Parses the command-line arguments, of which the first is the program's own name.
+/// Parses the command-line arguments. The first must be the program's own name.
 ///
 /// Returns `Err` if the parser refuses the arguments, if an order is malformed, or if memory is refused.
 pub fn read_words<'a, S: AsStr>(alloc: Global, words: &'a [S]) -> Result<Request, NotAsked>

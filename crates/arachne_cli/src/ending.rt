@@ -13,11 +13,13 @@ use clap::error::ErrorKind;
 use std::fmt::Write as _;
 use std::io::{self, ErrorKind as StreamFault, Write};
 
-/// The exit status after success. `FAULT` is that after a fault, and `WORDS` that after wrong arguments.
+/// The exit status after success.
 pub const DONE: u8 = 0;
 
+/// The exit status after a fault.
 pub const FAULT: u8 = 1;
 
+/// The exit status after wrong arguments.
 pub const WORDS: u8 = 2;
 
 /// The size in bytes of a buffer that holds the error message of any fault.
@@ -36,7 +38,8 @@ pub fn finish<W: Write>(output: &mut W, text: &str) -> Result<(), Fault>
     }
 }
 
-/// Writes an error message to `faults`, and ignores errors of that writer. Returns the exit status 1. Takes no memory.
+/// Writes the error message `line` to `faults`, and ignores errors of that writer. Always returns the exit status 1.
+/// Allocates no memory.
 pub fn refuse<W: Write>(faults: &mut W, line: FaultLine) -> u8
     ensures status { result ≡ 1 }
     ensures line { AppendsFront (W.contents faults.old) (W.contents faults.new) (line_text line) }
@@ -48,8 +51,8 @@ pub fn refuse<W: Write>(faults: &mut W, line: FaultLine) -> u8
     FAULT
 }
 
-/// Writes to `faults` why the arguments of the process could not be read. Returns the exit status: 1 if memory was
-/// refused, otherwise 2.
+/// Writes the reason why the arguments of the process could not be read to `faults`. Returns the exit status: 1 if
+/// memory was refused, otherwise 2.
 pub fn refuse_words<W: Write>(faults: &mut W, error: &io::Error) -> u8
     ensures memory { error_kind error.now ≡ StreamFault.OutOfMemory
         → (result ≡ 1) × AppendsFront (W.contents faults.old) (W.contents faults.new) (fault_line Fault.Memory) }
@@ -62,7 +65,8 @@ pub fn refuse_words<W: Write>(faults: &mut W, error: &io::Error) -> u8
     WORDS
 }
 
-/// Writes to `faults` why the arguments make no request. Returns the exit status: 1 if memory was refused, otherwise 2.
+/// Writes `why`, the reason why the arguments are no valid request, to `faults`. Returns the exit status: 1 if memory
+/// was refused, otherwise 2.
 pub fn refuse_request<W: Write>(faults: &mut W, why: &NotAsked) -> u8
     ensures some { 1 ≤ result }
     ensures most { result ≤ 2 }

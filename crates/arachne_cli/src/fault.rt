@@ -12,14 +12,15 @@ use std::fmt;
 /// The exit status of the program is 2 for `NoOrder`, and 1 for any other fault.
 #[derive(Clone, Copy, Debug)]
 pub enum Fault {
-    /// The input is not the text of a program, or not the text of samples, because of this error.
+    /// The input is not the text of a program, or of samples. The field has the error and its position.
     InText(TextFault),
-    /// The input is the text of a program, but the checker has refused the program for this reason.
+    /// The input is the text of a program, but the checker has refused the program. The field has the reason.
     InProgram(CheckFault),
-    /// The sample on line `line` of the input (counted from 1) is the first that cannot be judged.
+    /// The sample on line `line` of the input (counted from 1) is the first for which the core policy can give no
+    /// advice.
     BadSample { line: usize },
-    /// An order of a run is malformed. `index` is the index of the first such argument among those for orders, counted
-    /// from 0.
+    /// An order to grant or release a core is malformed. `index` is the index of the first malformed one among the
+    /// orders, counted from 0.
     NoOrder { index: usize },
     /// Memory was refused.
     Memory,
@@ -126,7 +127,8 @@ pub struct FaultLine {
     pub place: Place,
 }
 
-/// The position of a fault: a byte of the text, a node of the program, a line of the samples, or an order.
+/// The position of a fault: the index of a byte, the number of a node of the program, the number of a line, or the
+/// index of an order.
 #[derive(Clone, Copy)]
 pub enum Place {
     Nowhere,

@@ -1,4 +1,5 @@
-//! The command `policy`, which judges samples of a load one after another.
+//! The command `policy`, which gives the core policy's advice (add or remove a core, or neither) for each sample of a
+//! load.
 
 ghost use Rattle.std.specs.Prelude.{◌≡◌, ◌≢◌, ◌≤◌, length, IfOk, IfErr, string_bytes};
 ghost use Rattle.arachne_policy.specs.declared.limits.TheConstants.{MAX_CORES};
@@ -12,23 +13,24 @@ use arachne_policy::{Estimator, Sample};
 use std::alloc::Global;
 use std::fmt::Write;
 
-/// The settings of the core policy. `up` is the load, in thousandths of a thread, above which it asks for a core.
-/// `hysteresis` is how far the utilisation must fall, in thousandths of a core, before it gives a core back. `max` is
-/// the greatest number of cores.
+/// The settings of the core policy, which advises to add or remove a core.
 #[derive(Clone, Copy, Debug, PartialEq, Eq)]
 pub struct Settings {
+    /// The load, in thousandths of a thread, above which the policy asks for a core.
     pub up: u64,
+    /// How far the utilisation must fall, in thousandths of a core, before the policy gives a core back.
     pub hysteresis: u64,
+    /// The greatest number of cores.
     pub max: u8,
 }
 
-/// Parses all samples in `text`, and then judges them. Returns the output of `policy`.
+/// Parses all samples in `text`, and returns the output of `policy`: a line of advice for each.
 pub fn judgement(alloc: Global, text: &[u8], settings: Settings) -> Result<String, Fault>
     requires within { length text.now ≤ input_limit }
     requires most { settings.max ≤ MAX_CORES }
     ensures answers { IfOk result (λ output. IsAnswer (SerialRequest.Policy settings) text.now (string_bytes output)) }
     ensures cause { IfErr result (λ fault. (fault ≢ Fault.Write) × IsCause (SerialRequest.Policy settings) text.now fault) }
-    // This error can't occur, since the text was already read.
+    // The error `Read` can't occur, since the input was already read.
     ensures not_read { IfErr result (λ fault. fault ≢ Fault.Read) }
 {
     let samples = match read_samples(alloc, text) {
@@ -38,9 +40,9 @@ pub fn judgement(alloc: Global, text: &[u8], settings: Settings) -> Result<Strin
     judge(alloc, settings, samples.as_slice())
 }
 
-/// Returns a line for each sample, with the core policy's advice. The advice also depends on the earlier samples.
+/// Returns a line for each of `samples`, with the core policy's advice, which also depends on the earlier samples.
 ///
-/// Returns `Err` at the first sample that cannot be judged, or if memory is refused.
+/// Returns `Err` at the first sample for which the policy can give no advice, or if memory is refused.
 fn judge(alloc: Global, settings: Settings, samples: &[Sample]) -> Result<String, Fault>
     requires { settings.max ≤ MAX_CORES }
     ensures good { IfOk result (λ text. AreGood settings samples.now) }

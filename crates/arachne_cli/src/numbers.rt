@@ -5,7 +5,7 @@ ghost use Rattle.arachne_cli.specs.Reading.{Gives};
 
 use arachne_lang::TextFault;
 
-/// The error of a parsing function, which carries the text from the error on.
+/// The error of a parsing function, with the rest of the text from the error on.
 #[derive(Clone, Copy)]
 pub enum ReadingStop<'t> {
     /// At the front of this text the grammar is broken, or the text ends too early.
@@ -32,7 +32,7 @@ impl<'t> ReadingStop<'t> {
     }
 }
 
-/// Parses `word` at the front of `text`. Returns the text after it.
+/// Parses `word` at the front of `text`. Returns the text after `word`.
 pub fn word<'t>(text: &'t [u8], word: &[u8]) -> Result<&'t [u8], ReadingStop<'t>>
     ensures { Gives (λ rest. rest.now) result (word_at word.now text.now) }
 {
@@ -54,9 +54,9 @@ pub fn number<'t>(text: &'t [u8], end: &[u8]) -> Result<(u64, &'t [u8]), Reading
     Ok((value, rest))
 }
 
-/// Parses the number at the front of `text`. Returns the number, and the text after it.
+/// Parses the number at the front of `text`. Returns the number, and the text after its digits.
 ///
-/// If the first digit is 0, it is the whole number.
+/// If the first digit is 0, the number has only this digit.
 pub fn figures(text: &[u8]) -> Result<(u64, &[u8]), ReadingStop<'_>>
     ensures { Gives (λ read. (read.0, read.1.now)) result (figures_at (2 ^ 64) text.now) }
 {
@@ -68,7 +68,7 @@ pub fn figures(text: &[u8]) -> Result<(u64, &[u8]), ReadingStop<'_>>
 }
 
 /// Parses the remaining digits of a number whose digits so far have the value `value`. Returns the number, and the text
-/// after it.
+/// after its digits.
 fn digits(value: u64, text: &[u8]) -> Result<(u64, &[u8]), ReadingStop<'_>>
     ensures { Gives (λ read. (read.0, read.1.now)) result (digits_at (2 ^ 64) value text.now) }
 {

@@ -1,4 +1,5 @@
-//! Parses an order to grant or release a core. For instance, `250:grant:3` means: after 250 slices, grant core 3.
+//! Parses an order to grant or release a core. For instance, `250:grant:3` means: grant core 3 after 250 slices
+//! (uninterrupted runs of a thread).
 
 ghost use Rattle.std.specs.Prelude.{◌≡◌, ◌↔◌, ℕ, List, Some, option_map};
 ghost use Rattle.arachne_policy.specs.declared.orders.CoreOrder.{CoreOrder as Order};

@@ -7,8 +7,8 @@ use arachne_lang::{Line, Meaning, Name};
 use std::alloc::{AllocError, Global};
 use std::fmt::Write;
 
-/// Returns the output of `eval` for the result `meaning` of a program. If `names` is true, it has a line for each
-/// thread.
+/// Returns the output of `eval` for `meaning`, the result of a program. If `names` is true, the output also has a line
+/// for each thread.
 pub fn render(alloc: Global, meaning: &Meaning, names: bool) -> Result<String, AllocError>
     ensures { IfOk result (λ text. string_bytes text ≡ output_of names meaning.now) }
 {
@@ -25,7 +25,8 @@ pub fn render(alloc: Global, meaning: &Meaning, names: bool) -> Result<String, A
     Ok(text)
 }
 
-/// Returns the lines for the value of a program, the sum of each ledger, and the number of threads.
+/// Returns the lines of output for a program's value, the sum of each ledger (a sum that the threads share), and the
+/// number of threads.
 pub fn summary(
     alloc: Global,
     value: u64,
@@ -41,7 +42,7 @@ pub fn summary(
     Ok(text)
 }
 
-/// Appends to `text` a line for each thread.
+/// Appends a line for each thread to `text`.
 fn write_threads(text: &mut String, threads: &[Line]) -> Result<(), AllocError>
     ensures { OnOk result (string_bytes text.new ≡ string_bytes text.old ++ flat_map thread_line threads.now) }
 {
@@ -51,7 +52,7 @@ fn write_threads(text: &mut String, threads: &[Line]) -> Result<(), AllocError>
     Ok(())
 }
 
-/// Appends to `text` a line for the sum of each ledger.
+/// Appends a line for the sum of each ledger to `text`.
 #[tactic(auto, using(crate::proofs::Lines::ledger_lines_append))]
 fn write_totals(text: &mut String, totals: &[u64]) -> Result<(), AllocError>
     ensures { OnOk result (string_bytes text.new ≡ string_bytes text.old ++ ledger_lines 0 totals.now) }
@@ -62,8 +63,8 @@ fn write_totals(text: &mut String, totals: &[u64]) -> Result<(), AllocError>
     Ok(())
 }
 
-/// Appends to `text` the line of the thread with the name `name`. `holds` has, for each lock, the number of times that
-/// the thread held the lock.
+/// Appends the line of the thread `name` to `text`. `holds` has, for each lock, the number of times that the thread
+/// held the lock.
 #[tactic(auto, using(crate::proofs::Lines::after_spaces_append))]
 pub fn write_thread(text: &mut String, name: &Name, holds: &[u64]) -> Result<(), AllocError>
     ensures { OnOk result (string_bytes text.new ≡ string_bytes text.old ++ thread_line (record { name = name.now; holds = holds.now })) }
@@ -77,7 +78,7 @@ pub fn write_thread(text: &mut String, name: &Name, holds: &[u64]) -> Result<(),
     Ok(())
 }
 
-/// Appends the name of a thread to `text`.
+/// Appends the name of a thread, such as `/0/2`, to `text`. The root's name is `/`.
 fn write_name(text: &mut String, name: &Name) -> Result<(), AllocError>
     ensures { OnOk result (string_bytes text.new ≡ string_bytes text.old ++ name_text name.now) }
 {

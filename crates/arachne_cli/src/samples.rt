@@ -13,7 +13,7 @@ use std::alloc::Global;
 
 /// Parses all samples in `text`, one per line. Returns `Err` with the first error of the text, or if memory is refused.
 ///
-/// Takes time linear in the length of the text, and memory only for the samples.
+/// Takes time linear in the length of `text`, and allocates memory only for the samples.
 pub fn read_samples(alloc: Global, text: &[u8]) -> Result<Vec<Sample>, TextFault>
     // If samples are returned, their numbers are in range, and `text` is their text.
     ensures accepted { IfOk result (λ samples. AreInRange samples.items × (samples_text samples.items ≡ text.now)) }
@@ -40,7 +40,7 @@ pub fn read_samples(alloc: Global, text: &[u8]) -> Result<Vec<Sample>, TextFault
     Ok(samples)
 }
 
-/// Parses one line. Returns its sample, and the text after the line.
+/// Parses the line at the front of `text`. Returns that line's sample, and the text after the line.
 #[tactic(auto, unfolding(crate::specs::Reading::sample_at))]
 fn line(text: &[u8]) -> Result<(Sample, &[u8]), ReadingStop<'_>>
     ensures { Gives (λ read. (read.0, read.1.now)) result (sample_at text.now) }

@@ -1,4 +1,4 @@
-//! The commands `eval`, `check` and `policy` as functions, and the program that has only these.
+//! The commands `eval`, `check` and `policy` as functions, and the program that has only these three.
 ghost use Rattle.std.specs.Prelude.{◌≡◌, ◌≢◌, ◌≤◌, ◌+◌, Bool, List, ℕ, length, map, IfOk, IfErr, IfSome, None, true, string_bytes};
 ghost use Rattle.std.specs.Io.KnownBytes.{Consumes, Keeps};
 ghost use Rattle.arachne_lang.specs.Program.{source_of};
@@ -74,11 +74,11 @@ pub fn checked_program(alloc: Global, text: &[u8]) -> Result<Program, Fault>
     Ok(program)
 }
 
-/// Runs the command that the arguments `words` name, unless it is `run`. Returns the exit status.
+/// Runs the command that the arguments `words` ask for, unless that is `run`. Returns the exit status.
 ///
-/// The first argument must be the program's own name. The status is 0 after success. It is 1 after a fault, whose
-/// message is then written to `faults`. It is 2 if the arguments were refused or ask for `run`. The output is complete
-/// before its first byte is written.
+/// The first argument must be the program's own name. The status is 0 after success. The status is 1 after a fault,
+/// whose message is then written to `faults`. The status is 2 if the arguments were refused or ask for `run`. Writes no
+/// byte to `output` before the whole output is known.
 pub fn drive<S: AsStr, I: Read, W: Write, E: Write>(
     alloc: Global,
     words: &[S],
@@ -114,7 +114,7 @@ pub fn drive<S: AsStr, I: Read, W: Write, E: Write>(
     }
 }
 
-/// Writes to `faults` that this program has no command `run`. Returns the exit status 2.
+/// Writes to `faults` that this program has no command `run`. Always returns the exit status 2.
 fn refuse_run<W: Write>(faults: &mut W) -> u8
     ensures { result ≡ 2 }
 {

@@ -1,4 +1,4 @@
-//! Reads all of an input of limited length, and writes all of some bytes.
+//! Reads an input of limited length to its end, and writes byte slices in full.
 ghost use Rattle.std.specs.Prelude.{◌≡◌, ◌≢◌, ◌≤◌, ◌+◌, List, ℕ, length, OnOk, OnErr, IfOk, IfErr, IfSome};
 ghost use Rattle.std.specs.Io.KnownBytes.{Appends, Consumes};
 ghost use Rattle.arachne_cli.specs.declared.command_line.SerialRequest.{SerialRequest};
@@ -15,7 +15,7 @@ pub const INPUT_LIMIT: usize = 33_554_432;
 /// The greatest number of bytes that one read asks for.
 const CHUNK: usize = 65_536;
 
-/// Reads all of `input`. Consumes at most one byte more than `INPUT_LIMIT`.
+/// Reads `input` to its end. Reads at most `INPUT_LIMIT + 1` bytes.
 ///
 /// Returns `Err` at the first error of the reader, if memory is refused, or if the input is longer than `INPUT_LIMIT`.
 pub fn read_input<R: Read>(alloc: Global, input: &mut R) -> Result<Vec<u8>, Fault>
@@ -44,8 +44,8 @@ pub fn read_input<R: Read>(alloc: Global, input: &mut R) -> Result<Vec<u8>, Faul
 
 /// Writes all of `bytes` to `writer`.
 ///
-/// Returns `Err` at the first error of the writer, or if a write takes no byte. Then only a prefix of `bytes` was
-/// written.
+/// Returns `Err` at the first error of the writer, or if a call of the writer's `write` accepts no byte. In both cases
+/// only a prefix of `bytes` was written.
 pub fn write_bytes<W: Write>(writer: &mut W, bytes: &[u8]) -> Result<(), Fault>
     ensures ok { OnOk result (Appends (W.contents writer.old) (W.contents writer.new) bytes.now) }
     ensures err { IfErr result (λ fault. fault ≡ Fault.Write) }

@@ -14,7 +14,7 @@ use std::alloc::AllocError;
 pub enum Fault {
     /// A fault that `eval`, `check` or `policy` can have too.
     Cli(CliFault),
-    /// The run was refused, or it ended without a report.
+    /// The command `run` refused to start, or its run ended without a report.
     InRun(RunFault),
 }
 

@@ -21,8 +21,8 @@ use std::sync::Wait;
 use std::thread::Threads;
 use std::time::Clock;
 
-/// The exit status of the program. Only functions of this module make a value, so a `main` that returns one must have
-/// called them.
+/// The exit status of the program. Only this module can create a `Status`, so a `main` that returns one must have
+/// called a function of this module.
 pub struct Status {
     code: u8,
 }
@@ -48,7 +48,8 @@ pub fn run<R: Threads + Wait + Clock + Sync + Env + Alloc<A = Global> + Input + 
     }
 }
 
-/// Runs `arachne` with these arguments and streams. Status and contract are those of `drive`.
+/// Runs `arachne` with the arguments `words` on these streams. Returns the exit status of `drive`, under the same
+/// contract.
 pub fn run_on<R: Threads + Wait + Clock + Sync, S: AsStr, I: Read, W: Write, E: Write>(
     rt: &R,
     alloc: Global,
@@ -74,7 +75,8 @@ pub fn run_on<R: Threads + Wait + Clock + Sync, S: AsStr, I: Read, W: Write, E: 
     }
 }
 
-/// Ends the program when its arguments could not be read. Status and contract are those of `refuse_words`.
+/// Reports that the program's arguments could not be read. Returns the exit status of `refuse_words`, under the same
+/// contract.
 pub fn run_without_words<E: Write>(error: &io::Error, faults: &mut E) -> Status
     ensures memory { error_kind error.now ≡ ErrorKind.OutOfMemory
         → (result.code ≡ 1) × AppendsFront (E.contents faults.old) (E.contents faults.new) (fault_line Fault.Memory) }

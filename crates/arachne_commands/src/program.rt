@@ -60,13 +60,14 @@ fn run_of<R: Threads + Wait + Clock + Sync>(
     Ok(output)
 }
 
-/// Runs the command that the arguments `words` name, on these streams. Returns the exit status.
+/// Runs the command that the arguments `words` ask for, on these streams. Returns the exit status.
 ///
-/// The first argument must be the program's own name. The status is 0 after success. It is 1 after a fault, whose
-/// message is then written to `faults`. It is 2 if an order of a run is malformed, with that fault's message, or if the
-/// arguments were refused, with the text of `clap`. The output is complete before its first byte is written.
+/// The first argument must be the program's own name. The status is 0 after success. The status is 1 after a fault,
+/// whose message is then written to `faults`. The status is 2 if an order to grant or release a core is malformed, or
+/// if the parser refuses the arguments; then the fault's message, or the parser's, is written to `faults`. Writes no
+/// byte to `output` before the whole output is known.
 ///
-/// The command `run` starts kernel threads and may block.
+/// The command `run` starts kernel threads, and this call can then block.
 pub fn drive<R: Threads + Wait + Clock + Sync, S: AsStr, I: Read, W: Write, E: Write>(
     rt: &R,
     alloc: Global,

@@ -10,7 +10,7 @@ use arachne_machine::ThreadLines;
 use arachne_run::Report;
 use std::alloc::{AllocError, Global};
 
-/// Returns the output of `run` for `report`. If `names` is true, it has a line for each thread.
+/// Returns the output of `run` for `report`. If `names` is true, the output also has a line for each thread.
 pub fn render_report(alloc: Global, report: &Report, names: bool) -> Result<String, AllocError>
     ensures { IfOk result (λ text. string_bytes text ≡ output_of names (meaning_in report.now)) }
 {
@@ -22,7 +22,7 @@ pub fn render_report(alloc: Global, report: &Report, names: bool) -> Result<Stri
     Ok(text)
 }
 
-/// Appends to `text` a line for each thread.
+/// Appends a line for each thread to `text`.
 fn write_threads(text: &mut String, threads: &ThreadLines) -> Result<(), AllocError>
     ensures { OnOk result (string_bytes text.new ≡ string_bytes text.old ++ flat_map thread_line (map named_holds threads.now)) }
 {

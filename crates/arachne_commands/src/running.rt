@@ -18,7 +18,8 @@ use std::sync::Wait;
 use std::thread::Threads;
 use std::time::Clock;
 
-/// Runs `program` with these settings, with a table of atomic words that all workers share.
+/// Runs `program` with the settings `settings`, on one worker (a kernel thread) for each core. All workers share a
+/// table of atomic words.
 pub fn run_program<'p, R: Threads + Wait + Clock + Sync>(
     rt: &R,
     alloc: Global,
@@ -37,7 +38,7 @@ pub fn run_program<'p, R: Threads + Wait + Clock + Sync>(
     )
 }
 
-/// Returns the setup of a run with these settings, and a random generator for each core.
+/// Returns the parameters of a run with the settings `settings`, and a random generator for each core.
 fn set_up(
     alloc: Global,
     settings: RunSettings,
@@ -62,7 +63,7 @@ fn set_up(
     Ok((setup, choosers))
 }
 
-/// Returns the number of random generators to make for `cores` cores: one for each, or none if there are too many
+/// Returns the number of random generators to create for `cores` cores: one for each, or none if there are too many
 /// cores.
 ///
 /// If there are too many cores, the run fails before it needs a generator.

@@ -1,4 +1,4 @@
-//! Tests of the program over readers, writers, memory and words that the tests make.
+//! Tests of the program over readers, writers, memory and arguments (*words*) that the tests make.
 use arachne_commands::{refuse_words, run_without_words};
 use std::alloc::Global;
 use std::io::{self, Eprint, ErrorKind};
@@ -10,13 +10,14 @@ mod shortage;
 mod spelling;
 mod streams;
 
-/// The error with which reading the words fails, the exit code, and the beginning of the printed text.
+/// Tests of arguments that can't be read. Fields: the error with which reading them fails, the exit code, and the
+/// beginning of the printed text.
 const NO_WORDS: &[(ErrorKind, u8, &str)] = &[
     (ErrorKind::OutOfMemory, 1, "fault 30\n"),
     (ErrorKind::InvalidData, 2, "error: "),
 ];
 
-/// Checks the exit code and the printed text if the words cannot be read.
+/// Checks the exit code and the printed text of a program whose arguments can't be read.
 ///
 /// `refuse_words` returns the code and writes the text, and the report of `run_without_words` has the same code.
 fn assert_without_words<R: Abort + Eprint>(

@@ -1,30 +1,30 @@
-//! The results of a table's calls. The number in a result is the value of the atomic word that the call read, by which
-//! contracts show that the result is right.
+//! The results of a table's calls. If a result has a number, that is the value that the call read from an atomic word;
+//! contracts show by it that the result is right.
 ghost use Rattle.std.specs.Prelude.{◌≡◌};
 ghost use Rattle.arachne_contexts.specs.Answers.{settled_claim, settled_wake};
 
 use crate::held::Held;
 
-/// The result of a claim: one of the core's thread slots, here a *place*, or the reason why none was claimed.
+/// The result of a claim: one of the core's thread slots, in the code a *place*, or the reason why none was claimed.
 #[derive(Drop)]
 pub enum Claimed<C> {
-    /// The caller has claimed this place. It must put a thread there or give the place back.
+    /// The caller has claimed this thread slot. It must put a thread there or give the slot back.
     Place(C),
-    /// The core has no free place, or belongs to one thread only, or (for a claim of the whole core) is not empty. The
-    /// number is the core's occupancy word (a bit for each occupied place).
+    /// The core has no free thread slot, or belongs to one thread only, or (for a claim of the whole core) is not
+    /// empty. The number is the core's occupancy word (a bit for each occupied slot).
     Full(u64),
     /// The core is closed, so it takes no threads. The number is the core's occupancy word (a bit for each occupied
-    /// place).
+    /// thread slot).
     Closed(u64),
-    /// The core's occupancy word (a bit for each occupied place) changed between the call's read and its claim. The
-    /// number is the word's value at the claim.
+    /// The core's occupancy word (a bit for each occupied thread slot) changed between the call's read and its claim.
+    /// The number is the word's value at the claim.
     Lost(u64),
 }
 
 impl<C> Claimed<C> {
-    /// Returns `Some` with the claimed place, or `Some(None)` if the core has no place for the claim.
+    /// Returns `Some` with the claimed thread slot, or `Some(None)` if the core had none for this claim.
     ///
-    /// Returns `None` if the claim was lost to another thread and must be repeated.
+    /// If the claim was lost to another thread, returns `None`; the caller may try again.
     #[inline(always)]
     pub fn settled(self) -> Option<Option<C>>
         ensures { result ≡ settled_claim self }
@@ -42,20 +42,19 @@ impl<C> Claimed<C> {
 pub enum Taken<T, H> {
     /// The caller's seat holds the thread now, and may run it.
     Run(Held<T, H>),
-    /// There is no ready thread at the place. The number is the mark word (the packed state) of the context at that
-    /// place.
+    /// There is no ready thread at this thread slot. The number is the mark word (the packed state) of the context
+    /// there.
     NotReady(u64),
     /// The context's mark word (its packed state) changed between the call's read and its take. The number is the
     /// word's value at the take.
     Lost(u64),
 }
 
-/// The result of putting a thread back: it is in the state that was asked for, or ready.
+/// The result of putting a thread back: the thread is in the state that the caller asked for, or ready.
 #[derive(Clone, Copy, Debug, PartialEq, Eq)]
 pub enum Rested {
     AsAsked,
-    /// The thread is ready, although the caller asked for it to be blocked, because it was woken while a worker held
-    /// it.
+    /// The thread was woken while a worker held it. So it is ready, although the caller asked for it to be blocked.
     WokenMeanwhile,
 }
 
@@ -65,8 +64,8 @@ pub enum Woken {
     /// The thread was woken. If it was blocked, it is ready now; if a worker holds it, it will be ready when that
     /// worker puts it back.
     Woken,
-    /// The thread is ready already, or a worker holds it and it was already woken since it was taken. The number is the
-    /// mark word (the packed state) of the thread's context.
+    /// The thread needs no wake: it is ready, or a worker holds it and it was already woken since the worker took it.
+    /// The number is the mark word (the packed state) of the thread's context.
     Already(u64),
     /// There is no thread with this id: it has ended, or there never was one.
     Gone,
@@ -94,16 +93,16 @@ impl Woken {
 #[derive(Clone, Copy, Debug, PartialEq, Eq)]
 pub enum Moved {
     Moved,
-    /// The target core has no free place, is closed, or belongs to one thread only. The number is the core's occupancy
-    /// word (a bit for each occupied place).
+    /// The target core has no free thread slot, is closed, or belongs to one thread only. The number is the core's
+    /// occupancy word (a bit for each occupied slot).
     NoRoom(u64),
-    /// There is no thread at the place.
+    /// There is no thread at the thread slot.
     Unposted,
     /// A worker holds the thread.
     Running,
     /// The thread has its core for itself.
     Alone,
-    /// The place, the target core or the thread changed during the call. The number is the new value of the word that
+    /// The thread, its slot or the target core changed during the call. The number is the new value of the word that
     /// changed.
     Lost(u64),
 }

@@ -18,17 +18,18 @@ use std::sync::Wait;
 /// A context table for user threads whose values are of type `T`.
 ///
 /// A *context* is the record of one thread, a *place* one of a core's thread slots, and a *seat* one kernel thread's
-/// right to call the table. Each claimed place must be used through the seat that claimed it: by putting a thread
-/// there, or by giving the place back. Each thread that a seat has taken must be put back or ended through that seat.
+/// right to call the table. If a seat has claimed a place, the caller must, through that seat, put a thread there or
+/// give the place back. If a seat has taken a thread, the caller must put the thread back or end it through that seat.
 pub trait Contexts<T: Tagged>: Seats {
-    /// A place that a seat has claimed (reserved for a thread).
+    /// A place (a thread slot) that a seat (a kernel thread's right to call the table) has claimed for a thread.
     type Claim: Placed + Drop;
 
-    /// The handle of a thread that a seat holds, by which the table knows the thread.
+    /// The handle of a thread that a seat (a kernel thread's right to call the table) holds, by which the table knows
+    /// the thread.
     type Hold: Identified + Drop;
 
-    /// True if the list has the places that the seat has claimed and not used, and the threads that it holds, in any
-    /// order.
+    /// True if the list consists of the places that the seat has claimed and not used yet, and the threads that it
+    /// holds, in any order.
     ghost has: { Self → Self.Seat → List (Out Self.Claim Self.Hold) → Type 0 };
 
     /// True if, by the seat's record, each thread that came into the table has ended or is in the list.
@@ -37,13 +38,14 @@ pub trait Contexts<T: Tagged>: Seats {
     /// always true.
     ghost settles: { Self → Self.Seat → List (ThreadId × ℕ) → Type 0 };
 
-    /// Returns the occupancy word of a core (a bit for each occupied place), read without a seat.
+    /// Returns the occupancy word of a core (a bit for each occupied thread slot), read without a seat (a kernel
+    /// thread's right to call the table).
     ///
-    /// The contract promises nothing about its value: it only helps to choose a core.
+    /// The contract promises nothing about the word, which only helps to choose a core.
     fn glance<R: Wait>(&self, rt: &R, core: u8) -> u64
         requires core { core < Self.core_count self.now };
 
-    /// Returns the occupancy word of a core: a bit for each occupied place.
+    /// Returns the occupancy word of a core, with a bit for each occupied thread slot.
     fn look<R: Wait>(&self, rt: &R, seat: &mut Self::Seat, core: u8) -> u64
         requires seat { Self.sits self.now seat.old }
         requires core { core < Self.core_count self.now }
@@ -52,7 +54,7 @@ pub trait Contexts<T: Tagged>: Seats {
         ensures out { KeepsOut (has self.now) seat.old seat.new }
         ensures word { IsOccupancyWord result };
 
-    /// Returns the mark word of a context: its packed state, place and generation.
+    /// Returns the mark word of a context (the record of a thread): its packed state, thread slot and generation.
     fn look_mark<R: Wait>(&self, rt: &R, seat: &mut Self::Seat, context: u32) -> u64
         requires seat { Self.sits self.now seat.old }
         requires context { context < Self.core_count self.now * Self.slot_count self.now }
@@ -61,9 +63,9 @@ pub trait Contexts<T: Tagged>: Seats {
         ensures out { KeepsOut (has self.now) seat.old seat.new }
         ensures word { IsMarkWord CORE_BITS result };
 
-    /// Tries once to claim the lowest free place of a core.
+    /// Tries once to claim the lowest free thread slot of a core.
     ///
-    /// Returns `Err`, and changes nothing, if memory for the thread that will be put there is refused.
+    /// If memory for the thread that will be put there is refused, returns `Err`, and changes nothing.
     fn claim<R: Wait>(
         &self,
         rt: &R,
@@ -79,7 +81,7 @@ pub trait Contexts<T: Tagged>: Seats {
 
     /// Tries once to claim a whole empty core for one thread, at index 0.
     ///
-    /// Returns `Err`, and changes nothing, if memory for the thread that will be put there is refused.
+    /// If memory for the thread that will be put there is refused, returns `Err`, and changes nothing.
     fn claim_alone<R: Wait>(
         &self,
         rt: &R,
@@ -93,9 +95,9 @@ pub trait Contexts<T: Tagged>: Seats {
         ensures out { GetsClaim (has self.now) seat.old seat.new result }
         ensures answer { IfOk result (ClaimsWhole Self.Claim.place_of core) };
 
-    /// Frees a claimed place into which no thread was put.
+    /// Frees a claimed thread slot into which no thread was put.
     ///
-    /// Returns the claim as an error if the table doesn't know it.
+    /// If the table doesn't know the claim, returns it as an error.
     fn give_back<R: Wait>(
         &self,
         rt: &R,
@@ -109,10 +111,10 @@ pub trait Contexts<T: Tagged>: Seats {
         ensures out { Spends (has self.now) (a_claim claim) seat.old seat.new result }
         ensures handed_back { IfErr result (λ back. back ≡ claim) };
 
-    /// Puts a thread with this value, ready to run, into a claimed place. Returns the thread's id.
+    /// Puts a thread with this value, ready to run, into the claimed thread slot. Returns the thread's id.
     ///
-    /// The thread is ready even if its core was closed after the claim. Returns the claim and the value as an error if
-    /// the table doesn't know the claim.
+    /// The thread is ready even if its core was closed after the claim. If the table doesn't know the claim, returns
+    /// the claim and the value as an error.
     fn post<R: Wait>(
         &self,
         rt: &R,
@@ -145,7 +147,8 @@ pub trait Contexts<T: Tagged>: Seats {
 
     /// Puts a thread that the seat holds back into the table, ready or blocked.
     ///
-    /// Returns the thread as an error if the table doesn't know it, or if its tag has changed.
+    /// If the table doesn't know the thread, or if its tag (the number by which the table knows it) has changed,
+    /// returns the thread as an error.
     fn put_back<R: Wait>(
         &self,
         rt: &R,
@@ -163,8 +166,9 @@ pub trait Contexts<T: Tagged>: Seats {
 
     /// Ends a thread that the seat holds, and returns its value.
     ///
-    /// Frees the thread's place, unless its context has reached its last generation (the greatest count of threads).
-    /// Returns the thread as an error if the table doesn't know it, or if its tag has changed.
+    /// Frees the thread's slot on its core, unless its context (the record of a user thread) has reached its last
+    /// generation (the greatest count of threads). If the table doesn't know the thread, or if its tag (the number by
+    /// which the table knows it) has changed, returns the thread as an error.
     fn finish<R: Wait>(
         &self,
         rt: &R,
@@ -179,7 +183,7 @@ pub trait Contexts<T: Tagged>: Seats {
         ensures value { IfOk result (λ value. value ≡ held.value) }
         ensures handed_back { IfErr result (λ back. back ≡ held) };
 
-    /// Wakes the thread with this id. Any id may be passed.
+    /// Wakes the thread with this id. The caller may pass any id.
     fn wake<R: Wait>(&self, rt: &R, seat: &mut Self::Seat, id: ThreadId) -> Woken
         requires seat { Self.sits self.now seat.old }
         ensures seat { Self.sits self.now seat.new }
@@ -187,8 +191,8 @@ pub trait Contexts<T: Tagged>: Seats {
         ensures out { KeepsOut (has self.now) seat.old seat.new }
         ensures answer { WakesAs id result };
 
-    /// Closes a core, so that no place can be claimed on it. Returns the core's occupancy word (a bit for each occupied
-    /// place) as it was before the call.
+    /// Closes a core, so that no thread slot can be claimed on it. Returns the core's occupancy word (a bit for each
+    /// occupied slot) as it was before the call.
     fn close_core<R: Wait>(&self, rt: &R, seat: &mut Self::Seat, core: u8) -> u64
         requires seat { Self.sits self.now seat.old }
         requires core { core < Self.core_count self.now }
@@ -197,7 +201,7 @@ pub trait Contexts<T: Tagged>: Seats {
         ensures out { KeepsOut (has self.now) seat.old seat.new }
         ensures word { IsOccupancyWord result };
 
-    /// Opens a core. Returns the core's occupancy word (a bit for each occupied place) as it was before the call.
+    /// Opens a core. Returns the core's occupancy word (a bit for each occupied thread slot) as it was before the call.
     fn open_core<R: Wait>(&self, rt: &R, seat: &mut Self::Seat, core: u8) -> u64
         requires seat { Self.sits self.now seat.old }
         requires core { core < Self.core_count self.now }
@@ -206,7 +210,7 @@ pub trait Contexts<T: Tagged>: Seats {
         ensures out { KeepsOut (has self.now) seat.old seat.new }
         ensures word { IsOccupancyWord result };
 
-    /// Returns whether a core is closed and none of its places is occupied.
+    /// Returns whether a core is closed and none of its thread slots is occupied.
     fn is_drained<R: Wait>(&self, rt: &R, seat: &mut Self::Seat, core: u8) -> bool
         requires seat { Self.sits self.now seat.old }
         requires core { core < Self.core_count self.now }
@@ -214,7 +218,7 @@ pub trait Contexts<T: Tagged>: Seats {
         ensures weight { Self.weight seat.new ≡ Self.weight seat.old }
         ensures out { KeepsOut (has self.now) seat.old seat.new };
 
-    /// Moves the thread at `place` to the lowest free index of the core `to`, if no worker holds the thread.
+    /// Moves the thread at `place` to the lowest free thread slot of the core `to`, if no worker holds the thread.
     fn move_one<R: Wait>(&self, rt: &R, seat: &mut Self::Seat, place: Place, to: u8) -> Moved
         requires seat { Self.sits self.now seat.old }
         requires core { place.core < Self.core_count self.now }
@@ -226,11 +230,11 @@ pub trait Contexts<T: Tagged>: Seats {
         ensures out { KeepsOut (has self.now) seat.old seat.new }
         ensures answer { MovesAs (Self.slot_count self.now) result };
 
-    /// Closes the table. Returns the threads that came into the table and were not finished, each once, in the order of
-    /// their contexts.
+    /// Closes the table. Returns the threads that came into the table and have not ended, each once, in the order of
+    /// their contexts (the records of threads).
     ///
-    /// The seat must have the whole weight (no other seat is in use) and no unused claim, and must hold no thread. If
-    /// memory is refused, returns the table and the seat as an error.
+    /// The caller must pass a seat that has the whole weight (no other seat is in use) and no unused claim, and holds
+    /// no thread. If memory is refused, returns the table and the seat as an error.
     fn close<R: Wait>(
         self,
         rt: &R,

@@ -1,15 +1,15 @@
-//! A thread that a seat holds, and the traits by which claims and handles tell their place and thread id.
+//! A thread that a seat holds, and the traits by which a claim or a handle returns its place and its thread's id.
 ghost use Rattle.std.specs.Prelude.{◌≡◌};
 ghost use Rattle.arachne_core.specs.declared.place.Place.{Place};
 ghost use Rattle.arachne_core.specs.declared.thread_id.ThreadId.{ThreadId};
 
 use arachne_core::{Place, ThreadId};
 
-/// A claim or a handle, which belongs to one place of a table: one of a core's thread slots.
+/// A claim of a place (one of a core's thread slots), or the handle of a thread at a place.
 pub trait Placed {
     ghost place_of: { Self → Place };
 
-    /// Returns the place: the core and the index on it.
+    /// Returns the thread slot: the core's number, and the slot's index on the core.
     fn place(&self) -> Place
         ensures { result ≡ place_of self.now };
 }
@@ -23,13 +23,14 @@ pub trait Identified: Placed {
         ensures { result ≡ id_of self.now };
 }
 
-/// A thread that a seat has taken: its value, and the handle by which the table knows it.
+/// A thread that a seat (a kernel thread's right to call the table) has taken: its value, and the handle by which the
+/// table knows it.
 ///
-/// The value may be changed, but not its tag (a number by which the table knows the thread).
+/// The caller may change the value, but not its tag (a number by which the table knows the thread).
 #[derive(Drop)]
 pub struct Held<T, H> {
     pub value: T,
-    /// The handle of the thread. The caller must keep it together with the value with which it was taken.
+    /// The handle of the thread. The caller must keep it together with the value with which the thread was taken.
     pub hold: H,
 }
 
@@ -41,7 +42,7 @@ impl<T, H: Identified> Held<T, H> {
         self.hold.id()
     }
 
-    /// Returns the place from which the thread was taken.
+    /// Returns the thread slot from which the thread was taken.
     pub fn place(&self) -> Place
         ensures { result ≡ H.place_of self.now.hold }
     {

@@ -6,20 +6,20 @@ use arachne_core::{CORES, LAST_GENERATION, SLOTS};
 use std::alloc::{AllocError, Global};
 use std::sync::Wait;
 
-/// A table with seats: rights to call it, one for each kernel thread. Each call on the table needs a seat.
+/// A table that is called through seats: each is the right of one kernel thread to call it.
 ///
 /// The first seat has the whole weight. A split halves a seat's weight and a join adds two, so a seat with the whole
-/// weight is the only one. A seat must only be used with the table that it came from.
+/// weight is the only one. A seat can only be used with the table that created it.
 pub trait Seats {
     type Seat: Drop;
 
     /// True if the seat belongs to this table.
     ghost sits: { Self → Self.Seat → Type 0 };
 
-    /// True if the seat has no unused claim and holds no thread.
+    /// True if the seat has no unused claim of a thread slot and holds no thread.
     ghost idle: { Self → Self.Seat → Type 0 };
 
-    /// The seat's part of the whole weight.
+    /// The seat's weight: its part of the whole weight, which the first seat had.
     ghost weight: { Self.Seat → ℕ };
 
     /// The number of cores of the table.
@@ -30,7 +30,7 @@ pub trait Seats {
 
     /// Creates a table of `cores` cores with `slots` thread slots each, and its first seat, which has the whole weight.
     ///
-    /// All contexts are free, in generation `first_generation`.
+    /// All contexts (the records of threads) are free, in generation `first_generation`.
     fn new(
         alloc: Global,
         cores: u8,
@@ -50,7 +50,8 @@ pub trait Seats {
 
     /// Splits a seat into two, each with half of its weight, rounded up for the first.
     ///
-    /// If the weight is 1 or 0, both seats get weight 0. The seat must have no unused claim, and must hold no thread.
+    /// If the weight is 1 or 0, both seats get weight 0. The caller must pass a seat that has no unused claim and holds
+    /// no thread.
     fn split<R: Wait>(&self, rt: &R, seat: Self::Seat) -> (Self::Seat, Self::Seat)
         requires seat { Self.sits self.now seat }
         requires idle { Self.idle self.now seat }
@@ -61,9 +62,9 @@ pub trait Seats {
         ensures first_weight { Self.weight result.0 ≡ first_part (Self.weight seat) }
         ensures second_weight { Self.weight result.1 ≡ second_part (Self.weight seat) };
 
-    /// Joins two seats into one, whose weight is the sum of theirs, but at most the whole.
+    /// Joins two seats into one, whose weight is the sum of their weights, but at most the whole.
     ///
-    /// Both seats must have no unused claim, and must hold no thread.
+    /// The caller must pass seats that have no unused claim and hold no thread.
     fn join_seats<R: Wait>(&self, rt: &R, seat: Self::Seat, other: Self::Seat) -> Self::Seat
         requires seat { Self.sits self.now seat }
         requires other { Self.sits self.now other }
@@ -73,10 +74,11 @@ pub trait Seats {
         ensures idle { Self.idle self.now result }
         ensures weight { Self.weight result ≡ joined (Self.weight seat) (Self.weight other) };
 
-    /// Returns whether `seat` has the whole weight: all other seats were joined into it.
+    /// Returns whether `seat` has the whole weight, which means that all other seats were joined into it.
     fn is_whole(&self, seat: &Self::Seat) -> bool
         ensures { IsTrue result ↔ (Self.weight seat.now ≡ whole) };
 
-    /// Returns how many unused claims and held threads the seat has together.
+    /// Returns how many things the seat must still give up: its unused claims of thread slots and the threads that it
+    /// holds.
     fn out(&self, seat: &Self::Seat) -> u32;
 }

@@ -1,4 +1,4 @@
-//! The trait of the values that a context table stores for its threads: each value has a tag, a number.
+//! The trait of the values that a context table stores for its threads: each value has a number, its tag.
 ghost use Rattle.std.specs.Prelude.{◌≡◌, ℕ};
 
 /// A value with a tag, a number by which the table knows the value's thread.

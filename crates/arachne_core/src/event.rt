@@ -15,7 +15,8 @@ use std::fmt;
 /// `Still`.
 #[derive(Clone, Copy, Debug, PartialEq, Eq)]
 pub enum Event {
-    /// The seat `carrier` claims (reserves) a free context on a core that is neither closed nor exclusive.
+    /// The seat `carrier` claims (reserves) a free context on a core that is neither closed nor exclusive to one
+    /// thread.
     Claim {
         carrier: u32,
         context: u32,
@@ -26,7 +27,8 @@ pub enum Event {
         carrier: u32,
         context: u32,
     },
-    /// The seat `carrier` puts the thread with this tag, ready to run, into a context that the seat has claimed.
+    /// The seat `carrier` puts the thread with the number `tag`, ready to run, into a context that the seat has
+    /// claimed.
     Post {
         carrier: u32,
         context: u32,
@@ -47,8 +49,8 @@ pub enum Event {
     Wake {
         id: ThreadId,
     },
-    /// The seat `carrier` ends the thread of this context, which the seat holds. The thread's slot on the core stays
-    /// reserved for the seat.
+    /// The seat `carrier` ends the thread of this context, which the seat holds. The seat then has a claim of the
+    /// thread's slot on the core.
     Retire {
         carrier: u32,
         context: u32,
@@ -67,7 +69,7 @@ pub enum Event {
         core: u8,
     },
     /// The seat `carrier` moves the thread in context `from`, which no seat holds, to another core: to the slot of
-    /// context `to`, which the seat has claimed there. The two contexts swap slots.
+    /// context `to`, which the seat has claimed there. The two contexts then have each other's slots.
     Move {
         carrier: u32,
         from: u32,

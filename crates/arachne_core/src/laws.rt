@@ -13,38 +13,40 @@ ghost use Rattle.arachne_core.specs.Run.{IsOpening, IsRun, after_all, SharesNoth
 
 use crate::layout::{CORE_BITS, CORES, GENERATION_BITS, LAST_GENERATION, MASK_BITS, SLOTS};
 
-/// The state of a new table meets the invariant `OwnedOnce`: each context has a slot of its own on a core, and no two
-/// threads share a context or a slot.
+/// The state of a new table meets the invariant `OwnedOnce`: each context (the record of a user thread) has a slot of
+/// its own on a core, and no two threads share a context or a slot.
 pub fn opening_is_owned_once()
     ensures { (w : World) (first : ℕ) → IsOpening w first → OwnedOnce w }
 {}
 
-/// Each event that is allowed keeps the invariant `OwnedOnce`: no two threads share a context or a slot.
+/// Each event that is allowed keeps the invariant `OwnedOnce`: no two threads share a context (the record of a user
+/// thread) or a slot.
 pub fn events_keep_owned_once()
     ensures { (w : World) (e : Event) → OwnedOnce w → Allowed w e → OwnedOnce (after w e) }
 {}
 
-/// Any sequence of allowed events keeps the invariant `OwnedOnce`: no two threads share a context or a slot.
+/// Any sequence of allowed events keeps the invariant `OwnedOnce`: no two threads share a context (the record of a user
+/// thread) or a slot.
 pub fn runs_keep_owned_once()
     ensures { (w : World) (es : List Event) → OwnedOnce w → IsRun w es → OwnedOnce (after_all w es) }
 {}
 
-/// If the state meets `OwnedOnce`, no two live threads share a context or a slot, and no two seats hold the same
-/// thread.
+/// If the state meets `OwnedOnce`, no two live threads share a context (the record of a user thread) or a slot, and no
+/// two seats (rights to call) hold the same thread.
 pub fn owned_once_shares_nothing()
     ensures { (w : World) → OwnedOnce w → SharesNothing w }
 {}
 
-/// A seat that holds a thread goes on holding it, whatever events follow, until that seat puts the thread back or ends
-/// it.
+/// A seat (a kernel thread's right to call the table) that holds a thread holds it until that same seat puts the thread
+/// back or ends it, whatever events follow.
 ///
-/// So no two seats hold a thread at the same time: before the thread of a context is taken again, the seat that held
-/// the thread has put it back or ended it.
+/// So no two seats hold a thread at the same time: before the thread of a context (the record of a user thread) is
+/// taken again, the seat that held the thread has put it back or ended it.
 pub fn holder_keeps_its_thread()
     ensures { (w : World) (es : List Event) (h x : ℕ) → IsHeldBy h (w.state x) → IsRun w es → NeverLetsGo h x es → IsHeldBy h ((after_all w es).state x) }
 {}
 
-/// A core that is closed and has no occupied slot stays closed and empty, whatever events follow, until it is opened.
+/// A core that is closed and has no occupied slot stays closed and empty until it is opened, whatever events follow.
 pub fn drained_core_stays_drained()
     ensures { (w : World) (es : List Event) (c : ℕ) → IsDrained w c → IsRun w es → NeverOpens c es → IsDrained (after_all w es) c }
 {}
@@ -70,7 +72,8 @@ pub fn occupancy_words_pack_as_read()
     ensures { (word : ℕ) → IsOccupancyWord word ↔ ((word < 2 ^ 64) × (count_field word ≡ count_of (occupancy_of word).occupied)) }
 {}
 
-/// Adding bit i of a free index i, and 1 in the field of the count, to an occupancy word occupies that index.
+/// Adding to an occupancy word bit i of a free index i, and 1 in the field of the count, occupies the slot with that
+/// index.
 ///
 /// The addition sets bit i of the mask, raises the count by one, and changes no other field.
 pub fn adding_an_index()
@@ -78,7 +81,7 @@ pub fn adding_an_index()
         → HasOneMore word i (word + (2 ^ i + 2 ^ MASK_BITS)) }
 {}
 
-/// Subtracting bit i of an occupied index i, and 1 in the field of the count, from an occupancy word frees that index.
+/// Subtracting from an occupancy word bit i of an occupied index i, and 1 in the field of the count, frees that slot.
 pub fn taking_an_index_away()
     ensures { (word i : ℕ) → IsOccupancyWord word → i < MASK_BITS → slice_index_or (occupancy_of word).occupied i false ≡ true
         → HasOneMore (word - (2 ^ i + 2 ^ MASK_BITS)) i word }
@@ -105,8 +108,8 @@ pub fn taking_exclusive_away()
         → IsOccupancyWord (word - 2 ^ 63) × (occupancy_of (word - 2 ^ 63) ≡ record (occupancy_of word) { exclusive = false }) }
 {}
 
-/// Packing a context's state into a mark word and reading it back gives the same state, if index and core fit their
-/// fields.
+/// If index and core fit their fields, packing a context's state into a mark word and reading it back gives the same
+/// state.
 pub fn mark_words_read_as_packed()
     ensures { (bits : ℕ) (m : Marked) → m.place.index < 2 ^ 6 → m.place.core < 2 ^ bits → marked_of bits (mark_word bits m) ≡ m }
 {}

@@ -1,9 +1,9 @@
 //! The specification of context tables as a type, `World`, with its events, and the packed atomic words of a table.
 //!
-//! A *context* is the record of one user thread. It belongs to one of a core's thread slots, a *place*. A *seat* is one
-//! kernel thread's right to call a table. It *claims* a free context to put a thread there, and *holds* a thread from
-//! the take until the thread is put back or ended. Each implementation of a table is proved against the events: each of
-//! its atomic steps is one of them.
+//! A *context* is the record of one user thread. It belongs to one of a core's thread slots, in the code a *place*. A
+//! *seat* is one kernel thread's right to call a table. The seat *claims* a free context to put a thread there, and
+//! *holds* a thread from the take until the thread is put back or ended. Each implementation of a table is proved
+//! against the events: each of its atomic steps is one of them.
 #![tactic(auto)]
 
 mod event;

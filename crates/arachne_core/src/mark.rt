@@ -1,18 +1,19 @@
 //! The state of a context as its atomic word, the mark word, shows it. The word shows neither which seat has claimed
 //! the context or holds its thread, nor the thread's tag.
 
-/// The state of a context, as its mark word shows it. That word also has the context's slot and generation.
+/// The state of a context, the record of a user thread, as its mark word shows it. That word also has the context's
+/// slot and generation.
 #[derive(Clone, Copy, Debug, PartialEq, Eq)]
 pub enum Mark {
-    /// There is no thread. The context is free or claimed (reserved by a seat).
+    /// The context has no thread: it is free, or a seat has claimed (reserved) it.
     Free = 0,
-    /// The thread is ready: a seat may take it.
+    /// The thread is ready: any kernel thread may take it and run it.
     Ready = 1,
     /// The thread is blocked until it is woken.
     Blocked = 2,
-    /// A seat holds the thread, which runs.
+    /// The thread runs: a seat (a kernel thread's right to call the table) holds it.
     Held = 3,
-    /// A seat holds the thread, which was woken since the seat took it.
+    /// The thread runs, and was woken since a seat (a kernel thread's right to call the table) took it.
     Woken = 4,
     /// The thread of the context's last generation has ended, so the context is never used again.
     Spent = 5,

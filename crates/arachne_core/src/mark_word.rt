@@ -26,10 +26,10 @@ const FIRST_CORE_MASK: u64 = (1 << FIRST_CORE_BITS) - 1;
 
 const FIRST_GENERATION_SHIFT: u32 = CORE_SHIFT + FIRST_CORE_BITS;
 
-/// The state, slot and generation of a context, packed into one word.
+/// The state, slot and generation of a context (the record of a user thread), packed into one word.
 ///
 /// The mark (the context's state) is in bits 0 to 2, `alone` (true if its thread has the core for itself) in bit 3, the
-/// slot's index in bits 4 to 9, its core in bits 10 to 15, and the generation in the bits above.
+/// slot's index on its core in bits 4 to 9, the core's number in bits 10 to 15, and the generation in the bits above.
 #[derive(Clone, Copy, Debug, PartialEq, Eq)]
 pub struct MarkWord {
     word: u64,
@@ -138,7 +138,7 @@ impl MarkWord {
         self.word >> GENERATION_SHIFT
     }
 
-    /// Returns a copy of this word with another state.
+    /// Returns a copy of this word with the state `mark`.
     pub fn with_mark(self, mark: Mark) -> Self
         ensures { result ≡ record self { mark = mark } }
     {
@@ -147,7 +147,7 @@ impl MarkWord {
         }
     }
 
-    /// Returns a copy of this word with another slot.
+    /// Returns a copy of this word with the slot `place`.
     pub fn with_place(self, place: Place) -> Self
         requires index { place.index < SLOTS }
         requires core { place.core < 2 ^ CORE_BITS }

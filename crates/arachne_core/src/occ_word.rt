@@ -8,23 +8,23 @@ use std::marker::Model;
 
 const COUNT_SHIFT: u32 = MASK_BITS as u32;
 
-/// The mask of a core whose 56 slots are all occupied.
+/// The mask of a core whose 56 thread slots are all occupied.
 pub const FULL_MASK: u64 = (1 << COUNT_SHIFT) - 1;
 
-/// The number that adds one to the count of occupied slots, if it is added to an occupancy word.
+/// The number 1 in the count field: added to an occupancy word, it raises the count of occupied slots by one.
 pub const COUNT_ONE: u64 = 1 << COUNT_SHIFT;
 
 const COUNT_MASK: u64 = (1 << 6) - 1;
 
 const CLOSED: u64 = 1 << 62;
 
-/// The bit of an exclusive core, which one thread has for itself.
+/// The bit of an occupancy word that is set if one thread has the core for itself.
 pub const EXCLUSIVE: u64 = 1 << 63;
 
-/// The occupancy of a core, packed into one word.
+/// The occupancy word of a core: which of its thread slots are occupied.
 ///
 /// The mask of the occupied slots is in bits 0 to 55, the number of its set bits in bits 56 to 61. Bit 62 is set if the
-/// core is closed, and bit 63 if it is exclusive to one thread.
+/// core is closed (takes no new threads), and bit 63 if it is exclusive (one thread has it for itself).
 #[derive(Clone, Copy, Debug, PartialEq, Eq)]
 pub struct OccWord {
     word: u64,
@@ -53,7 +53,7 @@ impl OccWord {
         OccWord { word: 0 }
     }
 
-    /// Returns the word with this mask. Its count is the number of set bits in `mask`.
+    /// Returns the word with this mask. The word's count is the number of set bits in `mask`.
     pub fn new(mask: u64, closed: bool, exclusive: bool) -> Self
         requires { mask < 2 ^ MASK_BITS }
         ensures { result ≡ record { occupied = flags MASK_BITS mask; closed = closed; exclusive = exclusive } }
@@ -128,7 +128,7 @@ impl OccWord {
         (self.word >> u32::from(index)) & 1 == 1
     }
 
-    /// Returns the lowest index of a free slot, or `None` if all 56 are occupied.
+    /// Returns the lowest index of a free thread slot, or `None` if all 56 are occupied.
     pub fn lowest_free(self) -> Option<u8>
         ensures within { IfSome result (λ free. free < MASK_BITS) }
         ensures free { IfSome result (λ free. slice_index_or self.occupied free false ≡ false) }
@@ -143,7 +143,7 @@ impl OccWord {
         }
     }
 
-    /// Returns the lowest index of a free slot below `slots`, or `None` if there is none.
+    /// Returns the lowest index below `slots` of a free thread slot, or `None` if there is none.
     pub fn lowest_free_below(self, slots: u8) -> Option<u8>
         requires { slots ≤ MASK_BITS }
         ensures within { IfSome result (λ free. free < slots) }
@@ -157,7 +157,8 @@ impl OccWord {
         }
     }
 
-    /// Returns a copy of this word in which the slot `index` is occupied, with the count to match.
+    /// Returns a copy of this word in which the thread slot `index` is occupied, with the count one higher if it was
+    /// free.
     pub fn with_bit(self, index: u8) -> Self
         requires { index < MASK_BITS }
         ensures { result ≡ record self { occupied = slice_set self.occupied index true } }
@@ -171,7 +172,8 @@ impl OccWord {
         }
     }
 
-    /// Returns a copy of this word in which the slot `index` is free, with the count to match.
+    /// Returns a copy of this word in which the thread slot `index` is free, with the count one lower if it was
+    /// occupied.
     pub fn without_bit(self, index: u8) -> Self
         requires { index < MASK_BITS }
         ensures { result ≡ record self { occupied = slice_set self.occupied index false } }
@@ -185,7 +187,7 @@ impl OccWord {
         }
     }
 
-    /// Returns a copy of this word with the closed bit set or cleared.
+    /// Returns a copy of this word whose closed bit is set if `closed` is true, and otherwise cleared.
     pub fn with_closed(self, closed: bool) -> Self
         ensures { result ≡ record self { closed = closed } }
     {
@@ -194,7 +196,7 @@ impl OccWord {
         OccWord { word }
     }
 
-    /// Returns a copy of this word with the exclusive bit set or cleared.
+    /// Returns a copy of this word whose exclusive bit is set if `exclusive` is true, and otherwise cleared.
     pub fn with_exclusive(self, exclusive: bool) -> Self
         ensures { result ≡ record self { exclusive = exclusive } }
     {

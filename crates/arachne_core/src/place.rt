@@ -1,4 +1,4 @@
-//! A place, which is one of a core's thread slots. All places of a table are also numbered from 0.
+//! A place: one of a core's thread slots. All places of a table are also numbered from 0.
 
 /// A thread slot of a core. Each slot has one context, the record of a thread.
 #[derive(Clone, Copy, Debug, PartialEq, Eq)]
@@ -25,7 +25,8 @@ impl Place {
         }
     }
 
-    /// Returns the number of the context in this slot of a new table whose cores have `slots` slots each.
+    /// Returns the number of the context (the record of a user thread) in this slot of a new table whose cores have
+    /// `slots` slots each.
     pub fn number(self, slots: u8) -> u32
         ensures { result ≡ number_of slots self }
     {

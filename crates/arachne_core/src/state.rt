@@ -4,15 +4,15 @@ use crate::layout::LAST_GENERATION;
 use crate::mark::Mark;
 use crate::place::Place;
 
-/// The state of a context, the record of a thread.
+/// The state of a context, which is the record of one user thread.
 ///
 /// `carrier` is the number of the seat (a kernel thread's right to call the table) that has claimed the context, or
-/// holds its thread. `tag` is the number that came into the table with the thread.
+/// that holds its thread. `tag` is the number with which the thread came into the table.
 #[derive(Clone, Copy, Debug, PartialEq, Eq)]
 pub enum State {
-    /// There is no thread, and no seat has claimed the context.
+    /// The context has no thread, and no seat has claimed it.
     Free,
-    /// There is no thread yet. The seat `carrier` has reserved the context, and may put a thread into it.
+    /// The context has no thread yet. The seat `carrier` has reserved it, and may put a thread into it.
     Claimed { carrier: u32 },
     /// The thread is ready: a seat may take it.
     Ready { tag: u64 },
@@ -25,19 +25,19 @@ pub enum State {
     Spent,
 }
 
-/// The state in which a seat puts a thread back: ready or blocked.
+/// The state in which a thread is put back into the table: ready or blocked.
 #[derive(Clone, Copy, Debug, PartialEq, Eq)]
 pub enum Rest {
-    /// The thread is ready: any seat may take it and run it.
+    /// The thread is ready: any kernel thread may take it and run it.
     Ready,
     /// The thread is blocked until it is woken. If it was woken since it was taken, it is ready instead.
     Blocked,
 }
 
-/// The table's record of a context: its slot on a core, its generation, and its state.
+/// The table's record of a user thread: its slot on a core, its generation, and its state.
 #[derive(Clone, Copy, Debug, PartialEq, Eq)]
 pub struct Context {
-    /// The context's slot on a core. It changes if the context's thread is moved.
+    /// The context's slot on a core. The slot changes if the context's thread is moved to another core.
     pub place: Place,
     /// The number of threads that have ended in the context, plus the table's first generation.
     pub generation: u64,
@@ -76,7 +76,8 @@ impl State {
         }
     }
 
-    /// Returns whether the context has a ready or a blocked thread, which no seat holds.
+    /// Returns whether the context (the record of a user thread) has a thread that no seat (a kernel thread's right to
+    /// call the table) holds: a ready or a blocked one.
     pub(crate) fn is_at_rest(self) -> bool
         ensures { IsTrue result ↔ IsAtRest self }
     {
@@ -98,7 +99,8 @@ impl State {
         }
     }
 
-    /// Returns whether the thread is blocked, or held by a seat and not woken yet.
+    /// Returns whether a wake would change this state: the thread is blocked, or held by a seat (a kernel thread's
+    /// right to call the table) and not woken yet.
     pub(crate) fn can_be_woken(self) -> bool
         ensures { IsTrue result ↔ CanBeWoken self }
     {
@@ -109,7 +111,8 @@ impl State {
         }
     }
 
-    /// Returns whether there is a thread, be it ready, blocked or held by a seat.
+    /// Returns whether there is a thread, be it ready, blocked or held by a seat (a kernel thread's right to call the
+    /// table).
     pub(crate) fn is_live(self) -> bool
         ensures { result ≡ is_live_state self }
     {
@@ -129,7 +132,8 @@ impl State {
         }
     }
 
-    /// Returns this state as a mark word shows it.
+    /// Returns this state without the seat (a kernel thread's right to call the table) and the tag, as a mark word (a
+    /// context's atomic word) stores it.
     pub(crate) fn mark(self) -> Mark
         ensures { result ≡ mark_of self }
     {
@@ -143,7 +147,8 @@ impl State {
         }
     }
 
-    /// Returns the state after the seat `carrier` has taken the thread.
+    /// Returns the state after the seat (a kernel thread's right to call the table) with the number `carrier` has taken
+    /// the thread.
     pub(crate) fn taken(self, carrier: u32) -> Self
         ensures { result ≡ taken carrier self }
     {
@@ -157,7 +162,8 @@ impl State {
         }
     }
 
-    /// Returns the state after the seat that held the thread has put it back.
+    /// Returns the state after the seat (a kernel thread's right to call the table) that held the thread has put it
+    /// back.
     pub(crate) fn put_back(self, rest: Rest) -> Self
         ensures { result ≡ put_back rest self }
     {
@@ -194,7 +200,8 @@ impl State {
 impl Context {
     ghost use Rattle.std.specs.Prelude.{◌≡◌, ◌+◌, ◌<◌, ◌≤◌, nat_lt, if◌then◌else◌};
 
-    /// Returns the context after the seat `carrier` has ended the thread in it.
+    /// Returns the context (the record of a user thread) after the seat (a kernel thread's right to call the table)
+    /// with the number `carrier` has ended the thread in it.
     pub(crate) fn retired(self, carrier: u32) -> Self
         requires { self.generation ≤ LAST_GENERATION }
         ensures state { result.state ≡ (if nat_lt self.generation LAST_GENERATION then State.Claimed carrier else State.Spent) }

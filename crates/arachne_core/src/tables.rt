@@ -17,15 +17,15 @@ use crate::thread_id::ThreadId;
 use std::alloc::{AllocError, Global};
 use std::marker::Model;
 
-/// The contexts and cores of a table by number, and the lists of the threads that came into the table and of those that
-/// have ended, in order.
+/// The contexts (the records of user threads) of a table and the occupancy of its cores, by number; and the lists of
+/// the threads that came into the table and of those that have ended, in order.
 #[derive(Debug, Drop)]
 pub struct Tables {
     contexts: Vec<Context>,
     cores: Vec<OccWord>,
     /// The number of thread slots of each core.
     slots: u8,
-    /// The context in each slot, by the slot's number.
+    /// The number of the context in each slot, in the order of the slots' numbers.
     residents: Vec<u32>,
     given: Vec<(ThreadId, u64)>,
     ended: Vec<(ThreadId, u64)>,
@@ -52,7 +52,8 @@ impl Model for Tables {
 }
 
 impl Tables {
-    /// Creates a table whose contexts are free, in generation `first_generation`, each in the slot with its own number.
+    /// Creates a table whose contexts (the records of user threads) are free, in generation `first_generation`, each in
+    /// the slot with its own number.
     pub fn new(
         alloc: Global,
         cores: u8,
@@ -345,7 +346,8 @@ impl Tables {
 
     // ---- each event, if it is allowed
 
-    /// Changes the lists as the event says, which must be allowed. If memory is refused, nothing changes.
+    /// Changes the lists as the event says. The caller must pass an event that is allowed. If memory is refused,
+    /// nothing changes.
     pub fn make(&mut self, event: Event) -> Result<(), NotApplied>
         requires { Allowed (world_of self.old) event }
         ensures { Answers event self.old self.new result }
@@ -505,7 +507,7 @@ impl Tables {
     }
 }
 
-/// Returns the contexts of a new table, in the order of their numbers.
+/// Returns the contexts (the records of user threads) of a new table, in the order of their numbers.
 fn first_contexts(
     alloc: Global,
     count: u32,
@@ -533,7 +535,7 @@ fn first_cores(alloc: Global, count: u8) -> Result<Vec<OccWord>, AllocError>
     vec![in alloc; OccWord::empty(); usize::from(count)]
 }
 
-/// Returns the context in each slot of a new table: the one with the slot's number.
+/// Returns the number of the context (the record of a user thread) in each slot of a new table: the slot's own number.
 fn first_residents(alloc: Global, count: u32) -> Result<Vec<u32>, AllocError>
     ensures { IfOk result (λ made. made.items ≡ range_with_len 0 count) }
 {

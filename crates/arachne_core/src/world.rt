@@ -1,4 +1,4 @@
-//! The state of a context table as a type that a program can use. Contracts describe it as a `World` of the specs.
+//! The state of a context table as a type that a program can use. The specification calls this state a `World`.
 
 use crate::event::{Event, NotApplied};
 use crate::layout::{CORES, LAST_GENERATION, SLOTS};
@@ -10,7 +10,8 @@ use crate::tables::Tables;
 use std::alloc::{AllocError, Global};
 use std::marker::Model;
 
-/// A context table for a single caller, in which each event is one call: the specification of the shared tables.
+/// A context table for a single caller, in which each event is one call. It serves as the specification of the shared
+/// tables.
 ///
 /// A context is the record of one user thread. At every moment, each context, thread slot and thread has exactly one
 /// owner. The cost of an event does not depend on the number of contexts.
@@ -37,8 +38,8 @@ impl World {
     ghost use Rattle.arachne_core.specs.Run.{IsOpening};
     ghost use Rattle.arachne_core.specs.ContextTable.{world_of, ShowsCore, IsVacantFrom, marked, Answers};
 
-    /// Creates a table of `cores` cores with `slots` thread slots each. All its contexts are free, in generation
-    /// `first_generation`.
+    /// Creates a table of `cores` cores with `slots` thread slots each. All its contexts (the records of user threads)
+    /// are free, in generation `first_generation`.
     pub fn new(
         alloc: Global,
         cores: u8,
@@ -60,7 +61,7 @@ impl World {
     }
 
     /// Reserves memory to record `posts` more threads that come into the table, and `retires` more ends of threads.
-    /// These events then take no memory.
+    /// Recording those then allocates nothing.
     pub fn reserve(&mut self, posts: usize, retires: usize) -> Result<(), AllocError>
         ensures kept { self.new ≡ record self.old { posts = self.new.posts; retires = self.new.retires } }
         ensures grown { (self.old.posts ≤ self.new.posts) × (self.old.retires ≤ self.new.retires) }
@@ -71,10 +72,10 @@ impl World {
         self.tables.reserve(posts, retires)
     }
 
-    /// Changes the state as `event` says.
+    /// Changes the table's state as `event` says.
     ///
     /// Returns `NotAllowed` if the state does not allow the event, and `Memory` if memory was refused. After an error
-    /// the state is unchanged. Only a post or a retire takes memory, if none was reserved for it.
+    /// the state is unchanged. Only a post or a retire allocates, and only if no memory was reserved for it.
     pub fn apply(&mut self, event: Event) -> Result<(), NotApplied>
         ensures answer { Answers event self.old self.new result }
         ensures err { OnErr result (self.new ≡ self.old) }
@@ -105,14 +106,15 @@ impl World {
         self.tables.slots()
     }
 
-    /// Does nothing. Its contract is a law: each context, slot and thread of the table has exactly one owner.
+    /// Does nothing. Its contract is a law: each context (the record of a user thread), slot and thread of the table
+    /// has exactly one owner.
     pub fn is_owned_once(&self)
         ensures { OwnedOnce (world_of self.now) }
     {
         let _ = &self.tables;
     }
 
-    /// Returns the number of the context in this slot.
+    /// Returns the number of the context (the record of a user thread) in this slot.
     pub fn context_at(&self, place: Place) -> u32
         requires { IsPlace (world_of self.now) place }
         ensures within { IsContext (world_of self.now) result }
@@ -121,7 +123,7 @@ impl World {
         self.tables.resident(place)
     }
 
-    /// Returns the slot of this context: its core and its index there.
+    /// Returns the slot of this context (the record of a user thread): its core and its index there.
     pub fn place_of(&self, context: u32) -> Place
         requires { IsContext (world_of self.now) context }
         ensures { result ≡ (world_of self.now).at context }
@@ -129,7 +131,7 @@ impl World {
         self.tables.context(context).place
     }
 
-    /// Returns the state of a context.
+    /// Returns the state of a context, the record of a user thread.
     pub fn state(&self, context: u32) -> State
         requires { IsContext (world_of self.now) context }
         ensures { result ≡ (world_of self.now).state context }
@@ -146,7 +148,7 @@ impl World {
         self.tables.core(core)
     }
 
-    /// Returns the mark word of a context: its state, slot and generation, packed.
+    /// Returns the mark word of a context (the record of a user thread): its state, slot and generation, packed.
     pub fn mark(&self, context: u32) -> MarkWord
         requires { IsContext (world_of self.now) context }
         ensures { result ≡ marked (world_of self.now) context }

@@ -1,8 +1,8 @@
-//! The results of an executor's calls: the job that the caller's seat now holds, why a call was refused, or whether the
-//! caller must unpark a worker.
+//! The results of an executor's calls: which job the caller's seat now holds, why a call was refused, or if the caller
+//! must unpark a worker.
 
-/// A job that a seat holds: its slot (`place`), its unique `name`, and the number that the host gave to `spawn`
-/// (`job`).
+/// A job that a seat (a thread's right to call the executor) holds: its slot (`place`), its unique `name`, and the
+/// number that was passed to `spawn` for it (`job`).
 #[derive(Clone, Copy, Debug, PartialEq, Eq)]
 pub struct HeldJob {
     pub place: usize,
@@ -30,7 +30,8 @@ pub enum JobSpawned {
     Lost,
 }
 
-/// The result of `spawn_here`: the job, which the caller's seat then holds, or the reason why no job was spawned.
+/// The result of `spawn_here`: the job, which the caller's seat (a thread's right to call the executor) then holds, or
+/// the reason why no job was spawned.
 #[derive(Clone, Copy, Debug, PartialEq, Eq)]
 pub enum SpawnedHere {
     Held(HeldJob),
@@ -53,31 +54,32 @@ pub enum JobRested {
 #[derive(Clone, Copy, Debug, PartialEq, Eq)]
 pub enum Next {
     Run(HeldJob),
-    /// The worker must park. `next` has set the worker's idle bit, and then found each of the worker's summary words
-    /// (which show the blocks with ready jobs) empty.
+    /// The worker must park. `next` has set the worker's idle bit, and after that each of the worker's summary words
+    /// (which show the blocks with ready jobs) was 0.
     Park,
-    /// No job was taken, but the worker mustn't park yet: it must call `next` again.
+    /// No job was taken, but the worker must not park yet: it must call `next` again.
     Again,
 }
 
-/// The result of `wake`: its effect on the job with the given name.
+/// The result of `wake`: how it changed the job with the given name.
 #[derive(Clone, Copy, Debug, PartialEq, Eq)]
 pub enum JobWoken {
     /// The job was blocked, and is ready now. If `unpark` is true, the caller must unpark the job's worker.
     Ready { unpark: bool },
-    /// The job isn't blocked, so the mark of its slot (an atomic word) now records the wake. A take or `start` of the
-    /// job clears the record, or the job's end does. If the name is the one that the next job of a free slot will have,
-    /// the wake is recorded in the same way.
+    /// The job isn't blocked, so the mark of its slot (an atomic word) now records the wake. The record is cleared when
+    /// the job is taken, started or ended. If the name is the one that the next job of a free slot will have, the wake
+    /// is recorded in the same way.
     Marked,
-    /// The mark of the job's slot already records a wake.
+    /// The mark of the job's slot (an atomic word) already records a wake.
     Already,
     /// No job has that name at present.
     Gone,
-    /// Another thread changed the slot's mark during the call. The caller may try again.
+    /// Another thread changed the mark of the job's slot (an atomic word) during the call. The caller may try again.
     Lost,
 }
 
-/// The result of `wake_here`, which wakes a job; if the job was blocked, the caller's seat then holds it.
+/// The result of `wake_here`, which wakes a job. If the job was blocked, the caller's seat (a thread's right to call
+/// the executor) then holds it.
 #[derive(Clone, Copy, Debug, PartialEq, Eq)]
 pub enum WokenHere {
     /// The job was blocked, and the caller's seat holds it now.

@@ -11,7 +11,7 @@ use std::alloc::Global;
 impl Executor {
     /// Ends the executor. Returns the numbers of the jobs that haven't ended, in the order of their slots.
     ///
-    /// If memory for the list is refused, returns the executor and the seat.
+    /// If memory for the list is refused, returns the executor and the seat as an error.
     pub fn close(self, alloc: Global, seat: ExecSeat) -> Result<Vec<u64>, (Executor, ExecSeat)>
         requires own { seat.table ≡ self.table }
         requires whole { seat.weight ≡ whole }

@@ -15,11 +15,12 @@ use std::marker::Model;
 
 /// An executor: it knows which jobs are ready or blocked, and gives each ready job to one thread.
 ///
-/// A job is a number of the host's. It is stored in one of the slots: 64 slots are a block, and 64 blocks a shard,
-/// whose jobs one worker runs. A block's ready word has a bit for each ready job, a shard's summary word a bit for each
-/// block that may have ready jobs, and the idle word a bit for each worker that sleeps or is about to. Threads call the
-/// executor through seats. Contracts refer to the executor's table of atomic words, which each of its seats has too,
-/// and to its number of shards.
+/// A job is a number that the host (the program that uses the executor) chooses; the executor doesn't interpret it. It
+/// is stored in one of the slots: 64 slots are a block, and 64 blocks a shard, whose jobs one worker runs. A block's
+/// ready word has a bit for each ready job, a shard's summary word a bit for each block that perhaps has ready jobs,
+/// and the idle word a bit for each worker that sleeps or is about to. Threads call the executor through seats, which
+/// are values of [`ExecSeat`]. Contracts refer to the executor's table of atomic words, which each of its seats has
+/// too, and to its number of shards.
 // In methods of this type, the line `let _ = self.shards;` gives the prover the invariant of this type, with the sizes
 // of the table.
 #[derive(Drop)]
@@ -39,8 +40,8 @@ impl Model for Executor {
 }
 
 impl Executor {
-    /// Creates an executor with `shards` shards of 4,096 free slots each. Returns it with its first seat, which has the
-    /// whole weight.
+    /// Creates an executor with `shards` shards of 4,096 free slots each. Returns the executor with its first seat (a
+    /// thread's right to call it), which has the whole weight.
     ///
     /// A split halves a seat's weight and a join adds two, so a seat with the whole weight is the only one.
     pub fn new(alloc: Global, shards: usize) -> Result<(Executor, ExecSeat), AllocError>
@@ -104,9 +105,9 @@ impl Executor {
         self.table.shared.join_seat::<Halve>(&mut seat.seat, spent);
     }
 
-    /// Splits off a seat for another thread, which gets half of `seat`'s weight and holds no job.
+    /// Splits off a seat for another thread. The new seat gets half of the weight of `seat`, and holds no job.
     ///
-    /// If the weight is 1 or 0, both seats then have weight 0.
+    /// If the weight of `seat` is 1 or 0, both seats then have weight 0.
     pub fn split(&self, seat: &mut ExecSeat) -> ExecSeat
         requires own { seat.old.table ≡ self.now.table }
         ensures first { seat.new ≡ record seat.old { weight = first_part seat.old.weight; known = splitting seat.old.known } }
@@ -123,7 +124,7 @@ impl Executor {
         }
     }
 
-    /// Joins `other` into `seat`, which gets `other`'s weight (up to the whole) and its record.
+    /// Joins `other` into `seat`: adds the weight of `other` (up to the whole) and its record to those of `seat`.
     ///
     /// The caller must pass an `other` that holds no job and has no worker number.
     pub fn join_seats(&self, seat: &mut ExecSeat, other: ExecSeat)
@@ -141,7 +142,7 @@ impl Executor {
         seat.weight = seat.weight.join(added);
     }
 
-    /// Returns true if `seat` has the whole weight: all other seats were joined into it.
+    /// Returns true if `seat` has the whole weight, which means that all other seats were joined into it.
     pub fn is_whole(&self, seat: &ExecSeat) -> bool
         ensures { IsTrue result ↔ (seat.now.weight ≡ whole) }
     {

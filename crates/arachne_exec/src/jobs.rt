@@ -11,7 +11,7 @@ use crate::layout::{LAST_GENERATION, free_word, mark_word, name_at, ready_word};
 use crate::seat::{ExecSeat, SeatInCall};
 use crate::turns::{First, TakenJob, first_from, has_more, lowest_index};
 
-/// Returns the job with number `job` in slot `place`. Its name consists of `place` and the generation in `mark`.
+/// Returns the job with number `job` in slot `place`. The job's name consists of `place` and the generation in `mark`.
 #[inline(always)]
 pub(crate) fn job_at(place: usize, mark: u64, job: u64) -> HeldJob
     requires { place < 1048576 }
@@ -25,10 +25,10 @@ pub(crate) fn job_at(place: usize, mark: u64, job: u64) -> HeldJob
 }
 
 impl Executor {
-    /// Clears the record of a wake, if there is one, in the mark of slot `place`. Returns the mark (an atomic word) as
-    /// it was before.
+    /// Clears the record of a wake, if there is one, in the mark of slot `place` (an atomic word). Returns the mark as
+    /// it was before the call.
     ///
-    /// `place` must be the slot of the job that `seat` got last of those that it holds.
+    /// The caller must pass the slot of the job that `seat` got last of those that it holds.
     pub(crate) fn refresh(&self, seat: &mut SeatInCall, place: usize) -> u64
         requires own { seat.old.table ≡ self.now.table }
         requires place { place < 4096 * self.now.shards }
@@ -45,7 +45,7 @@ impl Executor {
         mark
     }
 
-    /// Tries once to put `job` into a free slot of `block`, ready to be run by any thread.
+    /// Tries once to put `job` into a free one of the 64 slots of `block`, ready to be run by any thread.
     pub fn spawn(&self, seat: &mut ExecSeat, block: usize, job: u64) -> JobSpawned
         requires own { seat.old.table ≡ self.now.table }
         requires block { block < 64 * self.now.shards }
@@ -72,8 +72,8 @@ impl Executor {
         })
     }
 
-    /// Tries once to put `job` into a free slot of `block`. The caller's seat then holds the job: no other thread can
-    /// take it.
+    /// Tries once to put `job` into a free one of the 64 slots of `block`. The caller's seat then holds the job: no
+    /// other thread can take it.
     pub fn spawn_here(&self, seat: &mut ExecSeat, block: usize, job: u64) -> SpawnedHere
         requires own { seat.old.table ≡ self.now.table }
         requires block { block < 64 * self.now.shards }
@@ -95,8 +95,8 @@ impl Executor {
         SpawnedHere::Held(job_at(place, mark, job))
     }
 
-    /// Tries once to take a ready job of `block`, from the first slot at or behind `from` that has one, going round the
-    /// block. The second result is true if another ready slot lies behind that slot.
+    /// Tries once to take a ready job of `block`. The search goes from slot `from` to the block's last slot, and then
+    /// from its first slot. Together with the job, records if another ready slot lies behind the job's.
     pub(crate) fn take_from(
         &self,
         seat: &mut ExecSeat,
@@ -129,11 +129,11 @@ impl Executor {
         Some(TakenJob::new(job_at(place, mark, job), has_more(ready, index)))
     }
 
-    /// Tries once to take a ready job of `block`, which may be any worker's. Returns `None` if there is none, or if
-    /// another thread took the job first.
+    /// Tries once to take a ready job from one of the 64 slots of `block`, which may be any worker's. Returns `None` if
+    /// there is none, or if another thread took the job first.
     ///
-    /// The search goes round the block, and begins behind the slot index at which this seat's last `take` found its
-    /// job.
+    /// The search goes through all slots of the block, and begins behind the slot index at which this seat's last
+    /// `take` found its job.
     pub fn take(&self, seat: &mut ExecSeat, block: usize) -> Option<HeldJob>
         requires own { seat.old.table ≡ self.now.table }
         requires block { block < 64 * self.now.shards }
@@ -149,9 +149,9 @@ impl Executor {
         Some(taken.in_block(&mut seat.take_turn))
     }
 
-    /// Makes the job in slot `place` ready again. Returns true if the caller must unpark the slot's worker.
+    /// Makes the job in slot `place` ready again. Returns true if the caller must unpark the worker of that slot.
     ///
-    /// `place` must be the slot of the job that `seat` got last of those that it holds.
+    /// The caller must pass the slot of the job that `seat` got last of those that it holds.
     pub fn rest_ready(&self, seat: &mut ExecSeat, place: usize) -> bool
         requires own { seat.old.table ≡ self.now.table }
         requires place { place < 4096 * self.now.shards }
@@ -162,7 +162,7 @@ impl Executor {
     }
 
     /// Blocks the job in slot `place`, unless a wake of the job is recorded in the slot's mark (an atomic word).
-    /// Returns true if the job is blocked now.
+    /// Returns true if it blocked the job.
     fn try_block(&self, seat: &mut SeatInCall, place: usize) -> bool
         requires own { seat.old.table ≡ self.now.table }
         requires place { place < 4096 * self.now.shards }
@@ -179,9 +179,9 @@ impl Executor {
         self.put_blocked(seat, place, mark)
     }
 
-    /// Blocks the job in slot `place`; if the job was woken while it ran, makes it ready instead.
+    /// Blocks the job in slot `place`. If the job was woken while it ran, makes it ready instead.
     ///
-    /// `place` must be the slot of the job that `seat` got last of those that it holds.
+    /// The caller must pass the slot of the job that `seat` got last of those that it holds.
     pub fn rest_blocked(&self, seat: &mut ExecSeat, place: usize) -> JobRested
         requires own { seat.old.table ≡ self.now.table }
         requires place { place < 4096 * self.now.shards }
@@ -197,10 +197,10 @@ impl Executor {
         JobRested::Ready { unpark }
     }
 
-    /// Ends the job in slot `place`, and frees the slot for another job, whose name will differ. After 2^44 - 1 jobs, a
-    /// slot is retired instead, and takes no more jobs.
+    /// Ends the job in slot `place`, and frees the slot for another job, which gets another name. After 2^44 - 1 jobs,
+    /// the slot is retired instead, and takes no more jobs.
     ///
-    /// `place` must be the slot of the job that `seat` got last of those that it holds.
+    /// The caller must pass the slot of the job that `seat` got last of those that it holds.
     pub fn finish(&self, seat: &mut ExecSeat, place: usize)
         requires own { seat.old.table ≡ self.now.table }
         requires place { place < 4096 * self.now.shards }

@@ -5,22 +5,23 @@ ghost use Rattle.arachne_exec.specs.First.{AreFirstWords, first_word};
 
 use std::alloc::{AllocError, Global};
 
-/// The number of job slots in a block. A shard has as many blocks.
+/// The number of job slots in a block, and of blocks in a shard.
 pub const PLACES_PER_BLOCK: usize = 64;
 
 pub const BLOCKS_PER_SHARD: usize = 64;
 
-/// The greatest number of workers. Worker `w` runs the jobs of the shards `w`, `w + 64`, `w + 128` and so on.
+/// The greatest number of workers. Worker `w` runs the jobs of the shards (64 blocks of 64 slots each) `w`, `w + 64`,
+/// `w + 128` and so on.
 pub const WORKERS: usize = 64;
 
-/// The greatest number of shards of an executor.
+/// The greatest number of shards (64 blocks of 64 job slots each) of an executor.
 pub const MOST_SHARDS: usize = 256;
 
 pub(crate) const IDLE: usize = 0;
 
 pub(crate) const NUMBERS: usize = 8;
 
-/// The generation of a retired slot: the last job that can have a name has ended there, so no other job is put there.
+/// The last generation of a slot. After 2^44 - 1 jobs have ended in a slot, it is retired: no other job is put there.
 pub(crate) const LAST_GENERATION: u64 = (1 << 44) - 1;
 
 /// Returns the slot in which the job of this name is, or was.

@@ -1,17 +1,17 @@
 //! The core of an executor, on atomic words: which jobs are ready, which thread holds each job that runs, and which
 //! worker must be woken.
 //!
-//! From its spawn to its end, a job stays in one slot, here a *place*. The *mark* of a slot is an atomic word with the
-//! number of jobs that have ended there (the *generation*); it also says if the job is blocked or was woken. Slot and
-//! generation are the job's *name*. A *block* has 64 slots, and a *ready word* with a bit for each slot whose job is
-//! ready. A *shard* has 64 blocks, and a *summary word* with a bit for each block that may have ready jobs. The *idle
-//! word* has a bit for each worker that sleeps or is about to.
+//! From its spawn to its end, a job stays in one slot, in the code a *place*. The *mark* of a slot is an atomic word
+//! with the number of jobs that have ended there (the *generation*); the mark also says if the job is blocked or was
+//! woken. Slot and generation are the job's *name*. A *block* has 64 slots, and a *ready word* with a bit for each slot
+//! whose job is ready. A *shard* has 64 blocks, and a *summary word* with a bit for each block that perhaps has ready
+//! jobs. The *idle word* has a bit for each worker that sleeps or is about to.
 //!
-//! A *seat* is one thread's right to call the executor. A seat *holds* a job from the call that takes it until a call
-//! makes it ready or blocked again or ends it; meanwhile no other thread can take it. If a seat holds several jobs,
-//! such calls concern only the *newest*, the one that it got last. A call that has made a job ready must then set the
-//! block's bit in the summary word, and read the idle word for a worker to wake. Until it has done both, the seat
-//! *owes* them.
+//! A *seat* is one thread's right to call the executor. A seat *holds* a job from the call that takes the job until a
+//! call ends it or makes it ready or blocked again; meanwhile no other thread can take it. If a seat holds several
+//! jobs, such calls concern only the *newest*, the one that the seat got last. A call that has made a job ready must
+//! then set the block's bit in the summary word, and read the idle word for a worker to wake. Until the call has done
+//! both, the seat *owes* them.
 #![tactic(auto)]
 
 mod answers;

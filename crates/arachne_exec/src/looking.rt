@@ -1,4 +1,4 @@
-//! Calls that read, by one load, which blocks of a shard may have ready jobs, or which slots of a block have one.
+//! Calls that read, by one load, which blocks of a shard perhaps have ready jobs, or which slots of a block have one.
 ghost use Rattle.std.specs.Prelude.{◌≡◌, ◌*◌, ◌<◌};
 ghost use Rattle.arachne_exec.specs.Layout.{summary_at, ready_at};
 ghost use Rattle.arachne_exec.specs.Changes.{noted};
@@ -8,9 +8,10 @@ use crate::layout::{ready_word, summary_word};
 use crate::seat::ExecSeat;
 
 impl Executor {
-    /// Returns a bit for each block of `shard` that may have ready jobs, by one load.
+    /// Returns a bit for each of the 64 blocks of `shard` that perhaps has ready jobs, by one load.
     ///
-    /// A block whose bit is clear has no ready job, unless a call in progress will still set the bit or find it set.
+    /// A block whose bit is clear has no ready job, unless a call in progress has yet to set that bit, or to find that
+    /// another call has set it.
     pub fn shown(&self, seat: &mut ExecSeat, shard: usize) -> u64
         requires own { seat.old.table ≡ self.now.table }
         requires shard { shard < self.now.shards }
@@ -20,7 +21,7 @@ impl Executor {
         self.look(&mut seat.at, summary_word(shard))
     }
 
-    /// Returns a bit for each slot of `block` that has a ready job, by one load.
+    /// Returns a bit for each of the 64 slots of `block` that has a ready job, by one load.
     pub fn ready(&self, seat: &mut ExecSeat, block: usize) -> u64
         requires own { seat.old.table ≡ self.now.table }
         requires block { block < 64 * self.now.shards }

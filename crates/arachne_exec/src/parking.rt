@@ -25,7 +25,7 @@ fn shards_of(worker: usize, shards: usize) -> usize
 }
 
 impl Executor {
-    /// Gives `seat` the worker number `worker`. Returns false if another seat has that number.
+    /// Makes the thread of `seat` the worker with number `worker`. Returns false if another seat has that number.
     pub fn register(&self, seat: &mut ExecSeat, worker: usize) -> bool
         requires own { seat.old.table ≡ self.now.table }
         requires worker { (seat.old.known.worker ≡ 0) × (worker < 64) }
@@ -56,8 +56,8 @@ impl Executor {
         self.clear_idle(&mut seat.at, worker);
     }
 
-    /// Sets the worker's idle bit, and then reads the worker's summary words. Returns true if all of them are 0; else
-    /// clears the idle bit, and returns false.
+    /// Sets the worker's idle bit, and then reads the summary words of its shards. Returns true if all of them are 0;
+    /// otherwise clears the idle bit, and returns false.
     fn lie_down(&self, seat: &mut SeatInCall, worker: usize) -> bool
         requires own { seat.old.table ≡ self.now.table }
         requires worker { (seat.old.known.worker ≡ worker + 1) × (worker < 64) }
@@ -77,10 +77,10 @@ impl Executor {
         true
     }
 
-    /// Returns true if the worker may park: its idle bit is set, and after that each of its summary words was found
-    /// empty.
+    /// Returns true if the worker may park: its idle bit was set, and after that each of its summary words (which show
+    /// the blocks with ready jobs) was 0.
     ///
-    /// If one of them isn't empty, clears the worker's idle bit, and returns false.
+    /// If one of these words isn't 0, clears the worker's idle bit, and returns false.
     pub fn may_park(&self, seat: &mut ExecSeat, worker: usize) -> bool
         requires own { seat.old.table ≡ self.now.table }
         requires worker { (seat.old.known.worker ≡ worker + 1) × (worker < 64) }
@@ -91,8 +91,8 @@ impl Executor {
         self.lie_down(&mut seat.at, worker)
     }
 
-    /// Takes the first ready job of `shard`, from the slot on at which the seat's search begins. Clears the summary bit
-    /// of each block in which it finds no ready job.
+    /// Takes the first ready job of `shard`, beginning with the slot at which the seat's search begins. Clears the
+    /// summary bit of each block in which it finds no ready job.
     fn take_in_shard(&self, seat: &mut ExecSeat, shard: usize) -> Option<HeldJob>
         requires own { seat.old.table ≡ self.now.table }
         requires shard { shard < self.now.shards }
@@ -117,7 +117,7 @@ impl Executor {
         None
     }
 
-    /// Returns the worker's next action: run the job that was taken for it, park, or call `next` again.
+    /// Returns the worker's next action: run the job that this call has taken, park, or call `next` again.
     pub fn next(&self, seat: &mut ExecSeat, worker: usize) -> Next
         requires own { seat.old.table ≡ self.now.table }
         requires worker { (seat.old.known.worker ≡ worker + 1) × (worker < 64) }

@@ -3,8 +3,8 @@ ghost use Rattle.std.specs.Prelude.{◌≡◌, ℕ, ◌+◌, ◌*◌, ◌/◌, �
 
 use crate::turns::{SearchTurn, shard_in_turn};
 
-/// The shards that a worker's search has yet to visit: from the shard at which the search began, round to the one
-/// before.
+/// The shards that a worker's search has yet to visit. A search goes from its first shard upwards, and then from the
+/// worker's lowest shard up to the one before the first.
 #[derive(Drop)]
 pub(crate) struct Round {
     worker: usize,
@@ -17,7 +17,7 @@ pub(crate) struct Round {
 }
 
 impl Round {
-    /// Returns the search of all `count` shards of `worker`, which begins at the shard that `turn` says.
+    /// Returns the search of all `count` shards of `worker`. It begins at the shard that `turn` selects.
     #[inline(always)]
     pub(crate) fn of(turn: &SearchTurn, worker: usize, count: usize) -> Round
         requires { worker + 64 * count ≤ 512 }

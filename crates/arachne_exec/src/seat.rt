@@ -1,12 +1,12 @@
-//! The right of one thread to call an executor, as a value that a call takes.
+//! A seat: the right of one thread to call an executor, as a value that each call takes.
 use crate::turns::{SearchTurn, TakeTurn};
 use crate::view::View;
 use arachne_weights::Weight;
 use atomic_table::Seat;
 use std::marker::Model;
 
-/// A seat during a call. Contracts refer to the seat's table and weight, the seat's record, and for each slot that it
-/// holds the stored job number.
+/// A seat (a thread's right to call the executor) while a call runs. Contracts refer to the seat's table and weight, to
+/// the record of the seat's operations, and to the job number stored in each slot that it holds.
 #[derive(Drop)]
 pub(crate) struct SeatInCall {
     pub(crate) seat: Seat<u64, View>,
@@ -27,8 +27,8 @@ impl Model for SeatInCall {
 ///
 /// Only one thread at a time can use a seat, and only with the executor that created it. If a seat is dropped, the jobs
 /// that it holds are lost, and so is its weight: then no seat can have the whole weight, and the executor can't be
-/// closed. Contracts refer to the seat's table, its weight, its record, and the slot index at which its next `take`
-/// begins.
+/// closed. Contracts refer to the seat's table, its weight, its record, and the slot index in a block (64 slots) at
+/// which its next `take` begins.
 #[derive(Drop)]
 pub struct ExecSeat {
     pub(crate) at: SeatInCall,

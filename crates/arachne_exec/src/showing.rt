@@ -12,10 +12,10 @@ use crate::seat::SeatInCall;
 use crate::sleepers::Hidden;
 
 impl Executor {
-    /// Clears the idle bit of the shard's worker. Returns true if the bit was set, so that the caller must unpark the
-    /// worker.
+    /// Clears the idle bit of the worker of `shard`. Returns true if the bit was set, so that the caller must unpark
+    /// the worker.
     ///
-    /// A call must do this after it has set the first bit of a summary word.
+    /// A call that has set the first bit of a shard's summary word must call this for that shard.
     pub(crate) fn pay(&self, seat: &mut SeatInCall, shard: usize) -> bool
         requires own { seat.old.table ≡ self.now.table }
         requires owed { seat.old.known.owes ≡ shard + 1 }
@@ -27,9 +27,9 @@ impl Executor {
         self.unpark(seat, shard)
     }
 
-    /// Sets the bit of `block` in its summary word. Returns true if the caller must unpark the block's worker.
+    /// Sets the bit of `block` in its shard's summary word. Returns true if the caller must unpark the block's worker.
     ///
-    /// A call must do this after it has set the first bit of the block's ready word.
+    /// A call that has set the first bit of a block's ready word must call this for that block.
     pub(crate) fn show(&self, seat: &mut SeatInCall, block: usize) -> bool
         requires own { seat.old.table ≡ self.now.table }
         requires block { block < 64 * self.now.shards }
@@ -47,7 +47,7 @@ impl Executor {
 
     /// Makes the job in slot `place` ready. Returns true if the caller must unpark the worker of that slot.
     ///
-    /// `place` must be the slot of the job that `seat` got last of those that it holds.
+    /// The caller must pass the slot of the job that `seat` got last of those that it holds.
     pub(crate) fn publish(&self, seat: &mut SeatInCall, place: usize) -> bool
         requires own { seat.old.table ≡ self.now.table }
         requires place { place < 4096 * self.now.shards }

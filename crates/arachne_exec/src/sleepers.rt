@@ -1,4 +1,5 @@
-//! One function for each atomic operation on the summary words, the idle word, and the word of unused worker numbers.
+//! One function for each atomic operation on the words by which workers sleep and are woken: the summary words (which
+//! blocks perhaps have ready jobs), the idle word, and the word of unused worker numbers.
 ghost use Rattle.std.specs.Prelude.{◌≡◌, ◌≢◌, ℕ, ◌+◌, ◌*◌, ◌/◌, ◌%◌, ◌<◌, IsTrue, IsFalse};
 ghost use Rattle.std.specs.Int.{bit_at};
 ghost use Rattle.arachne_exec.specs.Layout.{numbers_at, summary_at, worker_of};
@@ -12,7 +13,8 @@ use crate::steps::{
     Unregister,
 };
 
-/// A block whose bit in its summary word was cleared. Only [`Executor::hide`] creates a value of this type.
+/// The number of a block whose bit in its summary word was cleared. Only [`Executor::hide`] creates a value of this
+/// type.
 #[derive(Drop)]
 pub(crate) struct Hidden {
     block: usize,
@@ -29,7 +31,7 @@ impl Hidden {
 }
 
 impl Executor {
-    /// Returns true if the bit of `block` is set in the summary word. Then the call needn't set it.
+    /// Returns true if the bit of `block` is set in its shard's summary word. Then the call needn't set the bit.
     pub(crate) fn finds_shown(&self, seat: &mut SeatInCall, block: usize) -> bool
         requires own { seat.old.table ≡ self.now.table }
         requires block { block < 64 * self.now.shards }
@@ -43,8 +45,8 @@ impl Executor {
         found >> (block % 64) as u32 & 1 == 1
     }
 
-    /// Sets the bit of `block` in the summary word. Returns true if the word was 0 before. Then the call must read the
-    /// idle word.
+    /// Sets the bit of `block` in its shard's summary word. Returns true if that word was 0 before. The call must then
+    /// read the idle word, since the shard's worker perhaps sleeps.
     pub(crate) fn put_shown(&self, seat: &mut SeatInCall, block: usize) -> bool
         requires own { seat.old.table ≡ self.now.table }
         requires block { block < 64 * self.now.shards }
@@ -57,7 +59,7 @@ impl Executor {
         shared.fetch_or::<Show>(&mut seat.seat, summary_word(block / 64), bit(block % 64)) == 0
     }
 
-    /// Clears the bit of `block` in the summary word.
+    /// Clears the bit of `block` in its shard's summary word.
     pub(crate) fn hide(&self, seat: &mut SeatInCall, block: usize) -> Hidden
         requires own { seat.old.table ≡ self.now.table }
         requires block { block < 64 * self.now.shards }
@@ -88,7 +90,8 @@ impl Executor {
         shared.load::<LookAgain>(&mut seat.seat, ready_word(block)) == 0
     }
 
-    /// Returns true if the idle bit of the shard's worker is set. If it is clear, nobody needs to wake the worker.
+    /// Returns true if the idle bit of the worker of `shard` is set. If it is clear, no thread needs to wake the
+    /// worker.
     pub(crate) fn finds_idle(&self, seat: &mut SeatInCall, shard: usize) -> bool
         requires own { seat.old.table ≡ self.now.table }
         requires owed { seat.old.known.owes ≡ shard + 1 }
@@ -100,7 +103,7 @@ impl Executor {
         found >> (shard % 64) as u32 & 1 == 1
     }
 
-    /// Clears the idle bit of the shard's worker. Returns true if the bit was set. Then the caller must unpark the
+    /// Clears the idle bit of the worker of `shard`. Returns true if the bit was set; the caller must then unpark the
     /// worker.
     pub(crate) fn unpark(&self, seat: &mut SeatInCall, shard: usize) -> bool
         requires own { seat.old.table ≡ self.now.table }
@@ -113,7 +116,7 @@ impl Executor {
         found >> (shard % 64) as u32 & 1 == 1
     }
 
-    /// Sets the worker's idle bit.
+    /// Sets the worker's idle bit, by which other threads know that they must unpark the worker.
     pub(crate) fn set_idle(&self, seat: &mut SeatInCall, worker: usize)
         requires own { seat.old.table ≡ self.now.table }
         requires worker { (seat.old.known.worker ≡ worker + 1) × (worker < 64) }
@@ -135,7 +138,7 @@ impl Executor {
         shared.fetch_and::<Rise>(&mut seat.seat, IDLE, all_but(worker));
     }
 
-    /// Reads the summary word with index `next` of the worker's words. Returns true if the word is 0.
+    /// Loads the summary word of the worker's shard with index `next` among its shards. Returns true if the word is 0.
     pub(crate) fn sees_none(&self, seat: &mut SeatInCall, worker: usize, next: usize) -> bool
         requires own { seat.old.table ≡ self.now.table }
         requires worker { (seat.old.known.worker ≡ worker + 1) × (worker + 64 * next < self.now.shards) }
@@ -149,7 +152,8 @@ impl Executor {
         shared.load::<LookNext>(&mut seat.seat, summary_word(worker + 64 * next)) == 0
     }
 
-    /// Gives the seat the worker number `worker`. Returns false if another seat has that number.
+    /// Gives the seat (a thread's right to call) the worker number `worker`. Returns false if another seat has that
+    /// number.
     pub(crate) fn take_number(&self, seat: &mut SeatInCall, worker: usize) -> bool
         requires own { seat.old.table ≡ self.now.table }
         requires worker { (seat.old.known.worker ≡ 0) × (worker < 64) }
@@ -162,7 +166,7 @@ impl Executor {
         found >> worker as u32 & 1 == 1
     }
 
-    /// Gives the seat's worker number back, so that another seat can get it.
+    /// Gives the worker number of `seat` back, so that another seat can get it.
     pub(crate) fn give_number(&self, seat: &mut SeatInCall, worker: usize)
         requires own { seat.old.table ≡ self.now.table }
         requires worker { (seat.old.known.worker ≡ worker + 1) × (worker < 64) }

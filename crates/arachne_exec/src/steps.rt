@@ -1,10 +1,11 @@
-//! The invariant (*rule*) of the executor's table, and the kinds of atomic operation on the table. All of it exists
+//! The invariant (*rule*) of the executor's table, and the kinds of atomic operation on the table. These types exist
 //! only for proofs.
 use crate::view::View;
 use atomic_table::{Join, Play, Split, TableRule};
 
-/// The invariant: each slot is free, ready, blocked or held by one seat, and if a block of a parked worker has a ready
-/// job, a call in progress will wake the worker. The table's constant key is the number of shards.
+/// The invariant: each slot is free, ready, blocked or held by one seat (a thread's right to call the executor). If a
+/// block (64 slots) of a parked worker has a ready job, a call in progress will wake the worker. The table's constant
+/// key is the number of shards.
 pub struct Lawful;
 
 impl TableRule<u64, View, usize> for Lawful {
@@ -216,7 +217,8 @@ impl Play<u64, View> for Unregister {
     ghost then = { Leaves };
 }
 
-/// The kind of step that splits a seat: the new seat gets half the weight, and holds no job.
+/// The kind of atomic operation that splits a seat (a thread's right to call the executor): the new seat gets half the
+/// weight, and holds no job.
 pub(crate) struct Halve;
 
 impl Split<View> for Halve {

@@ -12,7 +12,7 @@ use crate::layout::{all_but, bit, ready_word};
 use crate::seat::ExecSeat;
 use crate::turns::lowest_index;
 
-/// Returns the lowest `most` set bits of `word`, or all of them if fewer are set. A `most` of 0 counts as 1.
+/// Returns the lowest `most` set bits of `word`, or all of them if fewer are set. If `most` is 0, returns one bit.
 fn lowest(word: u64, most: u32) -> u64
     requires { 0 < word }
     ensures some { 0 < result }
@@ -34,11 +34,11 @@ fn lowest(word: u64, most: u32) -> u64
 }
 
 impl Executor {
-    /// Tries once to take up to `most` ready jobs of `block`, in one atomic operation. Returns a bit for each slot
-    /// whose job was taken.
+    /// Tries once to take up to `most` ready jobs of `block`, in one atomic operation. Returns a bit for each of the
+    /// block's 64 slots whose job was taken.
     ///
-    /// A `most` of 0 counts as 1. The seat then holds these jobs; the one in the lowest slot counts as the one that it
-    /// got last.
+    /// If `most` is 0, takes up to one. The seat then holds these jobs; the one in the lowest slot counts as the one
+    /// that it got last.
     pub fn take_many(&self, seat: &mut ExecSeat, block: usize, most: u32) -> u64
         requires own { seat.old.table ≡ self.now.table }
         requires block { block < 64 * self.now.shards }
@@ -57,8 +57,8 @@ impl Executor {
 
     /// Prepares the job in slot `place` to be run. Returns the job's name and number.
     ///
-    /// Clears the record of a wake that came since the job became ready. `place` must be the slot of the job that
-    /// `seat` got last of those that it holds.
+    /// If a wake was recorded since the job became ready, clears that record. The caller must pass the slot of the job
+    /// that `seat` got last of those that it holds.
     pub fn start(&self, seat: &mut ExecSeat, place: usize) -> HeldJob
         requires own { seat.old.table ≡ self.now.table }
         requires place { place < 4096 * self.now.shards }

@@ -1,4 +1,5 @@
-//! Decides at which slot each search begins, so that jobs that become ready again and again don't keep others waiting.
+//! Decides at which slot each search for a job begins, so that jobs that become ready again and again don't keep other
+//! jobs waiting.
 ghost use Rattle.std.specs.Prelude.{◌≡◌, ◌≢◌, ◌⊎◌, ◌↔◌, ℕ, ◌+◌, ◌-◌, ◌*◌, ◌/◌, ◌%◌, ◌^◌, ◌<◌, ◌≤◌, false, true, IsTrue, IfSome, IfNone};
 ghost use Rattle.std.specs.Int.{bit_at};
 ghost use Rattle.std.specs.Int.RustNames.{bit_and};
@@ -57,8 +58,8 @@ pub(crate) fn shard_in_turn(first: usize, index: usize, count: usize) -> usize
     }
 }
 
-/// The blocks of a shard that a search has yet to visit, a bit for each, and the index of the block at which the search
-/// began.
+/// The blocks of a shard that a search has yet to visit, as a bit for each block, and the index of the block at which
+/// the search began.
 #[derive(Drop)]
 pub(crate) struct Unsearched {
     blocks: u64,
@@ -77,14 +78,14 @@ impl Unsearched {
         Some(first_from(self.blocks, self.from))
     }
 
-    /// Removes a block from the search: one that had no ready job, and whose summary bit was cleared.
+    /// Removes a block from the search: a block without ready jobs, whose summary bit was cleared.
     pub(crate) fn pass(&mut self, hidden: Hidden)
         ensures { self.new ≡ record self.old { blocks = bit_and self.old.blocks (others (hidden.block % 64)) } }
     {
         self.blocks &= all_but(hidden.block() % 64);
     }
 
-    /// Returns true if the search has yet to visit another block after the block `index`.
+    /// Returns true if the search has yet to visit a block with a greater index than `index`.
     fn has_more(&self, index: usize) -> bool
         requires { index < 64 }
         ensures { IsTrue result ↔ HasMoreBehind self.now index }
@@ -93,9 +94,9 @@ impl Unsearched {
     }
 }
 
-/// A job that was taken, and whether its block had another ready slot behind the job's.
+/// A job that was taken, with a flag that says if its block had another ready slot behind the job's slot.
 ///
-/// The value can't be dropped: its methods return the job only to a caller that also sets the start of the next search.
+/// The value can't be dropped: its methods return the job only together with setting the start of the next search.
 pub(crate) struct TakenJob {
     job: HeldJob,
     more: bool,
@@ -109,8 +110,8 @@ impl TakenJob {
         TakenJob { job, more }
     }
 
-    /// Returns the job that a worker's search has taken. Sets `turn` so that the next search begins behind the job's
-    /// slot.
+    /// Returns the job that a worker's search has taken. Sets `turn` so that the worker's next search begins behind the
+    /// job's slot.
     pub(crate) fn in_turn(self, turn: &mut SearchTurn, left: &Unsearched) -> HeldJob
         requires { self.job.place < 1048576 }
         ensures job { result ≡ self.job }
@@ -124,8 +125,8 @@ impl TakenJob {
         job
     }
 
-    /// Returns the job that a `take` has taken. Sets `turn` to the index behind the job's, at which the seat's next
-    /// `take` begins.
+    /// Returns the job that a `take` has taken. Sets `turn` to the slot index behind the job's, at which the seat's
+    /// next `take` begins.
     pub(crate) fn in_block(self, turn: &mut TakeTurn) -> HeldJob
         ensures job { result ≡ self.job }
         ensures index { turn.new.index ≡ self.job.place % 64 + 1 }
@@ -144,7 +145,7 @@ pub(crate) struct First {
 }
 
 impl First {
-    /// Returns the slot index at which the caller must begin its search.
+    /// Returns the slot index at which the caller must begin to search the block.
     #[inline(always)]
     pub(crate) fn begun(self) -> usize
         ensures { result ≡ self.index }
@@ -154,7 +155,7 @@ impl First {
     }
 }
 
-/// The slot index in a block at which a seat's next `take` begins. The index counts modulo 64.
+/// The slot index in a block, modulo 64, at which a seat's next `take` begins.
 #[derive(Clone, Copy, Drop)]
 pub(crate) struct TakeTurn {
     index: usize,
@@ -195,8 +196,8 @@ impl SearchTurn {
 
     /// Returns the start of the next search, after a job was taken from slot `place`.
     ///
-    /// `in_block` is true if a slot behind that one in its block was ready too, and `in_shard` if its shard has another
-    /// block to search.
+    /// `in_block` is true if a slot behind `place` in its block was ready too; `in_shard` is true if the search of the
+    /// shard has yet to visit a block behind that block.
     pub(crate) fn behind(place: usize, in_block: bool, in_shard: bool) -> SearchTurn
         requires { place < 1048576 }
         ensures in_block { in_block ≡ true → result.place ≡ place + 1 }
@@ -223,8 +224,8 @@ impl SearchTurn {
         if first < count { first } else { 0 }
     }
 
-    /// Returns a search of the blocks whose bits are set in `shown`. In the shard in which this turn's slot lies, the
-    /// search begins at the block of that slot; in any other shard, at block 0.
+    /// Returns a search of those blocks of `shard` whose bits are set in `shown`. If this turn's slot lies in `shard`,
+    /// the search begins at that slot's block, otherwise at block 0.
     pub(crate) fn unsearched(&self, shard: usize, shown: u64) -> Unsearched
         ensures blocks { result.blocks ≡ shown }
         ensures turn { self.now.place / 4096 ≡ shard → result.from ≡ self.now.place / 64 % 64 }
@@ -249,7 +250,8 @@ impl SearchTurn {
         }
     }
 
-    /// Returns the slot index at which the search of `block` begins.
+    /// Returns the slot index at which the search of `block` begins: the index of this turn's slot if that slot lies in
+    /// `block`, otherwise 0.
     pub(crate) fn first_place(&self, block: usize) -> First
         ensures turn { self.now.place / 64 ≡ block → result.index ≡ self.now.place % 64 }
         ensures other { self.now.place / 64 ≢ block → result.index ≡ 0 }

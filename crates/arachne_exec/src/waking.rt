@@ -8,7 +8,8 @@ use crate::executor::Executor;
 use crate::layout::{LAST_GENERATION, mark_word, place_of};
 use crate::seat::{ExecSeat, SeatInCall};
 
-/// The result of `rouse`. With `Held`, the seat now holds the job in that slot.
+/// The result of `rouse`. `Held`: the job was blocked, and the seat (a thread's right to call the executor) now holds
+/// it.
 enum RouseResult {
     Held(usize),
     Marked,
@@ -18,7 +19,8 @@ enum RouseResult {
 }
 
 impl Executor {
-    /// Wakes the job with this generation in slot `place`. If the job is blocked, the seat takes it.
+    /// Wakes the job in slot `place` that has this generation (the number of jobs that had ended there before). If the
+    /// job is blocked, the caller's seat then holds it.
     fn rouse(&self, seat: &mut SeatInCall, place: usize, generation: u64) -> RouseResult
         requires own { seat.old.table ≡ self.now.table }
         requires calm { seat.old.known.unshown ≡ 0 }
@@ -47,7 +49,7 @@ impl Executor {
         RouseResult::Lost
     }
 
-    /// Tries once to wake the job with this name. `name` may be any number.
+    /// Tries once to wake the job with this name. The caller may pass any number as `name`.
     pub fn wake(&self, seat: &mut ExecSeat, name: u64) -> JobWoken
         requires own { seat.old.table ≡ self.now.table }
         ensures seat { seat.new ≡ record seat.old { known = seat.new.known } }

@@ -1,5 +1,5 @@
 //! One function for each atomic operation on the words of a slot: its free bit, its ready bit and its mark. The
-//! contract of each function says what the seat then holds and records.
+//! contract of each function says which jobs the seat then holds, and what its record then says.
 ghost use Rattle.std.specs.Prelude.{◌≡◌, ◌≢◌, ℕ, ◌+◌, ◌-◌, ◌*◌, ◌/◌, ◌%◌, ◌^◌, ◌<◌, ◌≤◌, ◌∷◌, IsTrue, IsFalse};
 ghost use Rattle.std.specs.Int.{bit_at};
 ghost use Rattle.atomic_table.specs.Table.{rest};
@@ -29,7 +29,8 @@ impl Executor {
         self.table.shared.load::<LookAtWord>(&mut seat.seat, word)
     }
 
-    /// Stores `new` as the job number of the slot that the seat got last. Returns the number that was stored before.
+    /// Stores `new` as the job number of slot `place`, the one that the seat got last. Returns the job number that was
+    /// stored there before.
     pub(crate) fn lay(&self, seat: &mut SeatInCall, place: usize, new: u64) -> u64
         requires own { seat.old.table ≡ self.now.table }
         requires out { (old : ℕ) × (seat.old.slots ≡ (place, old) ∷ rest seat.old.slots) }
@@ -40,7 +41,7 @@ impl Executor {
         self.table.shared.exchange(&mut seat.seat, place, new)
     }
 
-    /// Clears the ready bit of slot `place`. Returns true if the bit was set. Then the seat holds the slot.
+    /// Clears the ready bit of slot `place`. Returns true if the bit was set: the caller's seat then holds the slot.
     pub(crate) fn take_bit(&self, seat: &mut SeatInCall, place: usize) -> bool
         requires own { seat.old.table ≡ self.now.table }
         requires place { place < 4096 * self.now.shards }
@@ -76,7 +77,7 @@ impl Executor {
         found & pick
     }
 
-    /// Clears the free bit of slot `place`. Returns true if the bit was set. Then the seat holds the slot, and the
+    /// Clears the free bit of slot `place`. Returns true if the bit was set: then the seat holds the slot, and the
     /// caller must spawn a job there.
     pub(crate) fn claim_bit(&self, seat: &mut SeatInCall, place: usize) -> bool
         requires own { seat.old.table ≡ self.now.table }
@@ -96,7 +97,7 @@ impl Executor {
         found >> index as u32 & 1 == 1
     }
 
-    /// Frees slot `place`, the one that the seat got last. Its job must have ended.
+    /// Frees slot `place`, the one that the seat got last, after the job in it has ended.
     pub(crate) fn put_free(&self, seat: &mut SeatInCall, place: usize)
         requires own { seat.old.table ≡ self.now.table }
         requires place { place < 4096 * self.now.shards }
@@ -109,7 +110,7 @@ impl Executor {
     }
 
     /// Sets the ready bit of slot `place`, the one that the seat got last. Returns true if the caller must then set the
-    /// block's bit in the summary word.
+    /// bit of the slot's block in the summary word.
     pub(crate) fn put_ready(&self, seat: &mut SeatInCall, place: usize) -> bool
         requires own { seat.old.table ≡ self.now.table }
         requires place { place < 4096 * self.now.shards }
@@ -124,7 +125,7 @@ impl Executor {
     }
 
     /// Sets the ready bit of slot `place`, which the seat has claimed for the new job `job`. Returns true if the caller
-    /// must then set the block's bit in the summary word.
+    /// must then set the bit of the slot's block in the summary word.
     pub(crate) fn put_spawned(&self, seat: &mut SeatInCall, place: usize, job: u64) -> bool
         requires own { seat.old.table ≡ self.now.table }
         requires place { place < 4096 * self.now.shards }
@@ -140,8 +141,8 @@ impl Executor {
         shared.fetch_or::<PutSpawned>(&mut seat.seat, ready_word(place / 64), bit(place % 64)) == 0
     }
 
-    /// Records that the new job `job` is in slot `place`, which the seat has claimed and goes on holding. Returns the
-    /// slot's mark.
+    /// Records that the new job `job` is in slot `place`, which the seat has claimed. The seat still holds the slot.
+    /// Returns the slot's mark (an atomic word).
     pub(crate) fn begin(&self, seat: &mut SeatInCall, place: usize, job: u64) -> u64
         requires own { seat.old.table ≡ self.now.table }
         requires place { place < 4096 * self.now.shards }
@@ -155,9 +156,10 @@ impl Executor {
             .load::<Begin>(&mut seat.seat, mark_word(place))
     }
 
-    /// Blocks the job in slot `place`, if the slot's mark (an atomic word) is `old`. Returns true if it was.
+    /// Blocks the job in slot `place`, if the slot's mark (an atomic word) is `old`. Returns true if it blocked the
+    /// job.
     ///
-    /// `old` must be a mark in which no wake is recorded.
+    /// The caller must pass an `old` in which no wake is recorded.
     pub(crate) fn put_blocked(&self, seat: &mut SeatInCall, place: usize, old: u64) -> bool
         requires own { seat.old.table ≡ self.now.table }
         requires place { place < 4096 * self.now.shards }
@@ -177,7 +179,7 @@ impl Executor {
         found == old
     }
 
-    /// Clears the record of a wake in the mark of slot `place`, the one that the seat got last.
+    /// Clears the record of a wake in the mark (an atomic word) of slot `place`, the one that the seat got last.
     pub(crate) fn hear(&self, seat: &mut SeatInCall, place: usize)
         requires own { seat.old.table ≡ self.now.table }
         requires place { place < 4096 * self.now.shards }
@@ -189,7 +191,8 @@ impl Executor {
         shared.fetch_and::<Hear>(&mut seat.seat, mark_word(place), u64::MAX - 3);
     }
 
-    /// Ends the job in slot `place`: stores a mark with the next `generation`, in which no wake is recorded.
+    /// Ends the job in slot `place`: stores a mark (the slot's atomic word) with the next `generation`, in which no
+    /// wake is recorded.
     pub(crate) fn renew(&self, seat: &mut SeatInCall, place: usize, generation: u64)
         requires own { seat.old.table ≡ self.now.table }
         requires place { place < 4096 * self.now.shards }
@@ -202,7 +205,7 @@ impl Executor {
         shared.swap::<Renew>(&mut seat.seat, mark_word(place), 4 * generation);
     }
 
-    /// Retires slot `place`, whose job has ended, after the last generation: no other job is put there.
+    /// Retires slot `place`, in which the job of the last generation has ended: no other job is put there.
     pub(crate) fn retire(&self, seat: &mut SeatInCall, place: usize)
         requires own { seat.old.table ≡ self.now.table }
         requires place { place < 4096 * self.now.shards }
@@ -215,9 +218,10 @@ impl Executor {
         shared.swap::<RetirePlace>(&mut seat.seat, mark_word(place), 4 * LAST_GENERATION + 2);
     }
 
-    /// Takes the blocked job of slot `place`, if the slot's mark is `old`. Returns true if it was.
+    /// Takes the blocked job of slot `place`, if the slot's mark (an atomic word) is `old`. Returns true if it took the
+    /// job.
     ///
-    /// `old` must be the mark of a blocked job.
+    /// The caller must pass an `old` that is the mark of a blocked job.
     pub(crate) fn wake_mark(&self, seat: &mut SeatInCall, place: usize, old: u64) -> bool
         requires own { seat.old.table ≡ self.now.table }
         requires place { place < 4096 * self.now.shards }
@@ -231,9 +235,10 @@ impl Executor {
         found == old
     }
 
-    /// Records a wake in the mark of slot `place`, if the mark is `old`. Returns true if it was.
+    /// Records a wake in the mark of slot `place` (an atomic word), if the mark is `old`. Returns true if it recorded
+    /// the wake.
     ///
-    /// `old` must be the mark of a job that isn't blocked, with no wake recorded.
+    /// The caller must pass an `old` that is the mark of a job that isn't blocked, with no wake recorded.
     pub(crate) fn mark(&self, seat: &mut SeatInCall, place: usize, old: u64) -> bool
         requires own { seat.old.table ≡ self.now.table }
         requires place { place < 4096 * self.now.shards }

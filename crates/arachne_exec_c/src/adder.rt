@@ -64,7 +64,7 @@ impl ArachneAdder {
         *self = ArachneAdder::of_handle(Handle::of(value));
     }
 
-    /// Returns true if the handle holds a share.
+    /// Returns true if the handle holds a share (a thread's right to add).
     pub(crate) fn is_in_use(&mut self, alloc: Global) -> bool
         ensures used { IsTrue result ↔ IsSome (option_flatten self.old.value) }
         ensures same { self.new.value ≡ self.old.value }

@@ -29,7 +29,8 @@ impl Model for Adding {
 }
 
 impl Adding {
-    /// Creates `count` ledgers, each of total 0. Returns their first share, which has the whole weight.
+    /// Creates `count` ledgers, each of total 0. Returns their first share (a right to add), which has the whole weight
+    /// (each split halves it).
     pub(crate) fn new(alloc: Global, count: usize) -> Result<Adding, AllocError>
         ensures { IfOk result (IsNew count) }
     {
@@ -51,8 +52,8 @@ impl Adding {
         self.ledgers.add(&mut self.share, ledger, amount);
     }
 
-    /// Returns the sum of all amounts added to `ledger`, or `None` if another share wasn't joined into this one or
-    /// there is no such ledger.
+    /// Returns the sum of all amounts added to `ledger`. Returns `None` if another share (a right to add) wasn't joined
+    /// into this one, or if there is no such ledger.
     pub(crate) fn total(&mut self, ledger: usize) -> Option<u64>
         ensures read { IsSome result ↔ MayRead ledger self.old }
         ensures some { IfSome result (λ total. (total ≡ total_of ledger self.old) × (self.new ≡ with_reading ledger self.old)) }
@@ -64,8 +65,8 @@ impl Adding {
         Some(self.ledgers.read(&mut self.share, ledger))
     }
 
-    /// Splits the share into two. Returns `self` unchanged as an error if the reference count of the ledgers can't
-    /// grow.
+    /// Splits the share (a right to add) into two. If the reference count of the ledgers can't grow, returns `self`
+    /// unchanged as an error.
     pub(crate) fn split(self) -> Result<(Adding, Adding), Adding>
         ensures ok { IfOk result (λ parts. (parts.0 ≡ first_of self) × (parts.1 ≡ second_of self)) }
         ensures err { IfErr result (λ same. same ≡ self) }
@@ -104,9 +105,9 @@ impl Adding {
     }
 }
 
-/// Splits the share in `mine` into two, and puts the second one into `theirs`.
+/// Splits the share (a right to add) in `mine` into two, and puts the second one into `theirs`.
 ///
-/// Returns false, and changes nothing, if `mine` is empty or the reference count of the ledgers can't grow.
+/// Returns false, and changes nothing, if `mine` is empty or if the reference count of the ledgers can't grow.
 pub(crate) fn cut(mine: &mut Option<Adding>, theirs: &mut Option<Adding>) -> bool
     requires { theirs.old ≡ None }
     ensures cut { ForSome mine.old (λ old. MatchBool result
@@ -130,7 +131,8 @@ pub(crate) fn cut(mine: &mut Option<Adding>, theirs: &mut Option<Adding>) -> boo
     }
 }
 
-/// Joins the share in `theirs` into the one in `mine`. Returns false, and changes nothing, if either of them is empty.
+/// Joins the share (a right to add) in `theirs` into the one in `mine`. Returns false, and changes nothing, if either
+/// of them is empty.
 pub(crate) fn join_held(mine: &mut Option<Adding>, theirs: &mut Option<Adding>) -> bool
     requires { (a b : Adder) → mine.old ≡ Some a → theirs.old ≡ Some b → b.ledgers.table ≡ a.ledgers.table }
     ensures { IsJoined mine.old theirs.old mine.new theirs.new result }

@@ -4,7 +4,7 @@
 pub(crate) const DONE: u32 = 0;
 
 /// The call was refused, and has changed nothing: the handle is empty, or is in use although it must be empty; or its
-/// seat may not make this call now; or there is no such block, lock or ledger.
+/// seat (a thread's right to call the executor) may not make this call now; or there is no such block, lock or ledger.
 pub(crate) const REFUSED: u32 = 1;
 
 /// The allocator refused memory. Nothing has changed.
@@ -13,7 +13,8 @@ pub(crate) const NO_MEMORY: u32 = 2;
 /// Another thread was in a call on the same lock. Nothing has changed: try again.
 pub(crate) const CONTENDED: u32 = 3;
 
-/// Another thread was faster. Nothing has changed: try again; to register a worker, use another number.
+/// Another thread was first: it has claimed the slot, changed the job, or has the worker number. This call has changed
+/// nothing: try again, or register with another number.
 pub(crate) const LOST: u32 = 4;
 
 /// `who` holds the lock now.
@@ -43,11 +44,11 @@ pub(crate) const FULL: u32 = 12;
 /// The handle holds a job now: run it.
 pub(crate) const RUN: u32 = 13;
 
-/// The worker's idle bit is set, and after that no block of its shards was found that may have a ready job: sleep until
-/// you are unparked.
+/// The worker's idle bit is set, and after that no block of its shards was found that perhaps has a ready job: sleep
+/// until another thread unparks you.
 pub(crate) const PARK: u32 = 14;
 
-/// The call took no job, or found a block that may have a ready one: try again.
+/// The call took no job, or found a block that perhaps has a ready one: try again.
 pub(crate) const AGAIN: u32 = 15;
 
 /// The job is ready to be run.
@@ -56,9 +57,9 @@ pub(crate) const READY: u32 = 16;
 /// The job is blocked until it is woken.
 pub(crate) const BLOCKED: u32 = 17;
 
-/// The job is ready or runs, so the wake is recorded. A take or a start of the job clears that record. If neither
-/// follows, the record makes the job ready again instead of blocked when it next rests. If the name is the one that the
-/// next job of a free slot will have, the wake is recorded in the same way.
+/// The job isn't blocked, so the wake is recorded. If the job is then taken or started, that clears the record. If not,
+/// then the next time it would block, it becomes ready instead. A wake is recorded in the same way if the name is the
+/// one that the next job of a free slot will have.
 pub(crate) const MARKED: u32 = 18;
 
 /// An earlier wake of the job is still recorded.

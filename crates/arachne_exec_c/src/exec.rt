@@ -20,10 +20,11 @@ use crate::executing::Executing;
 use arachne_exec::MOST_SHARDS;
 use std::alloc::Global;
 
-/// Creates an executor with `shards` shards, and puts its first seat into `exec`, which must be empty.
+/// Creates an executor with `shards` shards of 4,096 job slots, and puts its first seat (a thread's right to call it)
+/// into `exec`, which must be empty.
 ///
-/// Shard s has the blocks 64 s to 64 s + 63, each with slots for 64 jobs; worker s % 64 runs these jobs. Returns DONE;
-/// REFUSED if the handle is in use, or if `shards` is greater than 256; NO_MEMORY.
+/// Shard s has the blocks 64 s to 64 s + 63, each with 64 slots of one job each; worker s % 64 runs these jobs. Returns
+/// DONE; REFUSED if the handle is in use, or if `shards` is greater than 256; NO_MEMORY if memory is refused.
 #[unsafe(no_mangle)]
 pub extern "C" fn arachne_exec_new(alloc: Global, exec: &mut ArachneExec, shards: usize) -> u32
     ensures { IsMade shards (held exec.old) (held exec.new) result }
@@ -41,12 +42,14 @@ pub extern "C" fn arachne_exec_new(alloc: Global, exec: &mut ArachneExec, shards
     DONE
 }
 
-/// Splits the seat of `exec` for another thread: `other` gets a new seat, without a job or a worker number.
+/// Splits the seat of `exec` (a thread's right to call the executor) for another thread: puts a new seat, without a job
+/// or a worker number, into `other`.
 ///
-/// Returns DONE; REFUSED if `exec` is empty or `other` is in use; NO_MEMORY.
+/// Returns DONE; REFUSED if `exec` is empty or `other` is in use; NO_MEMORY if memory is refused or the reference count
+/// can't grow.
 ///
-/// After more than 127 splits in a row, each of one of the two seats that the split before resulted in (such as `exec`
-/// each time), splits still succeed, but the executor can't be ended any more.
+/// If each split halves a seat that the split before resulted in (such as that of `exec` each time), then after more
+/// than 127 splits in a row further splits succeed, but the executor can't be ended any more.
 #[unsafe(no_mangle)]
 #[tactic(auto, using(crate::proofs::ExecCut::is_split))]
 pub extern "C" fn arachne_exec_split(
@@ -75,11 +78,11 @@ pub extern "C" fn arachne_exec_split(
     DONE
 }
 
-/// Joins the seat of `other` into that of `exec`, and leaves `other` empty.
+/// Joins the seat of `other` (a thread's right to call the executor) into that of `exec`, and leaves `other` empty.
 ///
 /// Returns DONE, or REFUSED if one of the handles is empty, or if `other` holds a job or has a worker number. The
-/// caller must pass two handles of one executor, which is not checked. If they are of two executors, the executor of
-/// `other` can't be ended any more, and the end of the executor of `exec` may return too few jobs.
+/// caller must pass two handles of one executor; the library doesn't check this. If they are of two executors, the
+/// executor of `other` can't be ended any more, and the end of the executor of `exec` perhaps returns too few jobs.
 #[unsafe(no_mangle)]
 pub extern "C" fn arachne_exec_join(
     alloc: Global,
@@ -107,10 +110,10 @@ pub extern "C" fn arachne_exec_join(
 /// Ends the executor, writes the numbers of the jobs that haven't ended to the beginning of `left`, and empties the
 /// handle.
 ///
-/// A number that several such jobs have is written once for each of them; the number 0 is never written. Returns DONE
-/// with the count of numbers written; REFUSED if the handle is empty or holds a job, if not all other handles were
-/// joined into this one, or if `left` has room for fewer than 4,096 numbers for each shard; NO_MEMORY. Unless the code
-/// is DONE, the count is 0, and the executor and `left` are unchanged.
+/// If several of these jobs have the same number, it is written once for each of them; the number 0 is never written.
+/// Returns DONE with the count of numbers written; REFUSED if the handle is empty or holds a job, if not all other
+/// handles were joined into this one, or if `left` has room for fewer than 4,096 numbers for each shard; NO_MEMORY if
+/// memory is refused. Unless the code is DONE, the count is 0, and the executor and `left` are unchanged.
 #[unsafe(no_mangle)]
 pub extern "C" fn arachne_exec_end(
     alloc: Global,
@@ -127,9 +130,11 @@ pub extern "C" fn arachne_exec_end(
     told
 }
 
-/// Frees the seat of a handle, if it has one. The last handle of an executor frees the executor too.
+/// Frees the seat of a handle (a thread's right to call an executor), if it has one. The last handle of an executor
+/// frees the executor too.
 ///
-/// If the handle holds a job, that job can never be run again. After this call, the executor can't be ended any more.
+/// If the handle holds a job, that job can never be run again. If this handle had a seat, the executor can't be ended
+/// any more after this call.
 #[unsafe(no_mangle)]
 pub extern "C" fn arachne_exec_close(alloc: Global, exec: &mut ArachneExec)
     ensures { held exec.new ≡ None }
@@ -137,7 +142,8 @@ pub extern "C" fn arachne_exec_close(alloc: Global, exec: &mut ArachneExec)
     drop(exec.take(alloc));
 }
 
-/// Gives the handle's seat the worker number `worker`, from 0 to 63.
+/// Makes the calling thread the worker with the number `worker`, from 0 to 63: the handle's seat (a thread's right to
+/// call the executor) gets that number.
 ///
 /// Returns DONE; LOST if another seat has that number; REFUSED if the handle is empty, if its seat already has a worker
 /// number, or if `worker` is greater than 63.
@@ -153,7 +159,10 @@ pub extern "C" fn arachne_exec_register(alloc: Global, exec: &mut ArachneExec, w
     told
 }
 
-/// Gives the seat's worker number back. Returns DONE, or REFUSED if the handle is empty or its seat has no such number.
+/// Gives the worker number of the handle's seat (a thread's right to call the executor) back, so that another seat can
+/// get it.
+///
+/// Returns DONE, or REFUSED if the handle is empty or its seat has no worker number.
 #[unsafe(no_mangle)]
 pub extern "C" fn arachne_exec_leave(alloc: Global, exec: &mut ArachneExec) -> u32
     ensures { IsTold IsWorker Leaves refused (held exec.old) (held exec.new) result }
@@ -166,11 +175,11 @@ pub extern "C" fn arachne_exec_leave(alloc: Global, exec: &mut ArachneExec) -> u
     told
 }
 
-/// Tries once to put `job` into a free slot of `block`, ready to be run by any thread.
+/// Tries once to put `job` into a free one of the 64 slots of `block`, ready to be run by any thread.
 ///
 /// Returns READY with the job's name, and the worker to unpark; FULL if no slot of the block is free; LOST if another
-/// thread was faster; REFUSED if the handle is empty or there is no such block. A job with the number 0 is not returned
-/// by `arachne_exec_end`.
+/// thread claimed the slot first; REFUSED if the handle is empty or there is no such block. If `job` is 0,
+/// `arachne_exec_end` doesn't write its number.
 #[unsafe(no_mangle)]
 pub extern "C" fn arachne_exec_spawn(
     alloc: Global,
@@ -188,10 +197,11 @@ pub extern "C" fn arachne_exec_spawn(
     told
 }
 
-/// Tries once to put `job` into a free slot of `block`. The handle then holds the job, so nobody else can take it.
+/// Tries once to put `job` into a free one of the 64 slots of `block`. The handle then holds the job, so no other
+/// thread can take it.
 ///
-/// Returns RUN with the job's name and number; FULL if no slot of the block is free; LOST if another thread was faster;
-/// REFUSED if the handle is empty or holds a job, or if there is no such block.
+/// Returns RUN with the job's name and number; FULL if no slot of the block is free; LOST if another thread claimed the
+/// slot first; REFUSED if the handle is empty or holds a job, or if there is no such block.
 #[unsafe(no_mangle)]
 pub extern "C" fn arachne_exec_spawn_here(
     alloc: Global,
@@ -209,10 +219,10 @@ pub extern "C" fn arachne_exec_spawn_here(
     told
 }
 
-/// Returns a bit for each of the 64 blocks of `shard` that may have ready jobs, by one load.
+/// Returns a bit for each of the 64 blocks of `shard` that perhaps has ready jobs, by one load.
 ///
-/// A block whose bit is clear has no ready job, unless a call in progress will still set the bit or find it set.
-/// Returns 0 also if the handle is empty or there is no such shard.
+/// A block whose bit is clear has no ready job, unless a call in progress has yet to set that bit, or to find that
+/// another call has set it. Returns 0 also if the handle is empty or there is no such shard.
 #[unsafe(no_mangle)]
 pub extern "C" fn arachne_exec_shown(alloc: Global, exec: &mut ArachneExec, shard: usize) -> u64
     ensures { IsTold (HasShard shard) (LooksAt (summary_at shard)) 0 (held exec.old) (held exec.new) result }
@@ -240,7 +250,8 @@ pub extern "C" fn arachne_exec_ready(alloc: Global, exec: &mut ArachneExec, bloc
     told
 }
 
-/// Tries once to take a ready job of `block`, so that the handle holds the job. The block may be any worker's.
+/// Tries once to take a ready job from one of the 64 slots of `block`, so that the handle holds the job. The block may
+/// be any worker's.
 ///
 /// Returns RUN with the job's name and number; AGAIN if no job was taken; REFUSED if the handle is empty or holds a
 /// job, or if there is no such block.
@@ -260,13 +271,13 @@ pub extern "C" fn arachne_exec_take(
     told
 }
 
-/// Takes up to `most` ready jobs of `block` in one atomic operation. The handle then holds them, so nobody else can
-/// take them. A `most` of 0 counts as 1.
+/// Takes up to `most` ready jobs of `block` in one atomic operation. The handle then holds them, so no other thread can
+/// take them. If `most` is 0, takes up to one.
 ///
 /// Returns a bit for each of the block's 64 slots whose job was taken. The next calls concern the job in the lowest of
-/// these slots; when that job rests or ends, the next calls concern the job in the next slot, and so on.
-/// `arachne_exec_start` returns the number and the name of that job. Returns 0 if no job was taken, if the handle is
-/// empty or holds a job already, or if there is no such block.
+/// these slots; when that job rests (is made ready or blocked again) or ends, the next calls concern the job in the
+/// next slot, and so on. `arachne_exec_start` returns the number and the name of that job. Returns 0 if no job was
+/// taken, if the handle is empty or holds a job already, or if there is no such block.
 #[unsafe(no_mangle)]
 pub extern "C" fn arachne_exec_take_many(
     alloc: Global,
@@ -284,8 +295,8 @@ pub extern "C" fn arachne_exec_take_many(
     told
 }
 
-/// Begins to run the next of the jobs that `arachne_exec_take_many` has taken. Clears the record of a wake that came
-/// since the take.
+/// Prepares the next of the jobs that `arachne_exec_take_many` has taken, so that the caller can run it. If a wake of
+/// that job is recorded, clears the record: the run answers that wake.
 ///
 /// Returns RUN with the job's name and number, or REFUSED if the handle holds no job.
 #[unsafe(no_mangle)]
@@ -300,10 +311,12 @@ pub extern "C" fn arachne_exec_start(alloc: Global, exec: &mut ArachneExec) -> A
     told
 }
 
-/// Takes the next job that is ready in the blocks of the handle's worker, or lets the worker park.
+/// Takes the next job that is ready in the blocks (64 job slots each) of the handle's worker, or says that the worker
+/// must park.
 ///
 /// Returns RUN with the job's name and number; PARK if the worker must sleep; AGAIN if the caller must call again;
-/// REFUSED if the handle is empty or holds a job, or if its seat has no worker number.
+/// REFUSED if the handle is empty or holds a job, or if its seat (a thread's right to call the executor) has no worker
+/// number.
 #[unsafe(no_mangle)]
 pub extern "C" fn arachne_exec_next(alloc: Global, exec: &mut ArachneExec) -> ArachneExecTold
     ensures { IsTold MayGoOn (Tells GoesOn told_next) (code_alone refused) (held exec.old) (held exec.new) result }
@@ -316,11 +329,11 @@ pub extern "C" fn arachne_exec_next(alloc: Global, exec: &mut ArachneExec) -> Ar
     told
 }
 
-/// Sets the worker's idle bit, by which other threads know to unpark it, and then checks if a block of the worker may
-/// have ready jobs. `arachne_exec_next` does the same if it finds no job.
+/// Sets the worker's idle bit, by which other threads know that they must unpark the worker; then looks for blocks (64
+/// job slots each) of the worker that perhaps have ready jobs. `arachne_exec_next` does the same if it finds no job.
 ///
-/// Returns PARK if no block may have any; AGAIN, after clearing the idle bit, if one may; REFUSED if the handle is
-/// empty or its seat has no worker number.
+/// Returns PARK if there is no such block; AGAIN if there is one, after clearing the idle bit; REFUSED if the handle is
+/// empty or its seat (a thread's right to call the executor) has no worker number.
 #[unsafe(no_mangle)]
 pub extern "C" fn arachne_exec_may_park(alloc: Global, exec: &mut ArachneExec) -> u32
     ensures { IsTold IsWorker ParksOrNot refused (held exec.old) (held exec.new) result }
@@ -333,9 +346,10 @@ pub extern "C" fn arachne_exec_may_park(alloc: Global, exec: &mut ArachneExec) -
     told
 }
 
-/// Clears the worker's idle bit. Call it if the worker stops sleeping without having been unparked.
+/// Clears the worker's idle bit. The worker must call it when it stops sleeping without having been unparked.
 ///
-/// Returns DONE, or REFUSED if the handle is empty or its seat has no worker number.
+/// Returns DONE, or REFUSED if the handle is empty or its seat (a thread's right to call the executor) has no worker
+/// number.
 #[unsafe(no_mangle)]
 pub extern "C" fn arachne_exec_wake_up(alloc: Global, exec: &mut ArachneExec) -> u32
     ensures { IsTold IsWorker WakesUp refused (held exec.old) (held exec.new) result }
@@ -348,8 +362,9 @@ pub extern "C" fn arachne_exec_wake_up(alloc: Global, exec: &mut ArachneExec) ->
     told
 }
 
-/// Makes the job that the handle holds ready again. Returns READY with the worker to unpark, or REFUSED if the handle
-/// holds no job.
+/// Makes the job that the handle holds ready again, so that any thread can take it.
+///
+/// Returns READY with the worker to unpark, or REFUSED if the handle holds no job.
 #[unsafe(no_mangle)]
 pub extern "C" fn arachne_exec_rest_ready(alloc: Global, exec: &mut ArachneExec) -> ArachneExecTold
     ensures { IsToldOf (λ place. Tells (Yields place) (λ unpark. code_unparking 16 (whom unpark place))) (code_alone refused) (held exec.old) (held exec.new) result }
@@ -381,9 +396,9 @@ pub extern "C" fn arachne_exec_rest_blocked(
     told
 }
 
-/// Ends the job that the handle holds, and frees its slot. Returns DONE, or REFUSED if the handle holds no job.
+/// Ends the job that the handle holds, and frees its slot for another job.
 ///
-/// After 2^44 - 1 jobs a slot is retired and takes no more jobs.
+/// Returns DONE, or REFUSED if the handle holds no job. After 2^44 - 1 jobs a slot is retired and takes no more jobs.
 #[unsafe(no_mangle)]
 pub extern "C" fn arachne_exec_finish(alloc: Global, exec: &mut ArachneExec) -> u32
     ensures { IsToldOf Finishes refused (held exec.old) (held exec.new) result }
@@ -399,8 +414,8 @@ pub extern "C" fn arachne_exec_finish(alloc: Global, exec: &mut ArachneExec) -> 
 /// Tries once to wake the job with this name.
 ///
 /// Returns READY with the worker to unpark, if the job was blocked; MARKED if it wasn't, and this wake is recorded;
-/// ALREADY_MARKED if a wake was recorded before; GONE if no job has the name; LOST if another thread was faster;
-/// REFUSED if the handle is empty.
+/// ALREADY_MARKED if an earlier wake is still recorded; GONE if no job has the name; LOST if another thread changed the
+/// job's slot first; REFUSED if the handle is empty.
 #[unsafe(no_mangle)]
 pub extern "C" fn arachne_exec_wake(
     alloc: Global,

@@ -64,7 +64,7 @@ impl ArachneExec {
         *self = ArachneExec::of_handle(Handle::of(value));
     }
 
-    /// Returns true if the handle holds a seat.
+    /// Returns true if the handle holds a seat (a thread's right to call the executor).
     pub(crate) fn is_in_use(&mut self, alloc: Global) -> bool
         ensures used { IsTrue result ↔ IsSome (option_flatten self.old.value) }
         ensures same { self.new.value ≡ self.old.value }

@@ -1,4 +1,5 @@
-//! For each C function on an executor: the call by a handle that may be empty, which returns the code for C.
+//! For each C function on an executor, a function that takes the handle's seat, if it has one, and returns the code for
+//! C.
 ghost use Rattle.std.specs.Prelude.{◌≡◌, ◌↔◌, ◌%◌, ◌^◌, MatchBool, IsTrue};
 ghost use Rattle.std.specs.Option.{ForSome, IsSomeAnd};
 ghost use Rattle.std.specs.declared.option.Option.TheVariants.{None, Some};
@@ -207,9 +208,9 @@ pub(crate) fn leave_held(held: &mut Option<Executing>) -> u32
     }
 }
 
-/// Splits the seat in `mine` into two, and puts the second one into `theirs`.
+/// Splits the seat in `mine` (a thread's right to call the executor) into two, and puts the second one into `theirs`.
 ///
-/// Returns false, and changes nothing, if `mine` is empty or the executor's reference count can't grow.
+/// Returns false, and changes nothing, if `mine` is empty or if the executor's reference count can't grow.
 pub(crate) fn cut_held(mine: &mut Option<Executing>, theirs: &mut Option<Executing>) -> bool
     requires { theirs.old ≡ None }
     ensures cut { ForSome mine.old (λ old. MatchBool result
@@ -254,7 +255,7 @@ pub(crate) fn end_held(
     }
 }
 
-/// Returns true if `held` has a seat that holds no job and has no worker number.
+/// Returns true if `held` has a seat (a thread's right to call) that holds no job and has no worker number.
 fn is_idle_held(held: &Option<Executing>) -> bool
     ensures { IsTrue result ↔ IsSomeAnd held.now IsIdle }
 {
@@ -264,8 +265,8 @@ fn is_idle_held(held: &Option<Executing>) -> bool
     }
 }
 
-/// Joins the seat in `theirs` into the one in `mine`, if there are both and the seat in `theirs` holds no job and has
-/// no worker number.
+/// Joins the seat (a thread's right to call the executor) in `theirs` into the one in `mine`, and returns DONE. Returns
+/// REFUSED if either of them is empty, or if the seat in `theirs` holds a job or has a worker number.
 #[tactic(auto, using(crate::proofs::ExecCut::not_joined))]
 pub(crate) fn join_held(mine: &mut Option<Executing>, theirs: &mut Option<Executing>) -> u32
     requires { (a b : Exec) → mine.old ≡ Some a → theirs.old ≡ Some b → b.executor ≡ a.executor }

@@ -15,9 +15,9 @@ use arachne_exec::{
 #[derive(Clone, Copy)]
 pub struct ArachneExecTold {
     /// The name of the job that was spawned, or that the handle holds: 20 bits for its slot, and 44 for the slot's
-    /// generation, which is the number of jobs that have ended there.
+    /// generation (the number of jobs that had ended there when this job was spawned).
     pub name: u64,
-    /// The number of the job that the handle holds, as it was given to the spawn.
+    /// The number of the job that the handle holds, as it was passed to the spawn.
     pub job: u64,
     pub code: u32,
     /// The worker whose thread the caller must unpark, or NOBODY.

@@ -12,7 +12,8 @@ use std::alloc::Global;
 
 /// Creates `count` ledgers (counters), each of total 0, and puts their first share into `adder`, which must be empty.
 ///
-/// A share is one thread's right to add to the ledgers. Returns DONE; REFUSED if the handle is in use; NO_MEMORY.
+/// A share is one thread's right to add to the ledgers. Returns DONE; REFUSED if the handle is in use; NO_MEMORY if
+/// memory is refused.
 #[unsafe(no_mangle)]
 pub extern "C" fn arachne_ledgers_new(alloc: Global, adder: &mut ArachneAdder, count: usize) -> u32
     ensures { IsMade count (held adder.old) (held adder.new) result }
@@ -30,9 +31,9 @@ pub extern "C" fn arachne_ledgers_new(alloc: Global, adder: &mut ArachneAdder, c
     DONE
 }
 
-/// Adds `amount` to a ledger.
+/// Adds `amount` to the ledger with index `ledger`.
 ///
-/// Returns false, and changes nothing, if the handle is empty or there is no such ledger.
+/// Returns false, and changes nothing, if the handle is empty or if there is no such ledger.
 #[unsafe(no_mangle)]
 pub extern "C" fn arachne_ledger_add(
     alloc: Global,
@@ -91,12 +92,14 @@ pub extern "C" fn arachne_ledger_total(
     }
 }
 
-/// Splits the share of `adder` for another thread: `other` gets a new share, which has added nothing.
+/// Splits the share of `adder` (a thread's right to add) for another thread: puts a new share into `other`, by which
+/// nothing was added yet.
 ///
-/// Returns DONE; REFUSED if `adder` is empty or `other` is in use; NO_MEMORY.
+/// Returns DONE; REFUSED if `adder` is empty or `other` is in use; NO_MEMORY if memory is refused or the reference
+/// count can't grow.
 ///
-/// After more than 127 splits in a row, each of one of the two shares that the split before resulted in (such as
-/// `adder` each time), splits still succeed, but no total can be read any more.
+/// If each split halves a share that the split before resulted in (such as that of `adder` each time), then after more
+/// than 127 splits in a row further splits succeed, but no total can be read any more.
 #[unsafe(no_mangle)]
 #[tactic(auto, using(crate::proofs::AdderCut::is_split))]
 pub extern "C" fn arachne_ledger_split(
@@ -125,11 +128,11 @@ pub extern "C" fn arachne_ledger_split(
     DONE
 }
 
-/// Joins the share of `other` into that of `adder`, and leaves `other` empty.
+/// Joins the share of `other` (a thread's right to add) into that of `adder`, and leaves `other` empty.
 ///
 /// Returns false, and changes nothing, if one of the handles is empty. The caller must pass two handles of one set of
-/// ledgers, which is not checked. If they are of two sets, the totals of `adder`'s ledgers may be readable before all
-/// of their handles were joined, and the totals of `other`'s ledgers can't be read any more.
+/// ledgers; the library doesn't check this. If they are of two sets, the totals of `adder`'s ledgers can perhaps be
+/// read before all of their handles were joined, and the totals of `other`'s ledgers can't be read any more.
 #[unsafe(no_mangle)]
 pub extern "C" fn arachne_ledger_join(
     alloc: Global,
@@ -154,9 +157,10 @@ pub extern "C" fn arachne_ledger_join(
     is_joined
 }
 
-/// Frees the share of a handle, if it has one. The last handle of a set of ledgers frees the ledgers too.
+/// Frees the share of a handle (a thread's right to add), if it has one. The last handle of a set of ledgers frees the
+/// ledgers too.
 ///
-/// After this call, no other handle can read a total.
+/// If this handle had a share, no other handle can read a total after this call.
 #[unsafe(no_mangle)]
 pub extern "C" fn arachne_ledger_close(alloc: Global, adder: &mut ArachneAdder)
     ensures { held adder.new ≡ None }

@@ -15,7 +15,7 @@ use std::alloc::Global;
 
 /// Creates `count` locks, and puts their first seat, a thread's right to use them, into `locks`, which must be empty.
 ///
-/// Returns DONE; REFUSED if the handle is in use; NO_MEMORY.
+/// Returns DONE; REFUSED if the handle is in use; NO_MEMORY if memory is refused.
 #[unsafe(no_mangle)]
 pub extern "C" fn arachne_locks_new(alloc: Global, locks: &mut ArachneLocks, count: usize) -> u32
     ensures { IsMade count (held locks.old) (held locks.new) result }
@@ -33,9 +33,10 @@ pub extern "C" fn arachne_locks_new(alloc: Global, locks: &mut ArachneLocks, cou
     DONE
 }
 
-/// Splits the seat of `locks` for another thread: `other` gets a new seat.
+/// Splits the seat of `locks` (a thread's right to use them) for another thread: puts a new seat into `other`.
 ///
-/// Returns DONE; REFUSED if `locks` is empty or `other` is in use; NO_MEMORY.
+/// Returns DONE; REFUSED if `locks` is empty or `other` is in use; NO_MEMORY if memory is refused or the reference
+/// count can't grow.
 #[unsafe(no_mangle)]
 #[tactic(auto, using(crate::proofs::SeatCut::is_split))]
 pub extern "C" fn arachne_locks_split(
@@ -64,10 +65,10 @@ pub extern "C" fn arachne_locks_split(
     DONE
 }
 
-/// Joins the seat of `other` into that of `locks`, and leaves `other` empty.
+/// Joins the seat of `other` (a thread's right to use the locks) into that of `locks`, and leaves `other` empty.
 ///
-/// Returns DONE, or REFUSED if one of the handles is empty. The caller must pass two handles of one set of locks, which
-/// is not checked. If they are of two sets, the seat of `other` is only freed, as by `arachne_locks_close`.
+/// Returns DONE, or REFUSED if one of the handles is empty. The caller must pass two handles of one set of locks; the
+/// library doesn't check this. If they are of two sets, the seat of `other` is only freed, as by `arachne_locks_close`.
 #[unsafe(no_mangle)]
 pub extern "C" fn arachne_locks_join(
     alloc: Global,
@@ -92,7 +93,8 @@ pub extern "C" fn arachne_locks_join(
     code
 }
 
-/// Frees the seat of a handle, if it has one. The last handle of a set of locks frees the locks too.
+/// Frees the seat of a handle (a thread's right to use the locks), if it has one. The last handle of a set of locks
+/// frees the locks too.
 #[unsafe(no_mangle)]
 pub extern "C" fn arachne_locks_close(alloc: Global, locks: &mut ArachneLocks)
     ensures { held locks.new ≡ None }
@@ -103,8 +105,8 @@ pub extern "C" fn arachne_locks_close(alloc: Global, locks: &mut ArachneLocks)
 /// Tries once to ask for a lock for the task with the number `who`.
 ///
 /// Returns GRANTED if `who` holds the lock now; QUEUED if `who` now waits for it; ALREADY_IN if `who` already held it
-/// or waited; NO_MEMORY, only if `who` would have to wait; CONTENDED if another thread was in a call on the lock;
-/// REFUSED if the handle is empty or there is no such lock.
+/// or waited; NO_MEMORY if memory is refused, which happens only if `who` would have to wait; CONTENDED if another
+/// thread was in a call on the lock; REFUSED if the handle is empty or there is no such lock.
 #[unsafe(no_mangle)]
 pub extern "C" fn arachne_lock_ask(
     alloc: Global,
@@ -122,7 +124,7 @@ pub extern "C" fn arachne_lock_ask(
     told
 }
 
-/// Tries once to free a lock that `who` holds.
+/// Tries once to free the lock with index `lock`, which the task `who` holds.
 ///
 /// Returns FREED if nobody waited; HANDED_ON if the longest waiter, `next`, holds the lock now; NOT_HOLDER if `who`
 /// didn't hold it; CONTENDED if another thread was in a call on the lock; REFUSED if the handle is empty or there is no
@@ -166,7 +168,7 @@ pub extern "C" fn arachne_lock_withdraw(
     told
 }
 
-/// Tries once to find out whether `who` holds a lock.
+/// Tries once to find out if the task `who` holds the lock with index `lock`.
 ///
 /// Returns GRANTED, with the event number of the grant, if `who` holds it; NOT_HOLDER if not; CONTENDED if another
 /// thread was in a call on the lock; REFUSED if the handle is empty or there is no such lock.

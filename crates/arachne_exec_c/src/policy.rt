@@ -1,6 +1,7 @@
 //! The C functions that advise, from samples of the load, when to ask for a core and when to give one back.
 //!
-//! An estimator lies in the caller's memory, and no call allocates. No call is undefined, whatever bytes are there.
+//! An estimator lies in the caller's memory, and no call allocates. No call has undefined behaviour, whatever bytes
+//! that memory contains.
 ghost use Rattle.std.specs.Prelude.{◌≡◌, ◌≢◌, ◌≤◌, ◌↔◌, List, [], IsTrue, MatchBool};
 ghost use Rattle.arachne_policy.specs.declared.samples.Sample.{Sample as Past};
 ghost use Rattle.arachne_policy.specs.State.{most_cores, StandsFor};
@@ -9,8 +10,8 @@ ghost use Rattle.arachne_exec_c.specs.Estimating.{state_of, sample_of, number_of
 use crate::codes::{ADD, REFUSED, REMOVE, STAY};
 use arachne_policy::{Advice, Estimator, MAX_CORES, Sample};
 
-/// An estimator in C's layout: its settings, and for each number of cores from 1 its threshold, which is the
-/// utilisation below which a core may be given back.
+/// An estimator in C's layout: its settings, and for each number of cores from 1 on, the utilisation below which one of
+/// these cores can be given back.
 #[repr(C)]
 #[derive(Clone, Copy)]
 pub struct ArachneEstimator {
@@ -20,7 +21,7 @@ pub struct ArachneEstimator {
     pub thresholds: [u64; MAX_CORES],
 }
 
-/// A host's measurements of its load in one period, on all cores together.
+/// The measurements by a host (the program that uses cores) of its load in one period, on all cores together.
 #[repr(C)]
 #[derive(Clone, Copy)]
 pub struct ArachneSample {
@@ -59,8 +60,8 @@ pub extern "C" fn arachne_estimator_new(
 
 /// Judges `sample`, and returns STAY, ADD or REMOVE.
 ///
-/// Returns REFUSED, and changes nothing, if the sample can't have been measured, or if the estimator's `max` is greater
-/// than 64.
+/// Returns REFUSED, and changes nothing, if `sample` has values that no measurement can have, or if the estimator's
+/// `max` is greater than 64.
 #[unsafe(no_mangle)]
 pub extern "C" fn arachne_estimator_judge(
     estimator: &mut ArachneEstimator,
@@ -69,7 +70,8 @@ pub extern "C" fn arachne_estimator_judge(
     ensures judged { (result ≢ refused) ↔ MayJudge estimator.old sample.now }
     ensures bad { result ≡ refused → estimator.new ≡ estimator.old }
     ensures settings { (state_of estimator.new).settings ≡ (state_of estimator.old).settings }
-    // The result is the advice after the earlier samples; `estimator` then stands for these samples and `sample`.
+    // The result is the advice after the earlier samples. Afterwards `estimator` stands for the earlier samples and
+    // `sample`.
     ensures history { (past : List Past) → StandsFor (state_of estimator.old) past → MayJudge estimator.old sample.now
         → HasJudged past estimator.old sample.now result estimator.new }
 {

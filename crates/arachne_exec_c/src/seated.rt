@@ -38,7 +38,7 @@ impl Model for Seated {
 }
 
 impl Seated {
-    /// Creates `count` locks, and returns their first seat.
+    /// Creates `count` locks. Returns their first seat, by which one thread may use them.
     pub(crate) fn new(alloc: Global, count: usize) -> Result<Seated, AllocError>
         ensures { IfOk result (IsNew count) }
     {
@@ -89,7 +89,8 @@ impl Seated {
         self.locks.check(&mut self.seat, lock, who)
     }
 
-    /// Splits off another seat. Fails, and changes nothing, if the locks' reference count can't grow.
+    /// Splits off a seat for another thread. Returns an error, and changes nothing, if the locks' reference count can't
+    /// grow.
     fn split(&mut self) -> Result<Seated, AllocError>
         ensures ok { IfOk result (λ other. (self.new ≡ first_of self.old) × (other ≡ second_of self.old)) }
         ensures err { IfErr result (λ _. self.new ≡ self.old) }
@@ -108,9 +109,9 @@ impl Seated {
     }
 }
 
-/// Splits the seat in `mine`, and puts the new seat into `theirs`.
+/// Splits the seat in `mine` (a thread's right to use the locks), and puts the new seat into `theirs`.
 ///
-/// Returns false, and changes nothing, if `mine` is empty or the locks' reference count can't grow.
+/// Returns false, and changes nothing, if `mine` is empty or if the locks' reference count can't grow.
 pub(crate) fn split_held(mine: &mut Option<Seated>, theirs: &mut Option<Seated>) -> bool
     requires { theirs.old ≡ None }
     ensures split { ForSome mine.old (λ old. MatchBool result
@@ -128,7 +129,7 @@ pub(crate) fn split_held(mine: &mut Option<Seated>, theirs: &mut Option<Seated>)
     true
 }
 
-/// Joins the seat in `theirs` into the one in `mine`, if there are both.
+/// Joins the seat in `theirs` into the one in `mine`, and returns DONE. Returns REFUSED if either of them is empty.
 pub(crate) fn join_held(mine: &mut Option<Seated>, theirs: &mut Option<Seated>) -> u32
     requires { (a b : Seating) → mine.old ≡ Some a → theirs.old ≡ Some b → b.locks ≡ a.locks }
     ensures { IsJoined mine.old theirs.old mine.new theirs.new result }
@@ -147,7 +148,7 @@ pub(crate) fn join_held(mine: &mut Option<Seated>, theirs: &mut Option<Seated>) 
     }
 }
 
-/// Asks for a lock for `who`, by the seat of a handle.
+/// Asks for the lock with index `lock` for the task `who`, through the seat (a right to use the locks) in `held`.
 pub(crate) fn ask_held(held: &mut Option<Seated>, lock: usize, who: u64) -> ArachneLockTold
     ensures { IsAskTold lock who held.old held.new result }
 {
@@ -157,7 +158,7 @@ pub(crate) fn ask_held(held: &mut Option<Seated>, lock: usize, who: u64) -> Arac
     }
 }
 
-/// Frees a lock that `who` holds, by the seat of a handle.
+/// Frees the lock with index `lock`, which the task `who` holds, through the seat (a right to use the locks) in `held`.
 pub(crate) fn free_held(held: &mut Option<Seated>, lock: usize, who: u64) -> ArachneLockTold
     ensures { IsFreeTold lock who held.old held.new result }
 {
@@ -167,7 +168,8 @@ pub(crate) fn free_held(held: &mut Option<Seated>, lock: usize, who: u64) -> Ara
     }
 }
 
-/// Takes `who` out of the queue of a lock, by the seat of a handle.
+/// Takes the task `who` out of the queue of the lock with index `lock`, through the seat (a right to use the locks) in
+/// `held`.
 pub(crate) fn withdraw_held(held: &mut Option<Seated>, lock: usize, who: u64) -> ArachneLockTold
     ensures { IsWithdrawTold lock who held.old held.new result }
 {
@@ -177,7 +179,7 @@ pub(crate) fn withdraw_held(held: &mut Option<Seated>, lock: usize, who: u64) ->
     }
 }
 
-/// Checks whether `who` holds a lock, by the seat of a handle.
+/// Checks if the task `who` holds the lock with index `lock`, through the seat (a right to use the locks) in `held`.
 pub(crate) fn check_held(held: &mut Option<Seated>, lock: usize, who: u64) -> ArachneLockTold
     ensures { IsCheckTold lock who held.old held.new result }
 {

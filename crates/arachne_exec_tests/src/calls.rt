@@ -1,11 +1,11 @@
-//! Makes each call of an executor once, on one thread.
+//! Makes each call of an executor once, on one kernel thread.
 use arachne_exec::{
     Executor, HeldJob, JobRested, JobSpawned, JobWoken, Next, PlacedJob, SpawnedHere, WokenHere,
     place_of, worker_of_place,
 };
 use std::test::Fail;
 
-/// The name of the second job at place 192.
+/// The name by which the executor knows the second job that is put into slot 192.
 const SECOND: u64 = 192 + (1 << 20);
 
 const FIRST: HeldJob = HeldJob {

@@ -1,4 +1,4 @@
-//! Tests of an executor that need only its public calls.
+//! Tests of an executor by its public calls only.
 #![tactic(auto)]
 
 #[cfg(test)]

@@ -1,9 +1,9 @@
-//! Tests that an executor is not made, or not closed, if memory is refused, and that the call can be repeated then.
+//! Tests that a call to make or close an executor fails if memory is refused, and that the call can then be repeated.
 use arachne_exec::Executor;
 use arachne_shortage::Hoard;
 use std::test::Fail;
 
-/// The most tries, and the number of bytes by which the memory grows for each try.
+/// The greatest number of attempts. Each attempt has `BYTES` bytes more memory than the one before.
 const TRIES: usize = 200;
 
 const BYTES: usize = 2_000;

@@ -1,10 +1,10 @@
-//! Tests that jobs which become ready again at once don't keep others waiting.
+//! Tests that jobs which become ready again at once don't keep other jobs waiting.
 ghost use Rattle.std.specs.Prelude.{◌≡◌, ◌*◌, ◌<◌};
 
 use arachne_exec::{ExecSeat, Executor, Next};
 use std::test::Fail;
 
-/// Takes a job of a block, and makes it ready again at once. Returns the bit of the job's place in the block.
+/// Takes a job of a block of slots, and makes it ready again at once. Returns the bit of the job's slot in the block.
 fn take_again(executor: &Executor, seat: &mut ExecSeat, block: usize) -> u64
     requires own { seat.old.table ≡ executor.now.table }
     requires block { block < 64 * executor.now.shards }
@@ -17,7 +17,7 @@ fn take_again(executor: &Executor, seat: &mut ExecSeat, block: usize) -> u64
     1 << (job.place % 64) as u32
 }
 
-/// Runs a job of worker 0, and makes it ready again at once. Returns the job's number.
+/// Takes and blocks a job of worker 0, and makes it ready again at once. Returns the job's number.
 fn run_again(executor: &Executor, seat: &mut ExecSeat) -> u64
     requires own { seat.old.table ≡ executor.now.table }
     requires worker { seat.old.known.worker ≡ 1 }
@@ -62,7 +62,7 @@ fn each_ready_job_of_a_worker_is_run_in_turn(rt: HostRuntime) -> Result<(), Fail
     Ok(())
 }
 
-/// Takes a job of a block and ends it.
+/// Takes a job of the block of this number and ends it.
 fn end_one(executor: &Executor, seat: &mut ExecSeat, block: usize)
     requires own { seat.old.table ≡ executor.now.table }
     requires block { block < 64 * executor.now.shards }
@@ -73,8 +73,8 @@ fn end_one(executor: &Executor, seat: &mut ExecSeat, block: usize)
     }
 }
 
-/// Spawns a job at a block, takes the job and ends it, so that the block has its bit in the summary word although it
-/// has no job.
+/// Spawns a job in `block`, takes it and ends it, so that the block's bit in the summary word stays set although the
+/// block has no job.
 fn pass_by(executor: &Executor, seat: &mut ExecSeat, block: usize)
     requires own { seat.old.table ≡ executor.now.table }
     requires block { block < 64 * executor.now.shards }
@@ -108,7 +108,7 @@ fn a_worker_goes_round_its_shards(rt: HostRuntime) -> Result<(), Fail> {
     executor.spawn(&mut other, 4096, 1);
     executor.spawn(&mut other, 4096, 2);
     assert!(rt; run_again(&executor, &mut seat) == 1);
-    // The turn is in the second shard now, in which no job is left.
+    // Now it is the turn of the second shard, in which no job is left.
     end_one(&executor, &mut other, 4096);
     end_one(&executor, &mut other, 4096);
     executor.spawn(&mut other, 0, 4);

@@ -15,15 +15,15 @@ pub struct Client {
     pub held: u32,
 }
 
-/// A client's claim to one core more. Claims are met in the order of `goes_before`.
+/// A client's claim to one core more. The order of `goes_before` says which claim is met first.
 #[derive(Clone, Copy, Debug, PartialEq, Eq)]
 pub(crate) struct Claim {
     /// True if the client has been given its whole reserve already.
     pub beyond: bool,
     pub priority: u8,
-    /// The number of cores that the client has been given before this claim.
+    /// The number of cores that the client was given before this claim is met.
     pub gets: u32,
-    /// True if granting the claim moves a core to the client, because it has at most `gets` cores at present.
+    /// True if meeting the claim moves a core to the client, because the client has at most `gets` cores at present.
     pub moves: bool,
 }
 
@@ -36,7 +36,7 @@ impl Client {
         held: 0,
     };
 
-    /// Returns the client's reserve, but at most the number of cores that it asks for. The client gets these cores
+    /// Returns the client's reserve, but at most the number of cores for which it asks. The client gets these cores
     /// before any client gets more than its reserve.
     fn reserve(&self) -> u32
         ensures { result ≡ reserve_of self.now }
@@ -44,7 +44,7 @@ impl Client {
         self.reserved.min(self.asks)
     }
 
-    /// Returns the client's claim to one core more, if it has been given `gets` cores.
+    /// Returns the client's claim to one core more, after it was given `gets` cores.
     pub(crate) fn claim(&self, gets: u32) -> Claim
         ensures { result ≡ claim_of self.now gets }
     {
@@ -68,9 +68,9 @@ impl Client {
         }
     }
 
-    /// Returns the number of this client's first `most` claims that go before `claim`.
+    /// Returns how many of this client's first `most` claims go before `claim`.
     ///
-    /// The result is right if all of these claims are below the client's reserve, or none is.
+    /// The result is right only if either all of these claims are below the client's reserve, or none is.
     fn before_alike(&self, claim: &Claim, most: u32) -> u32
         ensures { result ≡ before_alike claim.now self.now most }
     {
@@ -83,8 +83,8 @@ impl Client {
         }
     }
 
-    /// Returns how many cores this client is given by claims that go before `claim`, if it asks for enough. The claim
-    /// must be another client's of the same priority.
+    /// Returns how many cores this client gets by claims that go before `claim`, if it asks for that many. The caller
+    /// must pass a claim of another client of the same priority.
     fn level_before(&self, claim: &Claim) -> u32
         ensures { result ≡ level_before claim.now self.now }
     {
@@ -107,8 +107,8 @@ impl Claim {
 
     /// Returns true if this claim goes before `other`.
     ///
-    /// The claim of a client below its reserve goes first, then that of a higher priority, then that of a client that
-    /// was given fewer cores, then that of a client that already has the core.
+    /// The first of these differences decides: a client below its reserve goes first; then a client of higher priority;
+    /// then a client that was given fewer cores; then a client that already has the core.
     pub(crate) fn goes_before(&self, other: &Claim) -> bool
         ensures { result ≡ goes_before self.now other.now }
     {

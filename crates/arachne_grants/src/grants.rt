@@ -6,9 +6,9 @@ use crate::claims::{Claim, Client};
 
 /// Writes into `targets` the number of cores that each client gets, at the client's index.
 ///
-/// One core after another goes to the client that asks for more and has the first claim by [`Claim::goes_before`]. If
-/// claims are equal, the core goes to the client with the lower index. Many claims are met in one step, so the time
-/// grows only with the logarithm of the number of cores.
+/// The cores are given one after another, each to the client that asks for more and whose claim goes first by
+/// [`Claim::goes_before`]. If claims are equal, the core goes to the client with the lower index. Many claims are met
+/// in one step, so the time grows only with the logarithm of the number of cores.
 pub fn targets(clients: &[Client], cores: u32, targets: &mut [u32])
     requires { length targets.old ≡ length clients.now }
     ensures order { IsInOrder clients.now targets.new }
@@ -29,16 +29,14 @@ pub fn targets(clients: &[Client], cores: u32, targets: &mut [u32])
     }
 }
 
-/// The contract of `targets` allows one result only: any two results that meet it give each client the same number of
-/// cores.
+/// Does nothing. Its contract is a law: any two results of `targets` that meet its contract give each client the same
+/// number of cores.
 pub fn targets_are_decided(clients: &[Client], cores: u32)
     ensures { IsDecided clients.now cores }
 {}
 
-/// Meets many claims in one step: gives each client one core for each of its claims that go before a certain claim.
-/// Returns the number of cores given.
-///
-/// That claim is the last one for which there are enough cores for all claims before it.
+/// Meets many claims in one step: finds the last claim such that there are enough cores for all claims before it, and
+/// meets these. Returns the number of cores given.
 fn fill_levels(clients: &[Client], cores: u32, targets: &mut [u32]) -> u32
     requires { length targets.old ≡ length clients.now }
     ensures few { result ≤ cores }
@@ -110,7 +108,7 @@ fn last_level(clients: &[Client], cores: u32, claim: Claim) -> Claim
     claim
 }
 
-/// Returns `next` if there are enough cores for all claims that go before it, and otherwise `claim`.
+/// Returns `next` if there are enough cores for all claims that go before `next`, and otherwise `claim`.
 fn later(clients: &[Client], cores: u32, claim: Claim, next: Claim) -> Claim
     requires { AreEnough clients.now cores claim }
     ensures { AreEnough clients.now cores result }
@@ -149,8 +147,8 @@ fn next_client(clients: &[Client], targets: &[u32]) -> Option<usize>
     next
 }
 
-/// Returns the client that gets the next core: the client with the index `place` if its claim goes first, and otherwise
-/// `next`, which has the first claim of the clients before `place`.
+/// Returns the index of the client that gets the next core: `place` if the claim of the client with that index goes
+/// first, otherwise `next`, which is the client with the first claim among those before `place`.
 fn first_of(clients: &[Client], targets: &[u32], next: Option<usize>, place: usize) -> Option<usize>
     requires sized { length targets.now ≡ length clients.now }
     requires within { place < length clients.now }

@@ -1,7 +1,7 @@
-//! The decisions of an arbiter, a daemon that grants cores to programs: how many cores each client gets, and which
-//! cores go from one client to another.
+//! The decisions of an arbiter, a daemon that grants cores to programs (its clients): how many cores each client gets,
+//! and which cores go from one client to another.
 //!
-//! Every call is a pure function of numbers: none takes memory, none waits, and none knows a process or a thread.
+//! Every call is a pure function of numbers: no call allocates, waits, or uses a process or a thread.
 #![tactic(auto)]
 
 mod claims;

@@ -1,14 +1,15 @@
-//! Reads the messages that clients send to the daemon. Each is four numbers of 32 bits, the lowest byte first.
+//! Reads the messages that clients (programs) send to the daemon that grants cores. Each message is four numbers of 32
+//! bits, the lowest byte first.
 ghost use Rattle.std.specs.Prelude.{◌≡◌, ◌+◌, ◌<◌, ◌≤◌, IfErr, IfOk, length};
 ghost use Rattle.arachne_grants.specs.Messages.{number_at, numbers_in, AreOf, IsFaultOf, IsFirstWrong, IsMessageOf, IsUnambiguous};
 
 /// The number of bytes of a message.
 pub const MESSAGE_BYTES: usize = 16;
 
-/// The version of the protocol, which a client's first message names.
+/// The version of the protocol. A client's first message names the version that the client speaks.
 pub const PROTOCOL_VERSION: u32 = 1;
 
-/// The number of priorities: a message may name the priorities from 0 to 7.
+/// The number of priorities: a message can name the priorities from 0 to 7.
 pub const PRIORITIES: u32 = 8;
 
 const HELLO: u32 = 1;
@@ -30,14 +31,14 @@ pub enum ClientMessage {
         reserved: u16,
         most: u16,
     },
-    /// A kernel thread joins its client. `place` is the thread's number within the client.
+    /// A kernel thread registers with its client. `place` is the thread's number within the client.
     Join {
         client: u32,
         thread: u32,
         place: u8,
         floats: bool,
     },
-    /// The thread that sends this gives its core back, if it has one, and waits for another core.
+    /// The thread that sends this message gives its core back, if it has one, and waits for another core.
     Wait,
     /// The client asks for this number of cores.
     Ask {
@@ -45,7 +46,8 @@ pub enum ClientMessage {
     },
 }
 
-/// The reason why bytes begin with no message. It concerns the first of the message's four numbers that is not valid.
+/// The reason why bytes don't begin with a message. It concerns the first of the message's four numbers that is not
+/// valid.
 #[derive(Clone, Copy, Debug, PartialEq, Eq)]
 pub enum MessageFault {
     /// There are fewer than `MESSAGE_BYTES` bytes.
@@ -56,7 +58,7 @@ pub enum MessageFault {
     Version,
     /// There is no such priority.
     Priority,
-    /// There is no such place: a client's threads are numbered from 0 to 63.
+    /// There is no such thread number: a client's threads are numbered from 0 to 63.
     Place,
     /// A number that this kind of message does not use is not 0.
     Unused,
@@ -87,12 +89,13 @@ pub fn read_message(bytes: &[u8]) -> Result<ClientMessage, MessageFault>
     })
 }
 
-/// Bytes begin with at most one message, and bytes that begin with a message have no fault.
+/// Does nothing. Its contract is a law: bytes begin with at most one message, and bytes that begin with a message have
+/// no fault.
 pub fn messages_are_unambiguous(bytes: &[u8])
     ensures { IsUnambiguous bytes.now }
 {}
 
-/// Returns the number of 32 bits whose four bytes begin at index `at`, the lowest byte first.
+/// Returns the number of 32 bits whose four bytes begin at index `at` of `bytes`, the lowest byte first.
 fn number_at(bytes: &[u8], at: usize) -> u32
     requires { at + 4 ≤ length bytes.now }
     ensures { result ≡ number_at bytes.now at }
@@ -100,7 +103,7 @@ fn number_at(bytes: &[u8], at: usize) -> u32
     u32::from_le_bytes([bytes[at], bytes[at + 1], bytes[at + 2], bytes[at + 3]])
 }
 
-/// Returns the message that consists of these four numbers, or the fault of the first one that is not valid.
+/// Returns the message that consists of these four numbers, or the fault of the first number that is not valid.
 fn message_of(numbers: &Numbers) -> Result<ClientMessage, MessageFault>
     ensures message { IfOk result (AreOf numbers.now) }
     ensures fault { IfErr result (IsFirstWrong numbers.now) }

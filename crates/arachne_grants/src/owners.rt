@@ -8,9 +8,9 @@ use crate::claims::Client;
 /// The greatest number of clients: a core's owner is stored as a number from 0 to 255.
 pub const MAX_OWNERS: usize = 256;
 
-/// Changes `owners`, the client that has each core, so that each client has as many cores as its target.
+/// Changes `owners`, which has the client of each core, so that each client has as many cores as its target says.
 ///
-/// A client that has no more cores than its target keeps all of them.
+/// If a client has no more cores than its target, it keeps all of them.
 pub fn moves(owners: &mut [Option<u8>], clients: &[Client], targets: &[u32])
     requires cores { length owners.old < 2 ^ 32 }
     requires clients { length clients.now ≤ 256 }
@@ -24,8 +24,8 @@ pub fn moves(owners: &mut [Option<u8>], clients: &[Client], targets: &[u32])
     give_free(owners, clients, targets);
 }
 
-/// Takes from each client the cores that it has beyond its target, the last of its cores first. `owners` says which
-/// client has each core.
+/// Takes from each client the cores that it has beyond its target, beginning with the client's last core. `owners` has
+/// the client of each core.
 pub fn take_back(owners: &mut [Option<u8>], targets: &[u32])
     ensures only { TakesOnly owners.old owners.new }
     ensures keeps { KeepsTargets owners.old owners.new targets.now }
@@ -36,7 +36,7 @@ pub fn take_back(owners: &mut [Option<u8>], targets: &[u32])
     }
 }
 
-/// Gives cores that nobody has to clients that have fewer than their targets. Clients of higher priority go first.
+/// Gives cores that no client has to clients that have fewer than their targets. Clients of higher priority go first.
 pub fn give_free(owners: &mut [Option<u8>], clients: &[Client], targets: &[u32])
     requires cores { length owners.old < 2 ^ 32 }
     requires clients { length clients.now ≤ 256 }
@@ -54,7 +54,7 @@ pub fn give_free(owners: &mut [Option<u8>], clients: &[Client], targets: &[u32])
     }
 }
 
-/// Sets each client's `held` to the number of cores that it has. `owners` says which client has each core.
+/// Sets each client's `held` to the number of cores that the client has by `owners`, which has the client of each core.
 pub fn count_held(clients: &mut [Client], owners: &[Option<u8>])
     requires cores { length owners.now < 2 ^ 32 }
     requires clients { length clients.old ≤ 256 }
@@ -74,7 +74,7 @@ fn target_of(targets: &[u32], client: usize) -> u32
     targets.get(client).copied().unwrap_or(0)
 }
 
-/// Adds, for each core, one to the count of the client that has it.
+/// Adds up in `held` the number of cores of each client: one for each core in `owners` that the client has.
 fn count_all(owners: &[Option<u8>], held: &mut [u32])
     requires sized { length held.old ≡ 256 }
     requires cores { length owners.now < 2 ^ 32 }
@@ -100,8 +100,8 @@ fn count(owner: Option<u8>, held: &mut [u32])
     }
 }
 
-/// Returns the core's owner if it keeps the core, and `None` if not. It keeps the core if `held` counts fewer cores for
-/// it than its target; then this core is added to that count.
+/// Returns the core's owner if the owner keeps the core, and `None` if not. The owner keeps the core if `held` counts
+/// fewer cores for it than its target; then adds one to that count.
 fn keep(owner: Option<u8>, targets: &[u32], held: &mut [u32]) -> Option<u8>
     requires { length held.old ≡ 256 }
     ensures only { (result ≡ owner) ⊎ (result ≡ None) }
@@ -120,8 +120,8 @@ fn keep(owner: Option<u8>, targets: &[u32], held: &mut [u32]) -> Option<u8>
     owner
 }
 
-/// Returns the core's owner or, if it has none, the client that gets the core: one for which `held` counts fewer cores
-/// than its target. Then this core is added to that count.
+/// Returns the core's owner. If it has none, returns the client that gets the core: one for which `held` counts fewer
+/// cores than its target; then adds one to that count.
 fn give(owner: Option<u8>, clients: &[Client], targets: &[u32], held: &mut [u32]) -> Option<u8>
     requires sized { length held.old ≡ 256 }
     requires targets { length targets.now ≡ length clients.now }
@@ -159,8 +159,8 @@ pub(crate) fn next_short(clients: &[Client], targets: &[u32], held: &[u32]) -> O
     next
 }
 
-/// Returns the client that gets a free core: the client with the index `place` if it goes first, and otherwise `next`,
-/// the best of the clients before `place`.
+/// Returns the client that gets a free core: the client with the index `place` if that one goes first, and otherwise
+/// `next`, which goes first among the clients before `place`.
 fn next_short_of(
     clients: &[Client],
     targets: &[u32],

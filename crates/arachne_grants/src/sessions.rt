@@ -9,7 +9,8 @@ pub const MAX_THREADS: usize = 64;
 
 /// The state of one of a client's 64 possible threads.
 ///
-/// A thread that *floats* never waits for a core: the daemon moves it to a core and away from it while it runs.
+/// If a thread *floats*, it never waits for a core: the daemon moves the thread to a core and away from it while it
+/// runs.
 #[derive(Clone, Copy, Debug, PartialEq, Eq)]
 pub enum ClientThread {
     /// There is no thread with this number.
@@ -20,16 +21,16 @@ pub enum ClientThread {
     Waits,
     /// The thread runs, and has this core for itself.
     On(u16),
-    /// The thread floats, and has no core of its own at present.
+    /// The thread floats (never waits for a core), and has no core of its own at present.
     Floats,
-    /// The thread floats, and has this core at present.
+    /// The thread floats (never waits for a core), and has this core at present.
     FloatsOn(u16),
 }
 
 /// The daemon's record of a client: its priority, the cores that it reserves and asks for, and its threads' states.
 #[derive(Clone, Copy)]
 pub(crate) struct Session {
-    /// True if there is a client of this number now.
+    /// True if a client has this number now.
     pub taken: bool,
     /// The client's priority. 0 is the highest.
     pub priority: u8,
@@ -61,7 +62,7 @@ impl ClientThread {
         self.core().is_some()
     }
 
-    /// Returns true if the thread has no core and can take one: it waits or floats.
+    /// Returns true if the thread has no core and can take one: it waits for a core, or floats (never waits for one).
     pub(crate) fn is_ready(self) -> bool
         ensures { result ≡ is_ready self }
     {
@@ -75,7 +76,8 @@ impl ClientThread {
         matches!(self, ClientThread::Waits)
     }
 
-    /// Returns true if the thread may begin to wait for a core: it doesn't float, and doesn't wait already.
+    /// Returns true if the thread may begin to wait for a core: it neither floats (a floating thread never waits) nor
+    /// waits already.
     pub(crate) fn can_wait(self) -> bool
         ensures { result ≡ can_wait self }
     {
@@ -89,8 +91,8 @@ impl ClientThread {
         self.has_core() || self.is_ready()
     }
 
-    /// Returns true if the thread's core may be taken from it: at any time if the thread floats, and otherwise only if
-    /// its client hasn't given a core back in time (`late`).
+    /// Returns true if the daemon may take the thread's core: at any time if the thread floats (never waits for a
+    /// core), and otherwise only if `late` is true, which means that the client hasn't given a core back in time.
     pub(crate) fn gives_way(self, late: bool) -> bool
         ensures { result ≡ gives_way self late }
     {
@@ -150,8 +152,8 @@ impl Session {
             .count() as u32
     }
 
-    /// Returns the client's request, as an argument for [`targets`](crate::targets). The client asks for at most the
-    /// cores that it may have, and at most as many as it has threads for.
+    /// Returns the client's request, as an argument for [`targets`](crate::targets). The request is for at most the
+    /// cores that the client may have, and at most as many as it has threads that can use one.
     pub(crate) fn wants(&self) -> Client
         ensures { result ≡ wants_of self.now }
     {
@@ -183,8 +185,8 @@ impl Session {
         last
     }
 
-    /// Returns `place` if the thread with this number has a core, and otherwise `last`, the last such thread before
-    /// `place`.
+    /// Returns the number of the client's last thread that has a core, up to the number `place`: `place` if that thread
+    /// has one, and otherwise `last`, the result for the threads before it.
     fn last_of(&self, last: Option<usize>, place: usize) -> Option<usize>
         requires within { place < 64 }
         requires last { IsLastPlaced self.now.threads place last }
@@ -207,7 +209,7 @@ impl Session {
     }
 }
 
-/// Sets `marks` to true at the index `core`, if there is a core.
+/// Sets `marks` to true at the index `core`. Does nothing if `core` is `None`.
 fn mark_core(core: Option<u16>, marks: &mut [bool])
     ensures { marks.new ≡ with_mark core marks.old }
 {

@@ -1,4 +1,4 @@
-//! The daemon's state: its clients, their threads, and how many cores each client is allowed to have.
+//! The daemon's state: its clients (programs), their threads, and how many cores each client is allowed to have.
 ghost use Rattle.std.specs.Prelude.{◌≡◌, ◌⊎◌, ℕ, ◌+◌, ◌<◌, ◌≤◌, IsOk, MatchOption, MatchResult, Some, None, length, map, replicate, slice_index, slice_set, true, false, ⊤, if◌then◌else◌};
 ghost use Rattle.arachne_grants.specs.Sessions.{AreBelow, IsSound};
 
@@ -7,24 +7,24 @@ use crate::grants::targets;
 use crate::owners;
 use crate::sessions::{ClientThread, MAX_THREADS, Session};
 
-/// The greatest number of clients of a daemon.
+/// The greatest number of clients (programs that ask for cores) of a daemon.
 pub const MAX_CLIENTS: usize = 64;
 
 /// The greatest number of cores that a daemon may grant.
 pub const MAX_CORES: usize = 1024;
 
-/// The error of a call that is not allowed now. The call has changed nothing.
+/// The error of a call that the daemon's state does not allow now. The call has changed nothing.
 #[derive(Clone, Copy, Debug, PartialEq, Eq)]
 pub struct Refused;
 
-/// A core that the arbiter has given to a thread: the thread's client, the thread's number there (`place`), and the
-/// core.
+/// A core that the arbiter has given to a thread: the thread's client, the thread's number within the client (`place`),
+/// and the core's number.
 #[derive(Clone, Copy, Debug, PartialEq, Eq)]
 pub struct Grant {
     pub client: usize,
     pub place: usize,
     pub core: u16,
-    /// True if the thread waited for the core, so that the caller must notify it.
+    /// True if the thread waited for the core, so that the caller must notify the thread.
     pub waited: bool,
 }
 
@@ -35,7 +35,7 @@ pub struct TakenCore {
     pub core: u16,
 }
 
-/// The state of a daemon that grants whole cores to programs, its clients.
+/// The state of a daemon (an arbiter) that grants whole cores to programs, its clients.
 #[derive(Drop)]
 pub struct CoreArbiter {
     cores: u16,
@@ -67,8 +67,8 @@ impl CoreArbiter {
         }
     }
 
-    /// Registers a client with the number `client`. Returns `Err` if another client has this number, or if it is
-    /// greater than 63.
+    /// Registers a client with the number `client`. Returns `Err` if another client has this number, or if the number
+    /// is greater than 63.
     pub fn hello(
         &mut self,
         client: usize,
@@ -142,8 +142,8 @@ impl CoreArbiter {
 
     /// Adds a thread with the number `place` to a client.
     ///
-    /// Returns `Err` if there is no such client, if it already has a thread with this number, or if the number is
-    /// greater than 63.
+    /// Returns `Err` if there is no such client, if the client already has a thread with this number, or if the number
+    /// is greater than 63.
     pub fn join(&mut self, client: usize, place: usize, floats: bool) -> Result<(), Refused>
         ensures joins { MatchResult result
             (λ _. self.new.sessions ≡ with_thread self.old.sessions client place (if floats then Floats else Runs))
@@ -178,7 +178,7 @@ impl CoreArbiter {
 
     /// Takes the core from a thread, if it has one, and makes the thread wait until a core is granted to it.
     ///
-    /// Returns `Err` if the thread floats, already waits, or does not exist.
+    /// Returns `Err` if the thread floats (never waits for a core), already waits, or does not exist.
     pub fn wait(&mut self, client: usize, place: usize) -> Result<(), Refused>
         ensures waits { MatchResult result
             (λ _. self.new.sessions ≡ with_thread self.old.sessions client place Waits)
@@ -201,7 +201,7 @@ impl CoreArbiter {
         Ok(())
     }
 
-    /// Removes the thread with the number `place` of the client, which has ended.
+    /// Removes the thread with the number `place` of the client `client`, because the thread has ended.
     pub fn end(&mut self, client: usize, place: usize)
         ensures ends { client < 64 → place < 64 → self.new.sessions ≡ with_thread self.old.sessions client place Absent }
         ensures kept { KeepsAllowed self.old self.new }
@@ -211,7 +211,8 @@ impl CoreArbiter {
         }
     }
 
-    /// Computes anew how many cores each client is allowed to have, from the numbers that all clients ask for now.
+    /// Computes anew how many cores each client is allowed to have, from the numbers of cores for which all clients ask
+    /// now.
     pub fn decide(&mut self)
         ensures promises { AreGrants (map wants_of self.new.sessions) self.new.cores self.new.allowed }
         ensures answer { IsAnswer (map wants_of self.new.sessions) self.new.cores self.new.allowed }
@@ -223,8 +224,8 @@ impl CoreArbiter {
         targets(&clients, u32::from(self.cores), &mut self.allowed);
     }
 
-    /// Gives a free core to a thread that can take one, of a client that has fewer cores than it is allowed to have.
-    /// Clients of higher priority go first.
+    /// Gives a free core to a thread that can take one. The thread's client must have fewer cores than it is allowed to
+    /// have; clients of higher priority go first.
     pub fn give(&mut self) -> Option<Grant>
         ensures gives { MatchOption result (self.new.sessions ≡ self.old.sessions)
             (λ grant. IsGrant self.old.sessions self.new.sessions self.old.allowed self.old.cores grant) }
@@ -247,11 +248,11 @@ impl CoreArbiter {
         })
     }
 
-    /// Takes a core from a client that has more cores than it is allowed to have, namely from its last thread that has
-    /// a core.
+    /// Takes a core from the client `client`, if it has more cores than it is allowed to have: that of its last thread
+    /// that has a core.
     ///
-    /// If that thread floats, its core is taken at once; otherwise only if `late` is true, which means that the client
-    /// hasn't given a core back in time.
+    /// If that thread floats (the daemon moves it to and from cores while it runs), takes its core at once; otherwise
+    /// only if `late` is true, which means that the client hasn't given a core back in time.
     pub fn take_back(&mut self, client: usize, late: bool) -> Option<TakenCore>
         ensures takes { MatchOption result (self.new.sessions ≡ self.old.sessions)
             (λ taken. IsTake self.old.sessions self.new.sessions self.old.allowed client late taken) }
@@ -312,7 +313,7 @@ impl CoreArbiter {
             .unwrap_or(ClientThread::Absent)
     }
 
-    /// Replaces the record of a client.
+    /// Replaces the record of a client by `session`.
     fn set(&mut self, client: usize, session: Session)
         requires within { client < 64 }
         requires sound { (place core : ℕ) → core_of (slice_thread session.threads place) ≡ Some core
@@ -323,7 +324,7 @@ impl CoreArbiter {
         self.sessions[client] = session;
     }
 
-    /// Changes the state of a thread.
+    /// Changes the state of the client's thread with the number `place` to `thread`.
     fn set_thread(&mut self, client: usize, place: usize, thread: ClientThread)
         requires client { client < 64 }
         requires place { place < 64 }
@@ -334,7 +335,7 @@ impl CoreArbiter {
         self.sessions[client].threads[place] = thread;
     }
 
-    /// Returns the requests of all clients, as an argument for [`targets`](crate::targets).
+    /// Returns each client's request for cores, as an argument for [`targets`](crate::targets).
     fn clients(&self) -> [Client; MAX_CLIENTS]
         ensures { result ≡ map wants_of self.now.sessions }
     {
@@ -356,8 +357,8 @@ impl CoreArbiter {
         held
     }
 
-    /// Returns the client that gets a free core: of the clients that have fewer cores than they are allowed to have,
-    /// the first of the highest priority.
+    /// Returns the client that gets a free core: of the clients with fewer cores than they are allowed to have, the
+    /// first of the highest priority.
     fn next_short(&self) -> Option<u8>
         ensures { IsNextShort (map wants_of self.now.sessions) self.now.allowed (map held_in self.now.sessions) 64 result }
     {

@@ -13,9 +13,10 @@ use crate::{events, turns};
 use arachne_grants::{CoreArbiter, MAX_CORES};
 use std::alloc::Global;
 
-/// Creates an arbiter of the cores 0 to `cores` - 1, without clients, in `arbiter`, which must be empty.
+/// Creates an arbiter (a daemon's state) of the cores 0 to `cores` - 1, without clients, in `arbiter`, which must be
+/// empty.
 ///
-/// Returns DONE; REFUSED if the handle is in use, or if `cores` is greater than 1,024; NO_MEMORY.
+/// Returns DONE; REFUSED if the handle is in use, or if `cores` is greater than 1,024; NO_MEMORY if memory is refused.
 #[unsafe(no_mangle)]
 pub extern "C" fn arachne_arbiter_new(
     alloc: Global,
@@ -42,11 +43,11 @@ pub extern "C" fn arachne_arbiter_close(alloc: Global, arbiter: &mut ArachneArbi
     drop(arbiter.take(alloc));
 }
 
-/// Adds a client with its priority (0 is the highest), the cores that it reserves, and the most cores that it may ask
-/// for.
+/// Adds a client (a program) with its priority (0 is the highest), the number of cores that it reserves, and the
+/// greatest number of cores that it may ask for.
 ///
-/// `client`, the client's number, must be from 0 to 63 and not in use. Returns DONE or REFUSED. The caller must check
-/// that the client is entitled to this priority and these cores.
+/// Returns DONE, or REFUSED if the handle is empty, or if the client's number `client` is greater than 63 or in use.
+/// The caller must check that the client is entitled to this priority and these cores.
 #[unsafe(no_mangle)]
 pub extern "C" fn arachne_arbiter_hello(
     alloc: Global,
@@ -66,7 +67,9 @@ pub extern "C" fn arachne_arbiter_hello(
     told
 }
 
-/// Sets the number of cores that a client asks for. Returns DONE, or REFUSED if there is no such client.
+/// Sets the number of cores for which a client asks.
+///
+/// Returns DONE, or REFUSED if the handle is empty or there is no such client.
 #[unsafe(no_mangle)]
 pub extern "C" fn arachne_arbiter_ask(
     alloc: Global,
@@ -84,7 +87,9 @@ pub extern "C" fn arachne_arbiter_ask(
     told
 }
 
-/// Removes a client, with all of its threads. Returns DONE, or REFUSED if the client's number is greater than 63.
+/// Removes a client, with all of its threads.
+///
+/// Returns DONE, or REFUSED if the handle is empty or the client's number is greater than 63.
 #[unsafe(no_mangle)]
 pub extern "C" fn arachne_arbiter_leave(
     alloc: Global,
@@ -101,8 +106,10 @@ pub extern "C" fn arachne_arbiter_leave(
     told
 }
 
-/// Adds a thread to a client, with a number `place` from 0 to 63 that is free. A thread that floats never waits for a
-/// core. Returns DONE or REFUSED.
+/// Adds a thread to a client. `place`, the thread's number, must be from 0 to 63 and not in use. If `floats` is true,
+/// the thread never waits for a core.
+///
+/// Returns DONE or REFUSED.
 #[unsafe(no_mangle)]
 pub extern "C" fn arachne_arbiter_join(
     alloc: Global,
@@ -123,7 +130,7 @@ pub extern "C" fn arachne_arbiter_join(
 
 /// Takes the core from a thread, if it has one, and makes the thread wait until a core is granted to it.
 ///
-/// Returns DONE, or REFUSED if the thread floats, already waits, or does not exist.
+/// Returns DONE, or REFUSED if the thread floats (never waits for a core), already waits, or does not exist.
 #[unsafe(no_mangle)]
 pub extern "C" fn arachne_arbiter_wait(
     alloc: Global,
@@ -141,7 +148,9 @@ pub extern "C" fn arachne_arbiter_wait(
     told
 }
 
-/// Removes a thread. Returns DONE, or REFUSED if the number of the client or of the thread is greater than 63.
+/// Removes a thread of a client, because the thread has ended.
+///
+/// Returns DONE, or REFUSED if the handle is empty or the number of the client or of the thread is greater than 63.
 #[unsafe(no_mangle)]
 pub extern "C" fn arachne_arbiter_end(
     alloc: Global,
@@ -159,8 +168,9 @@ pub extern "C" fn arachne_arbiter_end(
     told
 }
 
-/// Computes anew how many cores each client may have, from the numbers that all clients ask for now. Returns DONE or
-/// REFUSED.
+/// Computes anew how many cores each client may have, from the numbers of cores for which all clients ask now.
+///
+/// Returns DONE, or REFUSED if the handle is empty.
 #[unsafe(no_mangle)]
 pub extern "C" fn arachne_arbiter_decide(alloc: Global, arbiter: &mut ArachneArbiter) -> u32
     ensures { IsTold Decides refused (held arbiter.old) (held arbiter.new) result }
@@ -173,10 +183,11 @@ pub extern "C" fn arachne_arbiter_decide(alloc: Global, arbiter: &mut ArachneArb
     told
 }
 
-/// Takes a core from a client that has more cores than it may have, namely from its last thread that has a core.
+/// Takes a core from the client `client`, if it has more cores than it may have: that of its last thread that has a
+/// core.
 ///
-/// If that thread floats, its core is taken at once; otherwise only if `late` is true, which means that the client
-/// hasn't given a core back in time. Returns TAKEN or NOTHING.
+/// If that thread floats (never waits for a core), takes its core at once; otherwise only if `late` is true, which
+/// means that the client hasn't given a core back in time. Returns TAKEN or NOTHING.
 #[unsafe(no_mangle)]
 pub extern "C" fn arachne_arbiter_take_back(
     alloc: Global,
@@ -196,7 +207,8 @@ pub extern "C" fn arachne_arbiter_take_back(
 
 /// Gives a free core to a thread that can take one, of a client that has fewer cores than it may have.
 ///
-/// A client of higher priority goes first. Returns GRANTED if the thread waited, PLACED if it floats, or NOTHING.
+/// A client of higher priority goes first. Returns GRANTED if the thread waited for a core; PLACED if it floats, which
+/// means that it never waits for one; NOTHING if no core was given.
 #[unsafe(no_mangle)]
 pub extern "C" fn arachne_arbiter_give(alloc: Global, arbiter: &mut ArachneArbiter) -> ArachneAction
     ensures { IsTold Gives (action_alone refused) (held arbiter.old) (held arbiter.new) result }
@@ -209,7 +221,7 @@ pub extern "C" fn arachne_arbiter_give(alloc: Global, arbiter: &mut ArachneArbit
     told
 }
 
-/// Returns how many cores a client may have, and how many it has. Both are 0 if the handle is empty.
+/// Returns how many cores a client may have, and how many its threads have. Both are 0 if the handle is empty.
 #[unsafe(no_mangle)]
 pub extern "C" fn arachne_arbiter_share(
     alloc: Global,

@@ -5,7 +5,7 @@ ghost use Rattle.arachne_grants_c.specs.ArbiterTold.{action_alone, told_given, t
 use crate::codes::{GRANTED, PLACED, TAKEN};
 use arachne_grants::{Grant, TakenCore};
 
-/// The action that the caller must take on a thread. Fields that this action does not use are 0.
+/// The action that the caller must take on a thread of a client. Fields that this action does not use are 0.
 #[repr(C)]
 #[derive(Clone, Copy)]
 pub struct ArachneAction {

@@ -4,7 +4,7 @@
 pub(crate) const DONE: u32 = 0;
 
 /// The call was refused, and has changed nothing: the handle is empty, or is in use although it must be empty, or this
-/// event is not allowed now.
+/// call is not allowed now.
 pub(crate) const REFUSED: u32 = 1;
 
 /// The allocator refused memory. Nothing has changed.
@@ -46,7 +46,7 @@ pub(crate) const NOTHING: u32 = 13;
 /// The core was taken from the thread: move the thread away from the core.
 pub(crate) const TAKEN: u32 = 14;
 
-/// The core was given to the thread, which floats (it doesn't wait for cores): move the thread to the core.
+/// The core was given to the thread, which floats (never waits for a core): move the thread to the core.
 pub(crate) const PLACED: u32 = 15;
 
 /// The core was given to the thread, which waited for one: move the thread to the core, and notify the thread.

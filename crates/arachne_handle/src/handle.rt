@@ -12,7 +12,7 @@ use std::ptr::null_mut;
 
 /// A pointer to a box's value, or null if the handle holds no box. Contracts refer to the boxed value `value`.
 ///
-/// A handle can't be dropped: `into_box` consumes it.
+/// A handle can't be dropped; `into_box` consumes it.
 pub struct Handle<T> {
     pub at: *mut T,
     pub alloc: Global,

@@ -1,4 +1,4 @@
-//! Turns a box into the pointer by which C holds it, and back. A null pointer holds nothing.
+//! Turns a box into the pointer by which C holds the box, and back. A null pointer holds no box.
 #![tactic(auto)]
 
 mod handle;

@@ -5,7 +5,8 @@ ghost use Rattle.arachne_jobs.specs.Dues.{IsOfAnother, due_to};
 
 use arachne_machine::Tallying;
 
-/// An amount that a worker must still add to a ledger (a sum that no thread reads), and the number of that ledger.
+/// An amount that a worker must still add to a ledger (a sum that the program's threads share), and the number of that
+/// ledger.
 #[derive(Clone, Copy, Debug)]
 pub struct Due {
     pub ledger: u64,

@@ -3,13 +3,14 @@ use arachne_machine::{DetachedOutcome, NotJoined, NotPlaced};
 use std::alloc::AllocError;
 use thiserror::Error;
 
-/// The reason why a call of a job failed.
+/// The reason why a call of a job's function failed.
 #[derive(Clone, Copy, Debug, PartialEq, Eq, Error)]
 pub enum JobFault {
     /// Memory was refused.
     #[error("out of memory")]
     Memory,
-    /// The job was given an outcome that isn't the awaited child's, or its present pause doesn't allow the call.
+    /// The outcome is not that of the child that the job waits for, or the request at which the job has paused doesn't
+    /// allow the call.
     #[error("the outcome of another thread")]
     Foreign,
 }

@@ -1,4 +1,5 @@
-//! A job: a thread of the program that has a thread slot of its own, with its ends of join cells.
+//! A job: a thread of the program that has a thread slot of its own, with its ends of join cells (each carries one
+//! thread's outcome to its parent).
 ghost use Rattle.std.specs.Prelude.{◌≡◌, ◌≤◌, ◌<◌, ℕ, List, [], false, true, vec_capacity, vec_len, IfErr, IfNone, IfOk, IfSome, IsSome, OnErr, OnOk, None, Some};
 ghost use Rattle.arachne_program.specs.declared.program.Program.{Program};
 ghost use Rattle.arachne_program.specs.Program.{source_of};
@@ -31,8 +32,9 @@ use arachne_program::{Name, Program};
 use std::alloc::{AllocError, Global};
 use std::marker::Model;
 
-/// A thread of the program, with its ends of join cells. The first end is for the job's own outcome. Each other end is
-/// for the outcome of a child that the job has forked and not joined, with the newest child's last.
+/// A thread of the program with a thread slot of its own, and its ends of join cells (each carries one thread's outcome
+/// to its parent). The first end is for the job's own outcome. Each other end is for the outcome of a child that the
+/// job has forked and not yet joined, the newest child's last.
 ///
 /// In contracts, a `Job` is the thread and its parent's id.
 #[derive(Drop)]
@@ -43,8 +45,8 @@ pub struct Job<'p> {
     ties: Box<Ties>,
     /// The box into which the job's outcome will be written.
     contents: Box<Contents>,
-    /// The cells in which children wait, or have waited, for a slot: one for each `End::Waits` in `ties`, in the same
-    /// order.
+    /// The join cells in which a child waits, or has waited, for a thread slot: one for each `End::Waits` in `ties`, in
+    /// the same order.
     waits: Vec<WaitEnd<'p>>,
 }
 
@@ -299,7 +301,8 @@ impl<'p> JobOf<'p> for Job<'p> {
 }
 
 impl<'p> Job<'p> {
-    /// Makes a job of `thread`. Returns the job, and the receiving end from which the parent takes the job's outcome.
+    /// Creates a job for `thread`, whose parent has the id `parent`. Returns the job, and the receiving end from which
+    /// the parent takes the job's outcome.
     #[inline(always)]
     fn of(
         alloc: Global,
@@ -324,8 +327,8 @@ impl<'p> Job<'p> {
         Ok((job, receiver))
     }
 
-    /// Runs the job for at most `left` steps. If the thread adds to a ledger (a shared sum) and `openings` can collect
-    /// the amount, the job runs on.
+    /// Runs the job for at most `left` steps. The job doesn't stop at an addition to a ledger (a shared sum) if
+    /// `openings` can collect the amount.
     #[inline(always)]
     fn advance_over(
         &mut self,
@@ -354,7 +357,7 @@ impl<'p> Job<'p> {
         Ok(paused?)
     }
 
-    /// Runs the job for at most `left` steps. If it begins to wait for a child, tries to join that child.
+    /// Runs the job for at most `left` steps. If the job begins to wait for a child, tries to join that child at once.
     fn advance(
         &mut self,
         left: &mut u32,
@@ -387,8 +390,8 @@ impl<'p> Job<'p> {
         }
     }
 
-    /// Puts `child` inside this job's thread slot, to run there as a call would. The child runs at once if the job
-    /// waits for it, and otherwise when the job waits for it.
+    /// Puts `child` inside this job's thread slot, to run there as a function call would. If the job already waits for
+    /// `child`, the child runs at once, otherwise when the job begins to wait for it.
     fn place(&mut self, child: Thread<'p>) -> Result<(), JobFault>
         requires pending { IsPlacing (pause_of self.old.thread) }
         requires child { MayBePlaced self.old.thread child }
@@ -402,7 +405,7 @@ impl<'p> Job<'p> {
         Ok(())
     }
 
-    /// Adds `receiver`, the receiving end for the outcome of one more child.
+    /// Keeps `receiver`, the end from which this job will take the outcome of the child that it has just forked.
     fn expect(&mut self, receiver: OutcomeReceiver) -> Result<(), JobFault>
         requires { IsOf (program_of self.old.thread) receiver.opening.key }
         ensures { self.new ≡ self.old }
@@ -412,8 +415,8 @@ impl<'p> Job<'p> {
         Ok(())
     }
 
-    /// Joins the awaited child if it has ended. If the child still waits for a thread slot, runs it inside this job's
-    /// slot instead. Returns false if neither is possible, so that the job must block.
+    /// Joins the child that this job waits for, if that child has ended. If the child still waits for a thread slot,
+    /// lets it run inside this job's slot instead. Returns false if neither is possible; then the job must block.
     fn join(&mut self, spares: &mut JobSpares<'p>) -> Result<bool, JobFault>
         requires { IsAwaiting self.old.thread }
         ensures tag { tag_of self.new.thread ≡ tag_of self.old.thread }
@@ -435,8 +438,8 @@ impl<'p> Job<'p> {
         }
     }
 
-    /// Takes the outcome, or the waiting child, out of the awaited child's cell, and drops this job's end of the cell.
-    /// If the cell has neither, the job keeps the end.
+    /// Takes the outcome or the waiting child out of the join cell of the child that this job waits for, and drops this
+    /// job's end of the cell. If the cell has neither, keeps the end.
     fn find(&mut self, spares: &mut JobSpares<'p>) -> Result<Found<'p>, JobFault>
         ensures same { self.new ≡ self.old }
         ensures found { IfOk result (IsFoundOf (program_of self.old.thread)) }

@@ -11,7 +11,7 @@ pub struct Waiting<'p> {
     pub(crate) parent: ThreadId,
 }
 
-/// The contents of a cell in which a child waits, or has waited, for a thread slot.
+/// The contents of a join cell in which a child waits, or has waited, for a thread slot.
 #[derive(Drop)]
 pub enum LeftInCell<'p> {
     /// The child, which has not begun.
@@ -28,7 +28,7 @@ impl<'p> Fits<Wanted> for LeftInCell<'p> {
     ghost may_wait = { MayWait };
 }
 
-/// The contents of the awaited child's cell, as its parent found them.
+/// The contents that a parent found in the join cell of the child that it waits for.
 #[derive(Drop)]
 pub enum Found<'p> {
     /// The child has ended with this outcome.

@@ -1,8 +1,8 @@
-//! The jobs of a run: threads of a task program, with the join cells by which parents get their children's outcomes.
+//! The jobs of a run: threads of a task program, and the join cells by which parents get their children's outcomes.
 //!
 //! A *job* is a thread with a thread slot of its own (a *place*). It puts its outcome into one join cell, and takes its
 //! children's outcomes from others. If no slot is free, a forked child may *wait* in its cell. A *ticket*, an entry for
-//! that child, is then in a queue. The child is taken out of the cell by the first to come: a worker that has taken the
+//! that child, is then in a queue. Whichever comes first takes the child out of the cell: a worker that has popped the
 //! ticket and has a free slot, or the parent when it waits for the child.
 //!
 //! A *tag* is the number by which a run identifies a thread. Workers see a job only through the traits in the module

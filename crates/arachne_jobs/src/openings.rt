@@ -9,23 +9,25 @@ use crate::tags::Tags;
 use arachne_machine::Placing;
 use arachne_program::Class;
 
-/// The data of a worker that its threads change while they run. `tags` are its unused tags. `draws` counts the forks
-/// without a pause for which a random word must still be drawn from the core's generator. `due` is the amount that must
-/// still be added to a ledger.
+/// The data of a worker that its threads change while they run.
 #[derive(Drop)]
 pub struct Openings {
+    /// The worker's unused tags, with which it identifies new threads.
     pub tags: Tags,
+    /// The number of forks without a pause for which a random word must still be drawn from the core's generator.
     pub draws: u64,
     /// True if the child that was forked last has at least `LARGE` iterations of a sweep (a parallel reduction) to run.
     pub is_large: bool,
+    /// The amount that the worker must still add to a ledger (a shared sum).
     pub due: Due,
 }
 
-/// The least number of iterations of a sweep (a parallel reduction) that makes a child worth an entry in the queue.
+/// The least number of iterations of a sweep (a parallel reduction) for which a fork always pauses, so that the worker
+/// tries to get the child a slot or a queue entry.
 const LARGE: u64 = 1024;
 
 impl Openings {
-    /// Returns the data of a new worker: no tags, no words to draw, and no amount to add.
+    /// Returns the data of a new worker: no tags, no random words to draw, and no amount to add.
     pub fn new() -> Openings
         ensures { (result.tags.left ≡ 0) × (result.draws ≡ 0) × (result.is_large ≡ false) × (result.due.amount ≡ 0) }
     {
@@ -37,8 +39,8 @@ impl Openings {
         }
     }
 
-    /// If `may` is false, counts a random word that must still be drawn. Each fork draws one word to choose a core, but
-    /// a fork without a pause can't draw it itself.
+    /// If `may` is false, counts one more random word that must still be drawn. Each fork takes one word of the core's
+    /// generator, but a fork without a pause can't draw that word itself.
     #[inline(always)]
     fn owe_unless(&mut self, may: bool)
         ensures { self.new ≡ record self.old { draws = if may then self.old.draws else (self.old.draws + 1) % 2 ^ 64 } }
@@ -48,8 +50,8 @@ impl Openings {
         }
     }
 
-    /// Records if the forked child is large, by the number of iterations of a sweep (a parallel reduction) that it has
-    /// to run.
+    /// Records if the forked child is large: if it has at least `LARGE` iterations of a sweep (a parallel reduction) to
+    /// run.
     #[inline(always)]
     fn note_turns(&mut self, turns: u64)
         ensures others { self.new ≡ record self.old { is_large = self.new.is_large } }
@@ -59,7 +61,8 @@ impl Openings {
     }
 }
 
-/// Decides at each fork of a slice if the child may get a slot, or wait for one. If not, supplies the child's tag.
+/// Decides at each fork if the child may get a thread slot, or wait for one. Otherwise the child runs inside its
+/// parent's slot, with a tag (its number in the run) that `tag` returns.
 #[derive(Drop)]
 pub(crate) struct ForkPlacing<'a> {
     pub(crate) room: &'a Room,
@@ -68,7 +71,7 @@ pub(crate) struct ForkPlacing<'a> {
 
 impl<'a> ForkPlacing<'a> {
     /// Returns whether a child that has `turns` iterations of a sweep (a parallel reduction) to run may get a slot, or
-    /// wait for one. If not, counts a random word that must still be drawn.
+    /// wait for one. If not, counts one more random word that must still be drawn.
     #[inline(always)]
     fn may_have_a_place(&mut self, class: Class, turns: u64) -> bool
         ensures exclusive { class ≡ Class.Exclusive → IsTrue result }

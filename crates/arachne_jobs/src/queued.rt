@@ -1,5 +1,5 @@
-//! Pushes to and pops from the queue of tickets, and counts them. Each ticket is for a child that waits for a thread
-//! slot.
+//! Pushes to and pops from the queue of tickets, and counts the tickets. A ticket is an entry for a child that waits
+//! for a thread slot.
 ghost use Rattle.std.specs.Prelude.{◌≡◌, ◌++◌, ◌∷◌, [], IfErr, IfNone, IfSome, OnErr, OnOk};
 ghost use Rattle.arachne_spill.specs.Views.{IsPassOf};
 
@@ -9,8 +9,8 @@ use arachne_contexts::Tagged;
 use arachne_spill::{CAPACITY, SpillPass, SpillQueue};
 use std::sync::Wait;
 
-/// Pushes `ticket` to the queue, and adds one to the number of waiting children. If the queue is full, returns `ticket`
-/// as the error.
+/// Pushes `ticket` to the queue, and adds one to the number of waiting children in `room`. If the queue is full,
+/// returns `ticket` as the error.
 #[inline(always)]
 pub fn put_ticket<R: Wait, K: Tagged + Drop>(
     rt: &R,
@@ -30,8 +30,8 @@ pub fn put_ticket<R: Wait, K: Tagged + Drop>(
     Ok(())
 }
 
-/// Pops the oldest ticket from the queue, and subtracts one from the number of waiting children. Returns `None` if the
-/// queue is empty.
+/// Pops the oldest ticket from the queue, and subtracts one from the number of waiting children in `room`. Returns
+/// `None` if the queue is empty.
 #[inline(always)]
 pub fn next_ticket<R: Wait, K: Tagged + Drop>(
     rt: &R,
@@ -49,13 +49,13 @@ pub fn next_ticket<R: Wait, K: Tagged + Drop>(
     Some(ticket)
 }
 
-/// The number of popped tickets whose children still wait, after which `make_room` gives up.
+/// The number of tickets with a waiting child after which `make_room` gives up.
 const MOST_LIVE: u32 = 8;
 
-/// If `is_wanted` is true and the queue is full, tries to make room for a ticket.
+/// If `is_wanted` is true and the queue is full, tries to make room for one more ticket.
 ///
 /// Pops tickets, the oldest first, until there is room. Drops each ticket whose child no longer waits, and pushes the
-/// others again. Gives up after `MOST_LIVE` of those.
+/// others again. Gives up after `MOST_LIVE` tickets that it has pushed again.
 pub fn make_room<R: Wait, K: RunTicket>(
     rt: &R,
     tickets: &SpillQueue<K>,

@@ -7,16 +7,16 @@ use crate::tags::BLOCK;
 use crossbeam_utils::CachePadded;
 use std::sync::atomic::{AtomicU64, Ordering};
 
-/// Shared counters of the free thread slots, the children that wait for a slot, and the blocks of tags that were handed
-/// out. Each has a cache line of its own.
+/// Shared counters of the free thread slots, of the children that wait for a slot, and of the blocks of tags
+/// (identifying numbers) that were handed out. Each counter has a cache line of its own.
 ///
-/// The first two may be slightly wrong. They only say if it is worth trying to get a slot at a fork. The shared table
-/// of slots decides who gets a slot, and a child's join cell decides who runs the child.
+/// The first two counts can be slightly wrong. They only show if it is worth trying to get a slot at a fork. The shared
+/// table of slots decides who gets a slot, and a child's join cell decides who runs the child.
 #[derive(Drop)]
 pub struct Room {
     free: CachePadded<AtomicU64>,
     waiting: CachePadded<AtomicU64>,
-    /// The greatest number of children that may wait.
+    /// The greatest number of children that may wait for a slot.
     most: u64,
     blocks: CachePadded<AtomicU64>,
 }
@@ -25,7 +25,7 @@ impl Room {
     /// Returns the counters of a new run on `cores` cores with `slots` slots each: all slots are free, and no child
     /// waits. At most `most_waiting` children may wait.
     ///
-    /// No block of tags is handed out. The root's tag, 0, is in no block.
+    /// No block of tags is handed out yet. The root thread has tag 0, which is in no block.
     pub fn new(cores: u8, slots: u8, most_waiting: u64) -> Room
         ensures { result.most ≡ most_waiting }
     {
@@ -37,8 +37,8 @@ impl Room {
         }
     }
 
-    /// Returns whether a thread slot seems to be free. A free slot counts even if its core is closed, or belongs to an
-    /// exclusive thread.
+    /// Returns whether a thread slot seems to be free. A free slot counts even if its core is closed (not in use now),
+    /// or runs only a thread that needs a core for itself.
     #[inline(always)]
     pub fn has_free_place(&self) -> bool {
         seen(&self.free) > 0
@@ -49,8 +49,8 @@ impl Room {
         self.free.fetch_sub(1, Ordering::SeqCst);
     }
 
-    /// Adds one to the number of free slots. Call it after a claimed slot was given back, or after its thread has
-    /// ended.
+    /// Adds one to the number of free slots. Call it after a claimed slot was given back unused, or after the slot's
+    /// thread has ended.
     #[inline(always)]
     pub fn place_was_left(&self) {
         self.free.fetch_add(1, Ordering::SeqCst);
@@ -62,13 +62,13 @@ impl Room {
         seen(&self.waiting) > 0
     }
 
-    /// Returns whether one more child may wait for a slot.
+    /// Returns whether fewer children than the limit seem to wait, so that one more child may wait for a slot.
     #[inline(always)]
     pub fn may_wait(&self) -> bool {
         self.is_room_beside(seen(&self.waiting))
     }
 
-    /// Returns whether one more child may wait for a slot if `waiting` children wait already.
+    /// Returns whether `waiting`, a number of waiting children, is below the limit.
     #[inline(always)]
     fn is_room_beside(&self, waiting: u64) -> bool
         ensures { IsTrue result ↔ waiting < self.now.most }
@@ -76,20 +76,20 @@ impl Room {
         waiting < self.most
     }
 
-    /// Adds one to the number of waiting children.
+    /// Adds one to the number of children that wait for a slot.
     #[inline(always)]
     pub(crate) fn child_waits(&self) {
         self.waiting.fetch_add(1, Ordering::SeqCst);
     }
 
-    /// Subtracts one from the number of waiting children, after a ticket was popped from the queue.
+    /// Subtracts one from the number of children that wait for a slot. Called after a ticket was popped from the queue.
     #[inline(always)]
     pub(crate) fn ticket_was_taken(&self) {
         self.waiting.fetch_sub(1, Ordering::SeqCst);
     }
 
-    /// Hands out a block of tags, and returns its first tag. No two calls hand out the same tag, as long as there are
-    /// fewer than 2^58 calls.
+    /// Hands out a block of `BLOCK` tags (numbers that identify threads), and returns its first tag. No two calls hand
+    /// out the same tag, as long as there are fewer than 2^58 calls.
     pub fn next_block(&self) -> u64
         ensures { result % BLOCK ≡ 1 }
     {
@@ -113,8 +113,8 @@ fn places_of(cores: u8, slots: u8) -> u64
     u64::from(cores) * u64::from(slots)
 }
 
-/// Reads a counter. Returns 0 if it is negative, as it can be for a moment, when a ticket is popped before it was
-/// counted.
+/// Reads the counter `number`. Returns 0 if it has wrapped around below 0, as it can for a moment if a ticket is popped
+/// before its push was counted.
 #[inline(always)]
 fn seen(number: &AtomicU64) -> u64 {
     or_zero(number.load(Ordering::SeqCst))

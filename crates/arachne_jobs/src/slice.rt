@@ -1,4 +1,5 @@
-//! The traits by which a worker runs a job for some steps, and then fulfils the request at which the job has stopped.
+//! The traits by which a worker (a core's kernel thread) runs a job for some steps, and then fulfils the request at
+//! which the job has stopped.
 ghost use Rattle.std.specs.Prelude.{◌≡◌, ◌≤◌, ℕ, List, [], Option, false, IfOk, IfSome, IsSome, None, OnOk, Some};
 ghost use Rattle.arachne_program.specs.Program.{source_of};
 ghost use Rattle.arachne_program.specs.Checked.{IsChecked};
@@ -21,27 +22,28 @@ use std::alloc::{AllocError, Global};
 pub enum Slice<Child> {
     /// The job can run on in a later slice.
     Goes,
-    /// The job has forked this child, of this class. The worker decides where the child runs, by `fork_off` or
-    /// `put_aside`.
+    /// The job has forked a child (fields: its class, normal or exclusive, and the child). The worker decides where the
+    /// child runs, by `fork_off` or `put_aside`.
     Forks(Class, Child),
     /// The job waits to join a child that has not ended.
     Blocks,
     /// The job asks for the lock of this number. The worker must request the lock, and call `answer` when the job holds
     /// it.
     Asks(u64),
-    /// The job still waits for the lock of this number: it has asked for it before, and `answer` was not called since.
+    /// The job has asked for the lock of this number in an earlier slice, and `answer` was not called since. The job
+    /// has made no step in this slice.
     Awaits(u64),
     /// The job releases the lock of this number. The worker must free the lock, and call `answer`.
     Frees(u64),
-    /// The job adds to a ledger, a shared sum (fields: its number, and the amount), but another ledger's amount is
-    /// still to be added. The worker must add both, and call `answer`.
+    /// The job adds to a ledger, a shared sum (fields: its number, and the amount), while `openings` still has an
+    /// amount for another ledger. The worker must add both amounts, and call `answer`.
     Tallies(u64, u64),
-    /// The job has ended. `leave` delivers its outcome to the parent.
+    /// The job has ended. The worker calls `leave`, which delivers the job's outcome to its parent.
     Ends,
 }
 
-/// A thread as a worker sees it: its name and tag, if it is ready or blocked, and the call that resumes it after a
-/// request.
+/// A thread as a worker sees it: its name, its tag (identifying number), if it is ready or blocked, and the call that
+/// resumes it after a request.
 pub trait RunThread: Tagged + Drop {
     /// The thread's name: the numbers of the forks on the path from the root to it.
     ghost name_of: { Self → List ℕ };
@@ -53,7 +55,7 @@ pub trait RunThread: Tagged + Drop {
     /// The id of the thread's parent, or `None` for the root.
     ghost parent_of: { Self → Option ThreadId };
 
-    /// The request that the worker has not fulfilled yet.
+    /// The thread's request that the worker has not fulfilled yet.
     ghost pause_of: { Self → Option Pending };
 
     /// Returns the name of this thread, not of a child that runs inside its slot.
@@ -65,13 +67,13 @@ pub trait RunThread: Tagged + Drop {
     fn running_tag(&self) -> u64
         ensures { result ≡ running_tag_of self.now };
 
-    /// Returns the state in which the worker must put the thread back: ready or blocked. Returns `None` if the thread
-    /// has a request that the worker must fulfil first, or has ended.
+    /// Returns the state in which the worker must put the thread back into its slot: ready, or blocked (it waits for a
+    /// child or a lock). Returns `None` if the thread has a request that the worker must fulfil first, or has ended.
     fn rest(&self) -> Option<Rest>
         ensures { IfSome result (λ rest. MayRest rest (pause_of self.now)) };
 
-    /// Resumes the thread after its request was fulfilled: it holds the lock, the lock is free, or the amount was
-    /// added.
+    /// Resumes the thread after the worker has fulfilled its request: the thread now holds the lock, or the lock was
+    /// freed, or the amount was added to the ledger.
     ///
     /// Returns the error `Foreign` if the thread has made no such request.
     fn answer(&mut self) -> Result<(), JobFault>
@@ -81,15 +83,15 @@ pub trait RunThread: Tagged + Drop {
         ensures answered { OnOk result (pause_of self.new ≡ None) };
 }
 
-/// An entry of the queue, for a child that waits for a thread slot.
+/// A queue entry for a forked child that waits for a thread slot.
 pub trait RunTicket: Tagged + Drop {
-    /// Returns whether the child still waits in its cell, and leaves it there.
+    /// Returns whether the ticket's child still waits in its join cell for a thread slot. Leaves the child there.
     fn still_waits(&self) -> bool;
 }
 
 /// Memory of ended threads, which a worker keeps for new threads.
 pub trait RunSpares: Drop {
-    /// Returns an empty store. Takes no memory.
+    /// Returns a store without any memory to reuse. Allocates no memory.
     fn none(alloc: Global) -> Self;
 }
 
@@ -98,7 +100,7 @@ pub trait RunJob: RunThread {
     /// A child that was forked and has no slot yet.
     type Child: Drop;
 
-    /// The queue's entry for a child that waits for a thread slot.
+    /// The type of queue entries, each for a forked child that waits for a thread slot.
     type Ticket: RunTicket;
 
     /// Memory of ended threads, which a worker keeps for new threads.
@@ -110,7 +112,8 @@ pub trait RunJob: RunThread {
     /// Runs the job for at most `left` steps, and subtracts the steps that were made from `left`.
     ///
     /// A job that must still wait for a lock or a child makes no step. A child that can't get a thread slot runs inside
-    /// this job's slot. The caller must still add the amount in `openings` to the ledger for which it was collected.
+    /// this job's slot. Afterwards the caller must add the amount in `openings` to the ledger (a shared sum) that
+    /// `openings` names.
     fn slice(
         &mut self,
         left: &mut u32,
@@ -124,7 +127,8 @@ pub trait RunJob: RunThread {
         ensures parent { Self.parent_of self.new ≡ Self.parent_of self.old }
         ensures left { IfOk result (λ slice. IsLeft forks Self.pause_of slice self.new) };
 
-    /// Makes a job of the forked child, with the tag `tag`, and resumes this job, whose id is `me`.
+    /// Creates a job for `child`, which this job has just forked, with the tag `tag` (its number in this run). Resumes
+    /// this job, whose thread id is `me`.
     fn fork_off(
         &mut self,
         alloc: Global,
@@ -140,8 +144,9 @@ pub trait RunJob: RunThread {
         ensures childs_parent { IfOk result (λ job. Self.parent_of job ≡ Some me) }
         ensures answered { OnOk result (Self.pause_of self.new ≡ None) };
 
-    /// Lets the forked child wait for a thread slot, and resumes this job, whose id is `me`. The child gets the tag
-    /// `tag`. It waits until a worker has a slot for it, or until this job waits to join it.
+    /// Lets `child`, which this job has just forked, wait for a thread slot, and resumes this job, whose thread id is
+    /// `me`. The child gets the tag `tag` (its number in this run). It waits until a worker has a slot for it, or until
+    /// this job waits to join it.
     ///
     /// Returns the child's ticket, which the caller must queue. Returns `None` if `waits` is false or memory is
     /// refused; then the child runs inside this job's slot instead.
@@ -160,8 +165,8 @@ pub trait RunJob: RunThread {
         ensures ticket { IfOk result (λ made. IfSome made (λ ticket. Self.Ticket.tag_of ticket ≡ tag)) }
         ensures asked { waits ≡ false → IfOk result (λ made. made ≡ None) };
 
-    /// Makes a job of the ticket's child. Returns `None` if the child no longer waits. Also returns `None` if memory is
-    /// refused; then the child still waits for its parent.
+    /// Creates a job for the child of `ticket`. Returns `None` if the child no longer waits for a slot. Also returns
+    /// `None` if memory is refused; then the child still waits for its parent.
     fn of_ticket(alloc: Global, ticket: Self::Ticket, spares: &mut Self::Spares) -> Option<Self>
         ensures parent { IfSome result (λ job. IsSome (Self.parent_of job)) }
         ensures tag { IfSome result (λ job. Self.tag_of job ≡ Self.Ticket.tag_of ticket) };
@@ -175,7 +180,7 @@ pub trait RunJob: RunThread {
         ensures parent { IfOk result (λ parent. parent ≡ Self.parent_of self) };
 }
 
-/// A type of jobs for the threads of a task program, with the call that makes the job of the root.
+/// A type of jobs for the threads of a task program, with the call that creates the root thread's job.
 pub trait JobOf<'p>: RunJob {
     /// Returns the job of the program's root thread, with the tag 0, and the receiving end for its outcome.
     fn begin(

@@ -6,7 +6,8 @@ use arachne_join::SpareCells;
 use arachne_machine::{DetachedOutcome, Spares as SpareThreads};
 use std::alloc::Global;
 
-/// Memory for new threads: the states of ended threads, the [`Ties`] of their jobs, and join cells that are free again.
+/// A store of memory for new threads: the states of ended threads, the [`Ties`] of their jobs, and join cells that are
+/// free again.
 ///
 /// Each worker has a store of its own, so that most forks allocate memory only for a long name.
 #[derive(Drop)]

@@ -1,4 +1,5 @@
-//! A job's ends of join cells and its parent's id, in a box that later jobs reuse.
+//! A job's ends of join cells (each carries one thread's outcome to its parent) and its parent's id, in a box that
+//! later jobs reuse.
 ghost use Rattle.std.specs.Prelude.{◌≡◌, ◌≤◌, ◌+◌, [], IfOk, vec_len, vec_capacity};
 
 use crate::ends::End;
@@ -14,10 +15,10 @@ pub struct Ties {
     pub(crate) parent: Option<ThreadId>,
 }
 
-/// The greatest number of boxes in a store.
+/// The greatest number of boxes that a `SpareTies` keeps.
 const MOST: usize = 64;
 
-/// The boxes of ended jobs, with the capacity of their lists, which new jobs reuse.
+/// The boxes of ended jobs, which new jobs reuse together with the capacity of their lists.
 #[derive(Drop)]
 pub struct SpareTies {
     ties: Vec<Box<Ties>>,
@@ -34,14 +35,14 @@ impl Model for SpareTies {
 }
 
 impl SpareTies {
-    /// Returns an empty store. Takes no memory.
+    /// Returns a store without any boxes. Allocates no memory.
     pub(crate) fn new(alloc: Global) -> SpareTies {
         SpareTies {
             ties: Vec::new(alloc),
         }
     }
 
-    /// Returns a box with the parent `parent` and no ends of cells. It has room for at least one.
+    /// Returns a box with the parent `parent` and no ends of join cells. The box has room for at least one end.
     #[inline(always)]
     pub(crate) fn take(
         &mut self,

@@ -1,4 +1,4 @@
-//! A child in its join cell, in which it waits for a thread slot or for its parent.
+//! A child that waits in its join cell until a worker has a thread slot for it, or until its parent takes it back.
 ghost use Rattle.std.specs.Prelude.{◌≡◌, ◌≢◌, ◌↔◌, IfOk, IfErr, IfSome, IsTrue, Some};
 ghost use Rattle.std.specs.Arc.{arc_value};
 ghost use Rattle.arachne_join.specs.Views.{shown};
@@ -21,8 +21,8 @@ type Cell<'p> = JoinCell<LeftInCell<'p>, Wanted>;
 
 type CellEnd<'p> = SendingEnd<LeftInCell<'p>, Wanted>;
 
-/// A shared reference to the join cell in which a child waits. In contracts, it is the cell's key, which says whose
-/// outcome the cell is for, and the table that the cell belongs to.
+/// A shared reference to the join cell in which a child waits for a thread slot. In contracts, it is the cell's key,
+/// which says whose outcome the cell is for, and the table that the cell belongs to.
 #[derive(Drop)]
 pub struct WaitCell<'p> {
     cell: Arc<Cell<'p>>,
@@ -43,7 +43,8 @@ impl<'p> Model for WaitCell<'p> {
     ghost view = { λ c. arc_value c.cell };
 }
 
-/// The queue's entry for a waiting child: its join cell and its tag. In contracts, it is only the cell.
+/// A queue entry for a child that waits for a thread slot: its join cell and its tag (identifying number). In
+/// contracts, it is only the cell.
 #[derive(Drop)]
 pub struct Ticket<'p> {
     cell: Arc<Cell<'p>>,
@@ -105,8 +106,8 @@ impl<'p> WaitCell<'p> {
         Ok((WaitCell { cell }, Ticket { cell: ticket, tag }))
     }
 
-    /// Takes the outcome, or the waiting child, out of the cell, on behalf of the parent. If the cell has neither,
-    /// returns the cell's state as the error.
+    /// Takes the child's outcome, or the child if it still waits, out of the cell. The parent calls this. If the cell
+    /// has neither, returns the cell's state as the error.
     pub(crate) fn find(&self) -> Result<Found<'p>, Missed<Wanted>>
         ensures found { IfOk result (IsFoundFor self.now.key) }
         ensures missed { IfErr result (λ missed. (missed.state ≢ CellState.Waiting) × (missed.receipt ≡ shown self.now.table (Saw missed.state))) }
@@ -130,8 +131,8 @@ impl<'p> WaitCell<'p> {
         }
     }
 
-    /// Puts the child's outcome into this cell by its sending end `end`. The receipt shows in contracts that this was
-    /// done.
+    /// Puts the child's outcome into this cell, through the cell's sending end `end`. The receipt proves in contracts
+    /// that this was done.
     pub(crate) fn leave(self, end: CellEnd<'p>, outcome: DetachedOutcome) -> Receipt<Wanted>
         requires end { end ≡ self.table }
         requires outcome { IsWanted self.key outcome }
@@ -157,8 +158,8 @@ impl<'p> RunTicket for Ticket<'p> {
 }
 
 impl<'p> Ticket<'p> {
-    /// Takes the child out of its cell. Returns the child, the cell and the cell's sending end, or `None` if the child
-    /// no longer waits.
+    /// Takes the child out of its join cell. Returns the child, the cell and the cell's sending end, or `None` if the
+    /// child no longer waits.
     pub(crate) fn take(self) -> Option<(Waiting<'p>, WaitCell<'p>, CellEnd<'p>)>
         ensures child { IfSome result (λ taken. IsFor taken.0.thread taken.1.key × HasNotBegun taken.0.thread) }
         ensures told { IfSome result (λ taken. IsTold taken.0 self.entry.key) }
@@ -175,7 +176,7 @@ impl<'p> Ticket<'p> {
     }
 }
 
-/// Allocates an empty cell. Returns a reference to it, its sending end, and a second reference.
+/// Allocates an empty join cell. Returns a reference to the cell, its sending end, and a second reference.
 fn shared_cell<'p>(
     alloc: Global,
     wanted: &Wanted,

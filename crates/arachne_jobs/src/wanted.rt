@@ -1,4 +1,4 @@
-//! The key of a join cell, which says whose outcome the cell is for and who the parent is. It exists only for
+//! The key of a join cell: the thread whose outcome the cell carries, and that thread's parent. It exists only for
 //! contracts.
 ghost use Rattle.std.specs.Prelude.{◌≡◌};
 ghost use Rattle.arachne_jobs.specs.Cells.{IsFor};
@@ -10,7 +10,8 @@ use arachne_machine::{DetachedOutcome, Thread};
 use arachne_program::{Name, Program};
 use std::snapshot::Snapshot;
 
-/// The key of a join cell: the thread whose outcome the cell is for. Exists only for contracts, and has size 0.
+/// The key of a join cell: the thread whose outcome the cell carries to its parent. Exists only for contracts, and has
+/// size 0.
 #[derive(Drop)]
 pub struct Wanted {
     /// The thread's program.

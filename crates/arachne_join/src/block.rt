@@ -64,7 +64,7 @@ impl<T: Fits<K> + Drop, K> CellBlock<T, K> {
 }
 
 impl<T: Fits<K>, K> CellBlock<T, K> {
-    /// Moves the first cell that `all` still owns, cell `index`, to a new seat. Returns that seat, which owns only this
+    /// Moves cell `index`, the first that `all` still owns, to a new seat. Returns that seat, which owns only this
     /// cell.
     pub(crate) fn give_first(&self, all: &mut BlockSeat<T, K>, index: usize) -> BlockSeat<T, K>
         requires own { all.old.table_id ≡ self.now }
@@ -80,9 +80,9 @@ impl<T: Fits<K>, K> CellBlock<T, K> {
         cell
     }
 
-    /// Opens the unused cell `index` for a value that fits `key`.
+    /// Opens the unused cell `index` for a value that fits `key`. Returns a seat that may only receive the value.
     ///
-    /// `seat` then may only send the value; the returned seat may only receive it.
+    /// After the call, `seat` may only send the value.
     pub(crate) fn open(&self, seat: &mut BlockSeat<T, K>, index: usize, key: &K) -> BlockSeat<T, K>
         requires own { seat.old.table_id ≡ self.now }
         requires inside { index < self.now.slots }
@@ -118,7 +118,7 @@ impl<T: Fits<K>, K> CellBlock<T, K> {
 
     /// Returns the value that the sender has left in cell `index`, or `None` if the cell's word is not `full` yet.
     ///
-    /// After a value was returned, the cell is unused again, and `seat` owns the whole cell.
+    /// After it has returned a value, the cell is unused again, and `seat` owns the whole cell.
     pub(crate) fn fetch(&self, seat: &mut BlockSeat<T, K>, index: usize, full: u64) -> Option<T>
         requires own { seat.old.table_id ≡ self.now }
         requires inside { index < self.now.slots }

@@ -14,7 +14,8 @@ impl<T: Fits<K>, K> TableRule<Content<T, K>, PartView<K>, ()> for BlockRule {
     ghost first = { λ _. all_cells };
 }
 
-/// The split by which the seat that owns all remaining cells gives the first of them to a new seat.
+/// The split of the seat (a right to use the cell) that owns all remaining cells: the new seat gets the first of these
+/// cells.
 pub(crate) struct GiveFirst;
 
 impl<K> Split<PartView<K>> for GiveFirst {
@@ -25,7 +26,8 @@ impl<K> Split<PartView<K>> for GiveFirst {
     ghost right = { the_first };
 }
 
-/// The operation by which a seat takes the empty slot out of a cell that was never used.
+/// The operation by which a seat (a right to use the cell) takes the empty slot (the field for the value) out of a cell
+/// that was never used.
 pub(crate) struct Start;
 
 impl<T, K> Play<Content<T, K>, PartView<K>> for Start {
@@ -42,7 +44,7 @@ impl<T, K> Play<Content<T, K>, PartView<K>> for Open {
     ghost then = { λ _ m n w. Opens m w };
 }
 
-/// The split of the seat of an opened cell into the sending end and the receiving end.
+/// The split of the seat (a right to use the cell) of an opened cell into the sending end and the receiving end.
 pub(crate) struct PartEnds;
 
 impl<K> Split<PartView<K>> for PartEnds {

@@ -17,10 +17,10 @@ use atomic_table::{Seat, Table};
 use std::alloc::{AllocError, Global};
 use std::marker::Model;
 
-/// A cell for one value, which is fetched at most once. Each thread that shares the cell, for example by an `Arc`, may
-/// fetch the value.
+/// A cell for one value. Each thread that shares the cell, for example by an `Arc`, may fetch the value, but only one
+/// fetch gets it.
 ///
-/// A cell is made for a key, which exists only in proofs and says which values may be left. Contracts refer to the
+/// A cell is made for a key, which exists only in proofs and says which values can be left. Contracts refer to the
 /// cell's table and to its key.
 #[derive(Drop)]
 pub struct JoinCell<T: Fits<K>, K> {
@@ -38,8 +38,8 @@ impl<T: Fits<K>, K> Model for JoinCell<T, K> {
     ghost invariant = { λ c. (c.table.shared.table_id.words ≡ 1) × (c.table.shared.table_id.slots ≡ 1) };
 }
 
-/// The error of a call that got no value: the state in which it found the cell, and a receipt, by which contracts know
-/// that state.
+/// The error of a call that got no value: the state in which the call found the cell, and a receipt, by which contracts
+/// know that state.
 #[derive(Drop)]
 pub struct Missed<K> {
     pub state: CellState,
@@ -97,8 +97,8 @@ impl<T: Fits<K>, K> JoinCell<T, K> {
         self.table.shared.exchange(seat, 0, None).unwrap()
     }
 
-    /// Returns the state of the cell at one moment of the call, with a receipt, by which contracts know that state. A
-    /// value in the cell stays there.
+    /// Returns the state of the cell at one moment of the call, with a receipt, by which contracts know that state.
+    /// Doesn't take the value out.
     pub fn seen(&self) -> (CellState, Receipt<K>)
         ensures { result.1 ≡ shown self.now.table (Saw result.0) }
     {
@@ -106,8 +106,8 @@ impl<T: Fits<K>, K> JoinCell<T, K> {
         (CellState::of(found), Receipt::of(seat))
     }
 
-    /// Takes the value out of the cell. If the child hasn't left it there yet, or another call has fetched it, returns
-    /// the state of the cell as an error.
+    /// Takes the value out of the cell. If the child hasn't left a value there yet, or another call has fetched it,
+    /// returns the state of the cell as an error.
     pub fn fetch(&self) -> Result<(T, Receipt<K>), Missed<K>>
         ensures value { IfOk result (λ got. T.fits self.now.key got.0) }
         ensures fetched { IfOk result (λ got. got.1 ≡ shown self.now.table Fetched) }
@@ -148,8 +148,8 @@ impl<T: Fits<K>, K> JoinCell<T, K> {
         Ok((value, SendingEnd::of(seat)))
     }
 
-    /// Does nothing. Its contract is a law: at most one call has fetched from a cell. So of all receipts of a cell at
-    /// most one is that of a fetch.
+    /// Does nothing. Its contract is a law: at most one call has fetched from a cell. So at most one of all receipts of
+    /// a cell is the receipt of a fetch.
     pub fn fetched_once(&self, fetched: Receipt<K>, other: Receipt<K>)
         requires fetched { fetched ≡ shown self.now.table Fetched }
         requires other { other.table ≡ self.now.table }

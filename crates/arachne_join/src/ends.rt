@@ -1,5 +1,5 @@
-//! Reusable cells. Opening a cell gives a `Sender` and a `Receiver` for one value; receiving the value returns the
-//! cell.
+//! Reusable cells. Opening a cell returns a `Sender` and a `Receiver` for one value; when the receiver gets the value,
+//! it also gets the unused cell.
 ghost use Rattle.std.specs.Prelude.{◌≡◌, ◌<◌, IfOk, IfErr};
 ghost use Rattle.std.specs.Arc.{arc_value};
 ghost use Rattle.arachne_join.specs.BlockSteps.{IsUnusedAt};
@@ -11,7 +11,8 @@ use std::marker::Model;
 use std::snapshot::Snapshot;
 use std::sync::Arc;
 
-/// A cell that is not in use. `open` uses it for one value, and `Receiver::fetch` returns the cell with that value.
+/// A cell that is not in use. `open` uses the cell for one value, and `Receiver::fetch` returns the cell with that
+/// value.
 ///
 /// Contracts refer to the cell, and to the number of values that have passed through it.
 #[derive(Drop)]
@@ -34,9 +35,11 @@ impl<T: Fits<K>, K> Model for UnusedCell<T, K> {
     ghost invariant = { λ c. IsPlaced (arc_value c.block) c.seat.table_id c.index c.full c.seat.me.0.passed × IsUnusedAt c.index c.seat.me.0.passed c.seat.me };
 }
 
-/// The sending end of an opened cell. If it is dropped, no value ever comes, and the cell is not used again.
+/// The sending end of an opened cell. If the sender is dropped, the receiver never gets a value, and the cell is not
+/// used again.
 ///
-/// Contracts refer to the cell, the number of values that had passed through it before, and the key.
+/// Contracts refer to the cell, the number of values that had passed through the cell before this sender's, and the
+/// key.
 #[derive(Drop)]
 pub struct Sender<T: Fits<K>, K> {
     block: Arc<CellBlock<T, K>>,
@@ -58,10 +61,10 @@ impl<T: Fits<K>, K> Model for Sender<T, K> {
     ghost invariant = { λ s. IsPlaced (arc_value s.block) s.seat.table_id s.index s.full s.seat.me.0.passed × IsSendingAt s.index s.seat.me.0.passed s.key.value s.seat.me };
 }
 
-/// The receiving end of an opened cell. If it is dropped, the cell is not used again.
+/// The receiving end of an opened cell. If the receiver is dropped, the cell is not used again.
 ///
-/// Contracts refer to the cell, the number of values that had passed through it before, the key, and the number of
-/// calls of `fetch` that found no value.
+/// Contracts refer to the cell, the number of values that had passed through the cell before this receiver's, the key,
+/// and the number of calls of `fetch` that found no value.
 #[derive(Drop)]
 pub struct Receiver<T: Fits<K>, K> {
     block: Arc<CellBlock<T, K>>,
@@ -108,7 +111,7 @@ impl<T: Fits<K> + Drop, K> UnusedCell<T, K> {
 
     /// Opens the cell for one value that fits `key`, which only proofs use. Does not allocate.
     ///
-    /// Returns the cell as an error if the reference count of its block can't grow.
+    /// If the reference count of the cell's block can't grow, returns the cell as an error.
     pub fn open(self, key: &K) -> Result<(Receiver<T, K>, Sender<T, K>), UnusedCell<T, K>>
         ensures receiver { IfOk result (λ ends. ends.0 ≡ awaited (opening self key.now)) }
         ensures sender { IfOk result (λ ends. ends.1 ≡ opening self key.now) }

@@ -1,5 +1,5 @@
-//! A one-shot cell that a fork's parent and child share: the child leaves one value, and each thread that shares the
-//! cell may fetch the value, once in all.
+//! A one-shot cell that a fork's parent and child share: the child leaves one value, and any thread that shares the
+//! cell may fetch the value, but only one fetch gets it.
 //!
 //! A cell is made for a key, which exists only in proofs. Only a value that fits the key can be left in the cell, so
 //! each fetched value fits the key; no call compares the two. A cell consists of one atomic word and one *slot*, a
@@ -7,7 +7,7 @@
 //!
 //! A `JoinCell` has a table of its own for its word and its slot. An `UnusedCell` shares a table with the other cells
 //! of its block, and is opened for one value after another. A *seat* is a thread's right to change the table; callers
-//! see it only as the ends of a cell.
+//! don't see seats, only the sending and the receiving end of a cell.
 #![tactic(auto)]
 
 mod block;

@@ -1,13 +1,13 @@
 //! The cells that a seat owns or may use, and the content of a cell's slot.
 use std::snapshot::Snapshot;
 
-/// The cells of a block that a seat owns or may use. The type exists only for proofs.
+/// The cells of a block that a seat (a thread's right to use them) owns or may use. The type exists only for proofs.
 pub enum Part<K> {
-    /// All cells from an index on. No seat has been given them yet.
+    /// All cells from an index on, which no other seat has got yet.
     Rest,
     /// One cell that was never used. Its slot (the field for the value) still belongs to the table.
     Fresh,
-    /// One cell that is not in use since its last value was fetched.
+    /// One cell that is unused since its last value was fetched.
     Unused,
     /// One cell that was opened for this key, before it is split into a sender and a receiver.
     Opened(K),
@@ -15,11 +15,12 @@ pub enum Part<K> {
     Sending(K),
     /// The receiving end of a cell that was opened for this key, and how often it found no value.
     Receiving(K, u64),
-    /// No cell: the seat has given its cell to another seat.
+    /// No cell, since the seat has given its cell to another seat.
     Spent,
 }
 
-/// The cells of a seat, the index of its cell, and the number of values that have passed through that cell.
+/// The cells of a seat (a right to use the cell), the index of the seat's cell, and the number of values that have
+/// passed through that cell.
 pub struct PartView<K> {
     pub part: Part<K>,
     pub index: usize,

@@ -6,9 +6,9 @@ use crate::view::View;
 use atomic_table::{Badge, Seat};
 use std::marker::Model;
 
-/// The proof of what one call did at a cell, or in which state the call found it. Only contracts use it.
+/// The proof of how one call changed a cell, or in which state the call found the cell. Only contracts use it.
 ///
-/// A receipt has no bytes, and may be dropped.
+/// A receipt has no bytes, and can be dropped at any time.
 #[derive(Drop)]
 pub struct Receipt<K> {
     badge: Badge<View<K>>,

@@ -1,4 +1,4 @@
-//! The sending end of a cell, which is consumed when its owner leaves the value.
+//! The sending end of a cell. Leaving a value consumes it.
 ghost use Rattle.std.specs.Prelude.{◌≡◌};
 ghost use Rattle.arachne_join.specs.Steps.{Sends};
 ghost use Rattle.arachne_join.specs.Views.{shown};
@@ -14,7 +14,7 @@ use atomic_table::Seat;
 use std::marker::Model;
 
 /// The only sending end of a cell. It owns the cell's empty slot (the field for the value). Leaving a value consumes
-/// it.
+/// the sending end.
 ///
 /// A sending end has no bytes. If it is dropped, the cell stays empty. Contracts refer to its cell's table.
 #[derive(Drop)]
@@ -55,7 +55,7 @@ impl<T: Fits<K>, K> SendingEnd<T, K> {
         Receipt::of(seat)
     }
 
-    /// Puts `waiting` into `cell`, from which only `take_back` can take it, and no `fetch`.
+    /// Puts `waiting` into `cell`, from which only `take_back` can take the value, and no `fetch`.
     ///
     /// `take_back` returns the sending end together with the value. Neither allocates nor waits.
     pub fn put_back(self, cell: &JoinCell<T, K>, waiting: T) -> Receipt<K>

@@ -8,13 +8,13 @@ use crate::fits::Fits;
 use std::alloc::{AllocError, Global};
 use std::sync::Arc;
 
-/// The greatest number of unused cells in a store. `give` drops further ones, so that a thread doesn't collect the
-/// cells that other threads create.
+/// The greatest number of unused cells in a store. If a store is full, `give` drops the cell, so that a thread doesn't
+/// collect the cells that other threads create.
 const MOST: usize = 4 * CELLS;
 
-/// One thread's store of unused cells. If it is empty, `take` creates a new block of cells.
+/// A store of unused cells for one thread. If the store is empty, `take` allocates a new block of cells.
 ///
-/// A block is freed when none of its cells is in use or in a store any more.
+/// A block is freed after its last cell was dropped.
 #[derive(Drop)]
 pub struct SpareCells<T: Fits<K>, K> {
     cells: Vec<UnusedCell<T, K>>,
@@ -43,7 +43,7 @@ impl<T: Fits<K> + Drop, K> SpareCells<T, K> {
         }
     }
 
-    /// Opens an unused cell for a value that fits `key`. Returns the cell's receiver and its sender.
+    /// Takes an unused cell, and opens it for a value that fits `key`. Returns the cell's receiver and its sender.
     pub fn open(
         &mut self,
         alloc: Global,

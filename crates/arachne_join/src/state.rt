@@ -10,7 +10,7 @@ pub(crate) const TAKEN: u64 = 2;
 
 pub(crate) const WAITING: u64 = 3;
 
-/// The state of a cell. The slot is the field for its value.
+/// The state of a cell, which carries one value. The slot is the cell's field for that value.
 ///
 /// | State | The slot | Next state |
 /// |---|---|---|

@@ -17,8 +17,8 @@ impl<T: Fits<K>, K> TableRule<Option<T>, View<K>, K> for CellRule {
     ghost first = { λ key. view (Some key) Maker };
 }
 
-/// The operation by which the first seat takes the slot (the field for the value) out of the table, and so becomes the
-/// sending end.
+/// The operation by which the first seat (a right to use the cell) takes the slot (the field for the value) out of the
+/// table. The seat then is the sending end.
 pub(crate) struct TakeSlot;
 
 impl<T, K> Play<Option<T>, View<K>> for TakeSlot {
@@ -37,7 +37,7 @@ impl<T, K> Play<Option<T>, View<K>> for PutBack {
     ghost then = { λ _ m n w. Becomes PutBack w };
 }
 
-/// The load of the cell's word by a new seat.
+/// The load of the cell's word by a new seat (a right to use the cell).
 pub(crate) struct Look;
 
 impl<T, K> Play<Option<T>, View<K>> for Look {
@@ -56,14 +56,15 @@ impl<T: Fits<K>, K> Play<Option<T>, View<K>> for TakeBack {
     ghost then = { λ _ m n w. Takes T.may_wait 3 Sender m n w };
 }
 
-/// The operation by which the seat that fetched the value puts the empty slot back into the table.
+/// The operation by which the seat (a right to use the cell) that fetched the value puts the empty slot back into the
+/// table.
 pub(crate) struct ReturnSlot;
 
 impl<T, K> Play<Option<T>, View<K>> for ReturnSlot {
     ghost then = { λ _ m n w. Becomes Fetched w };
 }
 
-/// The operation that joins another seat into the seat that fetched the value.
+/// The operation that joins another seat (a right to use the cell) into the seat that fetched the value.
 pub(crate) struct JoinFetched;
 
 impl<K> Join<View<K>> for JoinFetched {
@@ -72,7 +73,7 @@ impl<K> Join<View<K>> for JoinFetched {
     ghost spent = { blank };
 }
 
-/// The fact that of two seats that are joined, at most one has fetched the value.
+/// The fact that of two seats (rights to use the cell) that are joined, at most one has fetched the value.
 pub(crate) struct FetchedAlone;
 
 impl<T, K> Play<Option<T>, View<K>> for FetchedAlone {

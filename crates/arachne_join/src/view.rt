@@ -1,11 +1,13 @@
-//! The record that proofs keep of each seat of a cell: its last operation, and the cell's key.
+//! The record that proofs keep of each seat of a cell (a thread's right to change it): the last operation, and the
+//! cell's key.
 //!
 //! These types exist only for proofs.
 use crate::state::CellState;
 
-/// The role of a seat: the creator of the cell, the sending end, or a seat with its last operation on the cell.
+/// The role of a seat (a thread's right to change the cell): creator, sending end, or the last operation made by the
+/// seat.
 pub enum Role {
-    /// The seat that creates the cell, before it takes the slot.
+    /// The seat that creates the cell, before it takes the slot (the field for the value) out of the table.
     Maker,
     /// The sending end, which has the slot (the field for the value).
     Sender,
@@ -17,11 +19,12 @@ pub enum Role {
     Fetched,
     /// The seat read the cell's word, and found the cell in this state.
     Saw(CellState),
-    /// No seat has this role.
+    /// A role that no seat has.
     Never,
 }
 
-/// The role of a seat, and the key for which the cell was made, if the seat's record has the key.
+/// The role of a seat (a right to use the cell), and the key for which the cell was made. Without a key if the seat's
+/// record doesn't have it.
 pub struct View<K> {
     pub role: Role,
     pub key: Option<K>,

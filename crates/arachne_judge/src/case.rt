@@ -1,9 +1,9 @@
-//! Goes through the log of a run once, and checks each rule at the entries that concern it.
+//! Reads the log of a run once, and checks each rule at the entries that concern it.
 //!
-//! An entry is written just before or just after the event that it reports. So another core may show the effect of an
-//! event first: that a thread was moved, that a core was closed or granted, or that a thread was woken. Core 0 has to
-//! report its actions before its next slice begins; each other core has to report an action at once. As long as such a
-//! report is missing, the log *owes* the report.
+//! A worker writes an entry just before or just after the event that it reports. So the log may show the effect of
+//! another core's event before the event: that a thread was moved, that a core was closed or opened, or that a thread
+//! was woken. Core 0 must report its actions before its next slice begins; each other core must report an action at
+//! once. As long as such a report is missing, the core *owes* it.
 ghost use Rattle.std.specs.Prelude.{◌≡◌, ◌≢◌, ◌<◌, ◌==◌, IsSome, not};
 ghost use Rattle.arachne_judge.specs.Rules.{broken_by_pull, broken_if, first_broken};
 ghost use Rattle.arachne_judge.specs.declared.rules.Rule.TheVariants.{CoreZero};
@@ -19,40 +19,41 @@ use arachne_policy::OrderKind;
 use arachne_workers::{SliceEnd, WorkerEvent};
 use std::alloc::{AllocError, Global};
 
-/// The number of moves of threads between cores that may stay unreported. Such a move is made if a thread leaves its
-/// place just before a worker moves it away: then the worker moves the next thread that came to the place instead.
+/// The number of moves of threads between cores that may stay unreported.
 ///
-/// Such a move takes a delay between two steps of a worker, so it is rare. One more such move is allowed for each
-/// `TURNS_PER_UNTOLD` times that a thread continued. A program with an exclusive fork has no such moves.
+/// Such a move occurs if a thread leaves its slot just before a worker moves it away: then the worker moves the slot's
+/// next thread instead. It is rare, since it needs a delay between two steps of a worker. One more such move is allowed
+/// for each `TURNS_PER_UNTOLD` times that a thread continued. A program with an exclusive fork has no such moves.
 const UNTOLD: u64 = 2;
 
 const TURNS_PER_UNTOLD: u64 = 64;
 
-/// The judge's knowledge of the run's cores, threads and places, from the log's entries so far.
+/// The facts about the run's cores, threads and slots that the log entries read so far have shown.
 #[derive(Drop)]
 struct Case<'r> {
     run: Run<'r>,
-    /// The number of the current entry.
+    /// The number of the log entry that is checked now.
     at: usize,
     cores: Vec<Core>,
-    /// The last thread of each context.
+    /// For each context, the facts about its last thread.
     threads: Vec<Option<ThreadFacts>>,
     root: Option<ThreadId>,
-    /// True if the root has ended.
+    /// True if the root thread has ended.
     is_over: bool,
-    /// The number of orders that core 0 has reported as carried out.
+    /// The number of orders that core 0 has reported as carried out so far.
     applied: usize,
-    /// The number of slices reported as ended.
+    /// The number of slices that all cores have reported as ended.
     ended: u64,
-    /// The number of slices of other cores that the run must have counted before core 0's last event.
+    /// The number of slices of other cores that must have been counted as ended before core 0's last event.
     counted: u64,
-    /// True if some core must still report an event whose effect another core has shown.
+    /// True if some core must still report an event whose effect an entry has already shown.
     owes: bool,
-    /// The number of moves of threads that were not reported.
+    /// The number of moves of threads between cores that were not reported.
     untold: u64,
-    /// The threads that continued after a wait, and whose wake was not reported yet. There is at most one such thread
-    /// for each other core, which may have woken it and not reported that yet. Such a thread may have ended since, and
-    /// its context may have another thread.
+    /// The threads that have continued after a wait although no wake was reported yet.
+    ///
+    /// There is at most one such thread for each other core, which perhaps has woken it and not reported that yet. Such
+    /// a thread may have ended since, and its context may have another thread.
     unwoken: Vec<Option<ThreadId>>,
     scans: Scans,
     counts: Counts,
@@ -60,7 +61,7 @@ struct Case<'r> {
     steps: u64,
 }
 
-/// Returns the first rule of a run that its log breaks, and how often each rule was checked.
+/// Checks the log of a run. Returns the first rule that the log breaks, and how often each rule was checked.
 pub fn judge(alloc: Global, log: &Log, run: Run<'_>) -> Result<Verdict, AllocError> {
     let mut case = Case::new(alloc, run)?;
     for at in 0..log.count() as usize {
@@ -130,7 +131,7 @@ impl<'r> Case<'r> {
         }
     }
 
-    /// Returns the thread of this id, if the thread has had a turn.
+    /// Returns the facts about the thread with this id, if a worker has taken it before.
     fn thread(&self, id: ThreadId) -> Option<ThreadFacts> {
         let thread = (*self.threads.get(id.context as usize)?)?;
         if thread.id == id { Some(thread) } else { None }
@@ -150,7 +151,7 @@ impl<'r> Case<'r> {
         self.counts.add(rule, 1);
     }
 
-    /// Records that the rule is broken at the current entry, unless a rule was broken before.
+    /// Records that the current entry breaks `rule`, unless an earlier entry has broken a rule.
     fn breaks(&mut self, rule: Rule)
         ensures { self.new ≡ record self.old { broken = first_broken self.old.broken (record { rule = rule; at = self.old.at }) } }
     {
@@ -159,7 +160,7 @@ impl<'r> Case<'r> {
         }
     }
 
-    /// Counts one check of the rule, and records whether the rule is broken.
+    /// Counts one check of `rule`, and records if the rule is broken.
     fn judges(&mut self, rule: Rule, is_broken: bool)
         ensures { self.new ≡ record self.old { counts = self.new.counts; broken = broken_if is_broken self.old.broken (record { rule = rule; at = self.old.at }) } }
     {
@@ -202,7 +203,7 @@ impl<'r> Case<'r> {
             WorkerEvent::Unparked => self.unparked(core),
             WorkerEvent::Applied(orders) => return self.applied(core, orders),
             WorkerEvent::MovedAway(receivers) => return self.moved_away(core, receivers),
-            // No rule is about the other events.
+            // No rule concerns the other events.
             _ => {}
         }
         if core == 0 {
@@ -234,7 +235,7 @@ impl<'r> Case<'r> {
         }
     }
 
-    /// Checks that core 0, when it begins a slice, has carried out all orders that are due.
+    /// Checks, when a slice of core 0 begins, that core 0 has carried out all orders that are due.
     fn look_due(&mut self) {
         let Some(order) = self.run.orders.get(self.applied) else {
             return;
@@ -246,8 +247,8 @@ impl<'r> Case<'r> {
         );
     }
 
-    /// Records each rule whose report is still missing as broken. Called when core 0 continues, and at the end of the
-    /// log.
+    /// Records that a rule is broken for each report that is still missing. Called when core 0 begins a slice, and at
+    /// the end of the log.
     fn settle(&mut self) {
         if !self.owes {
             return;
@@ -275,7 +276,7 @@ impl<'r> Case<'r> {
         }
     }
 
-    /// Returns the number of moves that may be unreported so far.
+    /// Returns the number of moves of threads that may have stayed unreported so far.
     fn most_untold(&self) -> u64 {
         UNTOLD.saturating_add(self.counts.of(Rule::OwnCore) / TURNS_PER_UNTOLD)
     }
@@ -312,7 +313,8 @@ impl<'r> Case<'r> {
         self.set_core(core, known);
     }
 
-    /// Checks the core of a thread's turn: the thread must have been on this core before, or moved to it.
+    /// Checks the core on which a worker has taken a thread: the thread must have been on this core before, or moved to
+    /// it.
     fn look_where(&mut self, known: &mut Core, core: u8, before: ThreadFacts) {
         if before.has_ended() || before.is_in_slice {
             self.breaks(Rule::InHand);
@@ -331,11 +333,11 @@ impl<'r> Case<'r> {
         }
     }
 
-    /// Checks that a thread that has waited was woken before this turn. Returns the number of wakes of the thread that
-    /// are left once this turn has used up one.
+    /// Checks that a thread that has waited was woken before it continues. Returns the number of the thread's wakes
+    /// that are left after this turn has used up one.
     ///
-    /// Another core may have woken the thread just now, and has to report this wake immediately. A wake may also be
-    /// reported just before the turn in which it occurs.
+    /// If another core has just woken the thread, that core must report this at once. A wake may also be reported just
+    /// before the turn that follows it.
     fn waits(&mut self, before: ThreadFacts) -> u64 {
         if !matches!(before.end, SliceEnd::AwaitsChild | SliceEnd::Awaits(_)) {
             return before.woken;
@@ -347,8 +349,8 @@ impl<'r> Case<'r> {
         before.woken.saturating_sub(1)
     }
 
-    /// Replaces `from` by `to` in the list of threads whose wake was not reported. Returns whether `from` was in the
-    /// list.
+    /// Replaces `from` by `to` in the list of threads that continued before their wake was reported. Returns whether
+    /// `from` was in the list.
     fn replace_unwoken(&mut self, from: Option<ThreadId>, to: Option<ThreadId>) -> bool {
         for place in self.unwoken.iter_mut() {
             if *place == from {
@@ -359,10 +361,10 @@ impl<'r> Case<'r> {
         false
     }
 
-    /// Checks a thread's turn against the worker's scan: in one scan indexes rise, and no child may wait for a place
-    /// while one is free.
+    /// Checks the order in which the worker takes threads.
     ///
-    /// `is_first`: this is the thread's first turn.
+    /// The slots' indexes must rise in one scan (a pass over the core's slots), and no child may wait for a slot while
+    /// one is free. `is_first` is true if the worker takes thread `id` for the first time.
     fn scan(&mut self, id: ThreadId, is_first: bool) {
         let last = self.scans.last();
         let goes_on = match last.and_then(|last| *self.threads.get(last as usize)?) {
@@ -381,7 +383,7 @@ impl<'r> Case<'r> {
         }
     }
 
-    /// Checks a slice that ended after `steps` steps: they must not be more than the quantum.
+    /// Checks that a slice that has ended after `steps` steps was not longer than the quantum.
     fn sliced(&mut self, core: u8, steps: u32, end: SliceEnd)
         ensures { self.old.run.quantum < steps → IsSome self.new.broken }
     {
@@ -423,9 +425,9 @@ impl<'r> Case<'r> {
         }
     }
 
-    /// Checks a move of a thread from the core `from` to `core`, by the worker of `core`.
+    /// Checks the report that the worker of `core` has moved a thread from the core `from` to its own.
     ///
-    /// If `home` is given, the thread keeps its place on the core `home`, and the worker only runs the thread next.
+    /// If `home` is given, the thread stays in its slot on that core, and the worker only runs the thread next.
     fn pulled(&mut self, core: u8, id: ThreadId, from: u8, home: Option<u8>)
         ensures { self.new.broken ≡ broken_by_pull self.old.run.has_exclusive (from == core) self.old.broken self.old.at }
     {
@@ -440,9 +442,9 @@ impl<'r> Case<'r> {
         }
     }
 
-    /// Checks a park of `core`: the core must have found itself closed and empty at some time since its last entry.
+    /// Checks a park of `core`: the core must have been closed and empty at some time since its last entry.
     ///
-    /// After that time the core may have been granted, closed again and given threads.
+    /// After that time, orders may have opened and closed the core again, and threads may have been put there.
     fn parks(&mut self, core: u8) {
         self.counts(Rule::Parks);
         let mut known = self.core(core);
@@ -469,7 +471,8 @@ impl<'r> Case<'r> {
         self.set_core(core, known);
     }
 
-    /// Checks the report that `orders` orders in all are carried out. Only core 0 may report this.
+    /// Checks the report that `orders` orders to open or close cores have been carried out so far. Only core 0 may
+    /// report this.
     fn applied(&mut self, core: u8, orders: usize)
         ensures { core ≢ 0 → IsSome self.new.broken }
     {
@@ -496,7 +499,8 @@ impl<'r> Case<'r> {
         self.applied = orders;
     }
 
-    /// Checks the report that threads were moved away to the cores `receivers`. Only core 0 may report this.
+    /// Checks the report that threads were moved away from closed cores to the cores in `receivers`, which has a bit
+    /// for each. Only core 0 may report this.
     fn moved_away(&mut self, core: u8, receivers: u64)
         ensures { self.new.broken ≡ broken_if (not (core == 0)) self.old.broken (record { rule = CoreZero; at = self.old.at }) }
     {
@@ -513,7 +517,8 @@ impl<'r> Case<'r> {
     }
 }
 
-/// Returns whether a slice of this thread on this core breaks the rule `InHand`.
+/// Returns whether a slice of this thread on `core` breaks the rule `InHand`; see `is_not_in_hand`. `is_second` is true
+/// if the core is in a slice already.
 fn is_out_of_hand(thread: &ThreadFacts, core: u8, is_second: bool) -> bool {
     breaks::is_not_in_hand(
         core,

@@ -1,45 +1,44 @@
-//! The facts of a core that a log has shown so far.
+//! The facts about one core that the entries of a log read so far have shown.
 use arachne_core::ThreadId;
 
-/// The known facts of a core.
+/// The facts about one core that the log has shown, as of the core's last entry.
 #[derive(Clone, Copy)]
 pub(crate) struct Core {
-    /// The number of the core's next slice.
+    /// The number that the core's next slice must have; slices are numbered from 0.
     pub(crate) next: u64,
-    /// The number of the core's slices that were reported as ended.
+    /// The number of the core's slices that the core has reported as ended.
     pub(crate) ended: u64,
-    /// The number of the core's slices that the run must have counted, since the core has reported something after
-    /// these slices.
+    /// The number of the core's slices that must be counted as ended, since the core has reported something after them.
     pub(crate) counted: u64,
-    /// The thread whose turn it is on the core, or whose turn was the last.
+    /// The thread that the core's worker took last.
     pub(crate) turn: Option<ThreadId>,
     pub(crate) is_in_slice: bool,
-    /// The thread that has the core to itself.
+    /// The thread that has this core to itself, if there is one.
     pub(crate) alone: Option<ThreadId>,
-    /// True if the orders that core 0 has reported as carried out have closed the core.
+    /// True if the core is closed by the orders that core 0 has reported as carried out.
     pub(crate) is_closed: bool,
-    /// The number of the core's last entry.
+    /// The number of the core's last log entry.
     pub(crate) last: usize,
     /// True if the core was closed at some time since its last entry.
     pub(crate) was_closed: bool,
-    /// The number of times that orders have opened the core.
+    /// The number of times that orders have opened the core; each allows it to continue after a park.
     pub(crate) grants: u64,
-    /// The number of times that the core continued after a park.
+    /// The number of times that the core has continued after a park.
     pub(crate) unparks: u64,
-    /// One more than the number of the entry that last reported threads moved to the core; 0 if there is none.
+    /// One more than the number of the last entry that reported threads moved to this core; 0 if there is none.
     pub(crate) moved: usize,
-    /// True if a thread is on the core whose move to the core was not reported yet. Core 0 has to report the move
-    /// before its next slice.
+    /// True if a thread was moved to the core, and no report of that was read yet. Core 0 must report it before its
+    /// next slice.
     pub(crate) owes_move: bool,
-    /// True if a thread that was on the core when the core parked continues there, and its move back was not reported
-    /// yet.
+    /// True if a thread that was on the core when the core parked is there again, and no report of its move back was
+    /// read yet.
     pub(crate) owes_return: bool,
-    /// True if the core has parked, and its closing was not reported yet.
+    /// True if the core has parked, and no report that it was closed was read yet.
     pub(crate) owes_close: bool,
 }
 
 impl Core {
-    /// Returns a core about which nothing is known.
+    /// Returns the facts about a core that no entry has named yet.
     pub(crate) fn new() -> Core {
         Core {
             next: 0,

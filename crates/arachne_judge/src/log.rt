@@ -1,15 +1,17 @@
-//! The log of the events that were reported to the observer of a run (`Gate`), in one order for all cores.
+//! The log of a run: the events that its cores have reported to the run's observer (`Gate`), in one order for all
+//! cores.
 use arachne_core::ThreadId;
 use arachne_workers::{Cause, SliceEnd, WorkerEvent};
 use std::alloc::{AllocError, Global};
 use std::sync::atomic::{AtomicU64, Ordering};
 
-/// An event of a core that is reported to the observer of a run (`Gate`).
+/// An event of a core that is reported to the observer of a run (`Gate`), as an entry of a log has it.
 #[derive(Clone, Copy, Debug, PartialEq, Eq)]
 pub enum What {
-    /// The core's slice of this number is about to begin.
+    /// The core is about to begin its slice of this number, counted from 0.
     Slice(u64),
-    /// The core took this thread in hand. The second field is true if the thread has the core to itself.
+    /// The core's worker has taken this thread to run it. The second field is true if the thread has the core to
+    /// itself.
     Turn(ThreadId, bool),
     Told(WorkerEvent),
 }
@@ -46,7 +48,9 @@ const MOVED_AWAY: u64 = 12;
 
 const HELPS: u64 = 13;
 
-/// An entry in three words. The first word, the head, has the core, the kind of event and a small number.
+/// A log entry, encoded in three atomic words.
+///
+/// The first word has the core in its low 8 bits, the kind of event in the next 8, and a small number above them.
 #[derive(Drop)]
 struct EntryWords {
     head: AtomicU64,
@@ -54,10 +58,10 @@ struct EntryWords {
     second: AtomicU64,
 }
 
-/// A log of the events reported to the observer of a run (`Gate`).
+/// A log of the events that the cores of a run report to the run's observer (`Gate`).
 ///
-/// The kernel threads of all cores write to the log, each event immediately. Events for which there is no room are only
-/// counted.
+/// The kernel threads of all cores write to the log at the same time. Events for which there is no room are counted but
+/// not stored.
 #[derive(Drop)]
 pub struct Log {
     lines: Vec<EntryWords>,
@@ -65,7 +69,7 @@ pub struct Log {
 }
 
 impl Log {
-    /// Returns a log with room for `room` entries.
+    /// Returns an empty log with room for `room` entries.
     pub fn new(alloc: Global, room: usize) -> Result<Log, AllocError> {
         let mut lines = Vec::with_capacity(alloc, room)?;
         for _ in 0..room {
@@ -81,12 +85,12 @@ impl Log {
         })
     }
 
-    /// Returns the number of entries, including those for which there was no room.
+    /// Returns the number of entries, including those that were not stored for want of room.
     pub fn count(&self) -> u64 {
         self.count.load(Ordering::SeqCst)
     }
 
-    /// Returns whether there was room for all entries.
+    /// Returns whether all entries were stored.
     pub fn is_whole(&self) -> bool {
         self.count() <= self.lines.len() as u64
     }
@@ -139,7 +143,7 @@ impl Log {
         }
     }
 
-    /// Returns the entry of this number, from 0, if there is one.
+    /// Returns the entry of number `at`, counted from 0, if it is stored.
     pub fn entry(&self, at: usize) -> Option<Entry> {
         let line = self.lines.get(at)?;
         let head = line.head.load(Ordering::SeqCst);
@@ -153,7 +157,7 @@ impl Log {
     }
 }
 
-/// Returns the event that the words of an entry encode, if one was written.
+/// Returns the event that the parts of an entry encode, or `None` if no event was written.
 fn what_of(kind: u64, small: u64, first: u64, second: u64) -> Option<What> {
     let id = ThreadId {
         context: (first & 0xFFFF_FFFF) as u32,

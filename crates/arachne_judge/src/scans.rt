@@ -1,39 +1,41 @@
-//! The scans and places that a log shows in runs on one core without locks.
+//! Checks the order in which a worker takes threads, and the use of slots, in runs on one core without locks.
 //!
-//! In such a run a context stays at one index of the core, and the index is also the context's number.
+//! In such a run a context is always in the same slot, and its number is the slot's index.
 ghost use Rattle.std.specs.Prelude.{◌≡◌, ◌≤◌, ◌<◌, ◌+◌, ◌↔◌, true, min, IfSome, IsSome, IsTrue};
 
 use crate::rules::Run;
 
-/// The facts that are known of the scans (a worker's passes over its core's indexes), and of the places that are taken.
+/// The facts that the log has shown so far about the core's scans (the worker's passes over the core's slots) and about
+/// its slots.
 #[derive(Drop)]
 pub(crate) struct Scans {
-    /// True if scans are checked: there is one core, and no lock whose next holder would run before others.
+    /// True if the order of threads in a scan can be checked: there is one core, and no lock whose next holder would
+    /// run before others.
     is_judged: bool,
-    /// True if the use of places is checked: scans are checked, and no worker keeps places for later children.
+    /// True if the use of slots can be checked too: the worker keeps no slots for later children.
     are_places: bool,
     slots: u64,
-    /// The index of the last turn.
+    /// The slot of the thread that the worker took last.
     last: Option<u32>,
-    /// An index at which a thread is ready, higher than the index at which the current scan began.
+    /// The index of a slot that has a ready thread and that the current scan must still reach, if one is known.
     due: Option<u32>,
-    /// The number of threads known to be on the core.
+    /// The number of threads that are known to be on the core.
     threads: u64,
-    /// The number of further threads that must be on the core, because a child waits for a place. Each such thread has
-    /// its first turn before the next scan ends.
+    /// The number of threads that no entry has named, but that must be on the core, because a child waits for a slot.
+    /// The worker takes each of them before the next scan ends.
     unseen: u64,
-    /// The number of scans that began since a child began to wait for a place.
+    /// The number of scans that have begun since a child began to wait for a slot.
     scans: u32,
 }
 
-/// What the judge concludes from one turn of a thread: whether a new scan begins, and what the previous one left out.
+/// The result of `turn`: whether a new scan has begun, and the mistakes in the scan before it.
 #[derive(Clone, Copy)]
 pub(crate) struct TurnFindings {
-    /// True if a scan has begun.
+    /// True if a new scan has begun.
     pub(crate) is_judged: bool,
-    /// True if the previous scan has left out a thread that was ready.
+    /// True if the previous scan has not taken a thread that was ready.
     pub(crate) is_downward: bool,
-    /// True if a child has waited although a place was free.
+    /// True if a child has waited for a slot although one was free.
     pub(crate) was_free: bool,
 }
 
@@ -52,17 +54,17 @@ impl Scans {
         }
     }
 
-    /// Returns the index of the last turn.
+    /// Returns the slot of the thread that the worker took last.
     pub(crate) fn last(&self) -> Option<u32> {
         self.last
     }
 
-    /// Records that a thread has ended.
+    /// Records that a thread of the core has ended.
     pub(crate) fn ended(&mut self) {
         self.threads = self.threads.saturating_sub(1);
     }
 
-    /// Records that a child waits for a place. Returns whether the use of places is checked.
+    /// Records that a child waits for a slot. Returns whether this run's use of slots is checked.
     pub(crate) fn spilled(&mut self) -> bool
         ensures { result ≡ self.old.are_places }
     {
@@ -76,10 +78,10 @@ impl Scans {
         true
     }
 
-    /// Records a turn of the thread at an index. Returns the findings.
+    /// Records that the worker has taken the thread in slot `index`.
     ///
-    /// `goes_on` is true if the thread that had the previous turn is ready. `is_first` is true if this is the thread's
-    /// first turn.
+    /// `goes_on` is true if the thread that the worker took before this one is still ready. `is_first` is true if the
+    /// worker takes this thread for the first time.
     pub(crate) fn turn(&mut self, index: u32, goes_on: bool, is_first: bool) -> TurnFindings
         ensures downward { IsTrue result.is_downward ↔ (result.is_judged ≡ true) × IsSome self.old.due }
         ensures free { IsTrue result.was_free ↔ (result.is_judged ≡ true) × (0 < self.old.unseen) × (1 < min (self.old.scans + 1) u32.MAX) }

@@ -23,8 +23,8 @@ const MOST_LOCKS: u8 = 16;
 
 /// Checks if a program may run. Returns the first fault.
 ///
-/// Checks the nesting depth first, then the size, then the nodes in the order of the program's text. Takes no memory.
-/// The recursion goes at most 64 levels deep, however deep the program is nested.
+/// Checks the nesting depth first, then the size, then the nodes in the order of the program's text. Allocates no
+/// memory. The recursion goes at most 64 levels deep, however deep the program is nested.
 pub fn check(program: &Program) -> Result<(), CheckFault>
     ensures { result ≡ verdict_of (source_of program.now) }
 {
@@ -119,7 +119,8 @@ fn nodes_left(expr: &Expr, nodes: u64) -> Option<u64>
     }
 }
 
-/// The context by which the checker judges an expression: the program, if a lock is held, and the bound variables.
+/// The surroundings of an expression that the checker must know: the program, if a lock is held, and how many variables
+/// are bound.
 #[derive(Clone, Copy)]
 struct Scope<'p> {
     program: &'p Program,
@@ -147,7 +148,7 @@ impl<'p> Scope<'p> {
         array < self.program.arrays.len() as u64
     }
 
-    /// Checks the node `expr`, which has the number `node`, without its parts.
+    /// Checks `expr`, the node of number `node`, without its subexpressions.
     fn judge(self, expr: &Expr, node: u64) -> Result<(), CheckFault>
         ensures { result ≡ first_fault node (take 1
             (node_faults (source_of self.entry.program.now) self.entry.within self.entry.bound (tree_of expr.now))) }
@@ -170,8 +171,8 @@ impl<'p> Scope<'p> {
         }
     }
 
-    /// Checks the node `expr`, which has the number `node`, and all nodes below it. Returns the number of the next node
-    /// after them.
+    /// Checks `expr`, the node of number `node`, and all its subexpressions. Returns the number of the node that
+    /// follows these in the program's text.
     #[cycle(judging)]
     #[tactic(auto, using(crate::proofs::NodesJudged::judged_parts, crate::proofs::NodesJudged::some_faults))]
     fn check(self, expr: &Expr, node: u64) -> Result<u64, CheckFault>
@@ -202,7 +203,7 @@ impl<'p> Scope<'p> {
         }
     }
 
-    /// Checks two parts like `check`: first `a`, in this scope, then `b`, in the scope `last`.
+    /// Checks `a` in this scope, and then `b` in the scope `last`, as `check` does. `node` is the number of `a`.
     #[cycle(judging)]
     fn two(self, a: &Expr, last: Scope, b: &Expr, node: u64) -> Result<u64, CheckFault>
         requires nodes { node + node_count (tree_of a.now) + node_count (tree_of b.now) ≤ MOST_NODES }
@@ -217,7 +218,8 @@ impl<'p> Scope<'p> {
         last.check(b, second)
     }
 
-    /// Checks three parts like `check`: first `a` and `b`, in this scope, then `c`, in the scope `last`.
+    /// Checks `a` and `b` in this scope, and then `c` in the scope `last`, as `check` does. `node` is the number of
+    /// `a`.
     #[cycle(judging)]
     fn three(self, a: &Expr, b: &Expr, last: Scope, c: &Expr, node: u64) -> Result<u64, CheckFault>
         requires nodes { node + node_count (tree_of a.now) + node_count (tree_of b.now) + node_count (tree_of c.now) ≤ MOST_NODES }
@@ -235,7 +237,8 @@ impl<'p> Scope<'p> {
         last.check(c, second)
     }
 
-    /// Checks four parts like `check`: first `a`, `b` and `c`, in this scope, then `d`, in the scope `last`.
+    /// Checks `a`, `b` and `c` in this scope, and then `d` in the scope `last`, as `check` does. `node` is the number
+    /// of `a`.
     #[cycle(judging)]
     fn four(
         self,

@@ -1,5 +1,5 @@
-//! Evaluates a program on one kernel thread: its value, the sums of its ledgers, and how often each of its task threads
-//! held each lock.
+//! Evaluates a program on one kernel thread: its value, the sums of its ledgers, and how often each of its threads held
+//! each lock.
 ghost use Rattle.std.specs.Prelude.{◌≡◌, ◌+◌, ◌^◌, ◌<◌, [], ◌∷◌, ◌++◌, IfOk, length, slice_index};
 ghost use Rattle.arachne_program.specs.declared.program.Class.{Class};
 ghost use Rattle.arachne_program.specs.declared.program.Class.TheVariants.{Normal};
@@ -14,7 +14,7 @@ ghost use Rattle.arachne_lang.specs.Evaluation.{Gains, IsFresh, MayFork, MaySpli
 use arachne_program::{Expr, Line, Meaning, Name, Operation, Program, Reduction, Sequence};
 use std::alloc::{AllocError, Global};
 
-/// The counts of the task thread that is being evaluated, without those of its children.
+/// The name and the counts of the program's thread that is being evaluated, without the counts of its children.
 #[derive(Drop)]
 struct Own {
     name: Name,
@@ -25,7 +25,7 @@ struct Own {
 }
 
 impl Own {
-    /// Returns the counts of a thread that has not begun, all 0.
+    /// Returns the name `name` with counts that are all 0, for a thread that has not begun.
     fn new(alloc: Global, name: Name, locks: u8) -> Result<Own, AllocError>
         ensures { IfOk result (IsFresh locks name) }
     {
@@ -57,7 +57,7 @@ impl Own {
     }
 }
 
-/// Returns a placeholder, which is replaced by a thread's report line when the thread has ended.
+/// Returns a placeholder for a thread's report line, which replaces it when the thread has ended.
 fn unwritten_line(alloc: Global) -> Line {
     Line {
         name: Name::root(alloc),
@@ -65,10 +65,11 @@ fn unwritten_line(alloc: Global) -> Line {
     }
 }
 
-/// The data that all task threads share: the running thread's variables, the ledgers' sums, and the report lines.
+/// The data that all threads of the program share: the variables of the thread that is being evaluated, the ledgers'
+/// sums, and the report lines.
 #[derive(Drop)]
 struct Shared {
-    /// The variables of the task thread that is being evaluated, the oldest first.
+    /// The variables of the program's thread that is being evaluated, the oldest first.
     environment: Vec<u64>,
     /// For each ledger, the sum of the amounts that were added to it so far, modulo 2^64.
     sums: Vec<u64>,
@@ -76,7 +77,7 @@ struct Shared {
     lines: Vec<Line>,
 }
 
-/// The parameters of a sweep (a parallel reduction) that are the same for all its parts.
+/// The parameters of a sweep (a parallel reduction) that are the same for all parts of its range.
 #[derive(Clone, Copy)]
 struct Reducer<'p> {
     reduction: Reduction,
@@ -97,7 +98,8 @@ fn add_at(numbers: &mut [u64], place: u64, amount: u64)
 
 /// An evaluator of a program's expressions, by plain recursion on one kernel thread.
 ///
-/// Its functions return `Err` only if memory was refused. The sums and the lines are then useless.
+/// Its functions return `Err` only if memory was refused. The sums and the lines in `Shared` are then incomplete and
+/// must not be used.
 #[derive(Clone, Copy)]
 struct Evaluator<'p> {
     alloc: Global,
@@ -125,8 +127,8 @@ impl Evaluator<'_> {
         }
     }
 
-    /// Evaluates `expr` as a new task thread of the name `name`. Appends the thread's report line, and then those of
-    /// its descendants.
+    /// Evaluates `expr` as a new thread of the program, with the name `name`. Appends the thread's report line, and
+    /// then those of its descendants.
     #[cycle(evaluation)]
     fn run(&self, shared: &mut Shared, name: Name, expr: &Expr) -> Result<u64, AllocError>
         requires { MayFork (tree_of expr.now) 0 shared.old.lines.items }
@@ -142,8 +144,8 @@ impl Evaluator<'_> {
         Ok(value)
     }
 
-    /// Reduces the `n` numbers from `first` on as a new task thread. Appends the thread's report line, and then those
-    /// of its descendants.
+    /// Reduces the numbers from `first` to `first + n - 1` as a new thread of the program. Appends the thread's report
+    /// line, and then those of its descendants.
     #[cycle(evaluation)]
     fn run_half(
         &self,
@@ -168,7 +170,7 @@ impl Evaluator<'_> {
         Ok(value)
     }
 
-    /// Evaluates `expr` in the current task thread. Leaves the thread's variables unchanged.
+    /// Evaluates `expr` in the program's thread whose counts are `own`. Leaves the thread's variables unchanged.
     #[cycle(evaluation)]
     fn value(&self, shared: &mut Shared, own: &mut Own, expr: &Expr) -> Result<u64, AllocError>
         requires { MayFork (tree_of expr.now) own.old.forks shared.old.lines.items }
@@ -332,8 +334,8 @@ impl Evaluator<'_> {
         Ok(value)
     }
 
-    /// Evaluates a fork. Evaluates `during` before the child, so that the report lines are appended in their final
-    /// order.
+    /// Evaluates a fork: first `during`, then the child, so that the report lines are appended in their final order,
+    /// and then `after`.
     #[cycle(evaluation)]
     fn fork(
         &self,
@@ -408,11 +410,11 @@ impl Evaluator<'_> {
         Ok(value)
     }
 
-    /// Evaluates `n` iterations of a fold (a sequential loop), over the numbers from `from` on. The initial value is
-    /// `first`.
+    /// Evaluates the iterations of a fold (a sequential loop) for the numbers from `from` to `from + n - 1`. The
+    /// initial value is `first`.
     ///
-    /// In each iteration the two newest variables are the current number and the value so far. They are overwritten in
-    /// place.
+    /// In each iteration the two newest variables are the current number and the value so far. Each iteration
+    /// overwrites these two variables.
     #[cycle(evaluation)]
     fn turns(
         &self,
@@ -467,10 +469,10 @@ impl Evaluator<'_> {
         Ok(value)
     }
 
-    /// Reduces the `n` numbers from `first` on, for a sweep (a parallel reduction).
+    /// Reduces the numbers from `first` to `first + n - 1`, for a sweep (a parallel reduction).
     ///
-    /// If `n` is greater than the grain, a child task thread reduces the left half. The child is evaluated after the
-    /// right half, so that the report lines are appended in their final order.
+    /// If `n` is greater than the grain (the greatest length that is not halved), a child thread reduces the left half.
+    /// The child is evaluated after the right half, so that the report lines are appended in their final order.
     #[cycle(evaluation)]
     fn halves(
         &self,
@@ -498,7 +500,8 @@ impl Evaluator<'_> {
         Ok(reducer.reduction.operation().apply(left_value, right_value))
     }
 
-    /// Reduces the `n` numbers from `first` on in the current task thread. The current number is the newest variable.
+    /// Evaluates the sweep's body for each number from `first` to `first + n - 1`, without a fork, and combines the
+    /// values. In the body, that number is the newest variable.
     #[cycle(evaluation)]
     fn reduce(
         &self,
@@ -531,7 +534,8 @@ impl Evaluator<'_> {
 
 /// Evaluates a checked program on the calling kernel thread. Returns `Err` only if memory is refused.
 ///
-/// Evaluates by plain recursion. The depth is bounded by the program's 64 levels and, in each sweep, by 64 halvings.
+/// Evaluates by plain recursion, whose depth is bounded: a program has at most 64 levels, and each sweep (a parallel
+/// reduction) at most 64 halvings.
 pub fn eval(alloc: Global, program: &Program) -> Result<Meaning, AllocError>
     requires { IsChecked (source_of program.now) }
     ensures { IfOk result (λ meaning. meaning ≡ meaning_of (source_of program.now)) }

@@ -1,7 +1,8 @@
 //! The error of parsing a text that is not the text of a program.
 use thiserror::Error;
 
-/// The reason why a text was not accepted as a program. Each error in the text carries the index, from 0, of its byte.
+/// The reason why a text was not accepted as a program. Each error in the text has the index of its byte, counted from
+/// 0.
 #[derive(Clone, Copy, Debug, PartialEq, Eq, Error)]
 pub enum TextFault {
     /// Memory was refused. This says nothing about the text.

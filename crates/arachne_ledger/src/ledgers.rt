@@ -15,7 +15,7 @@ use std::marker::Model;
 // The number of words in two cache lines, which processors fetch together.
 const SPACING: usize = 16;
 
-/// Several ledgers, which begin at 0: counters to which many threads add, each through a share of its own.
+/// Several ledgers: counters from 0 to which many threads add, each through a share (a right to add) of its own.
 #[derive(Drop)]
 pub struct Ledgers {
     table: Table<(), View, usize, Balanced, Global>,
@@ -55,7 +55,8 @@ fn zeros(alloc: Global, count: usize) -> Result<Vec<u64>, AllocError>
 }
 
 impl Ledgers {
-    /// Creates `count` ledgers (`count` may be 0), and their first share, which has the whole weight.
+    /// Creates `count` ledgers (0 is allowed). Returns them with their first share (a right to add), which has the
+    /// whole weight.
     ///
     /// A split halves a share's weight and a join adds two, so a share with the whole weight is the only one.
     pub fn new(alloc: Global, count: usize) -> Result<(Ledgers, Share), AllocError>
@@ -78,8 +79,8 @@ impl Ledgers {
         self.count
     }
 
-    /// Adds `amount` to a ledger's word by one atomic operation, modulo 2^64. For contracts, adds it to the share's sum
-    /// for that ledger too.
+    /// Adds `amount` to the word of ledger `ledger` by one atomic operation, modulo 2^64. In contracts, the share's sum
+    /// for that ledger grows by `amount` too.
     pub fn add(&self, share: &mut Share, ledger: usize, amount: u64)
         requires own { IsShareOf self.now share.old }
         requires ledger { ledger < self.now.count }
@@ -90,9 +91,10 @@ impl Ledgers {
         shared.fetch_add::<Add>(&mut share.seat, ledger_word(ledger), amount);
     }
 
-    /// Reads a ledger's word: the sum of all that was added up to the moment of the load, modulo 2^64.
+    /// Returns the sum of all amounts that were added to the ledger up to the moment of the load, modulo 2^64.
     ///
-    /// If the share has the whole weight (no other share is in use), the result is this share's own sum, modulo 2^64.
+    /// If the share has the whole weight (no other share is in use), the result is the sum that contracts keep for this
+    /// share, modulo 2^64.
     pub fn read(&self, share: &mut Share, ledger: usize) -> u64
         requires own { IsShareOf self.now share.old }
         requires ledger { ledger < self.now.count }
@@ -131,7 +133,7 @@ impl Ledgers {
         )
     }
 
-    /// Joins two shares into one: adds their weights, up to the whole, and their sums for each ledger.
+    /// Joins two shares (rights to add) into one: adds their weights, up to the whole, and their sums for each ledger.
     pub fn join_shares(&self, share: Share, other: Share) -> Share
         requires share { IsShareOf self.now share }
         requires other { IsShareOf self.now other }
@@ -152,8 +154,8 @@ impl Ledgers {
         }
     }
 
-    /// Closes the ledgers, and returns the sum of each, modulo 2^64. The share must have the whole weight: no other
-    /// share is in use.
+    /// Closes the ledgers, and returns the sum of each, modulo 2^64. The caller must pass the share with the whole
+    /// weight, so that no other share is in use.
     ///
     /// If memory is refused, returns the ledgers and the share as an error.
     pub fn close(self, alloc: Global, share: Share) -> Result<Vec<u64>, (Ledgers, Share)>

@@ -13,19 +13,21 @@ pub struct Reading {
     pub number: u64,
 }
 
-/// The record of a share: the sum of what it has added to each ledger, not reduced modulo 2^64, and its last reading.
+/// The record of a share (a thread's right to add): the sum of what was added through it to each ledger, not reduced
+/// modulo 2^64, and the value of its last read.
 pub struct Known {
     pub sums: LinkedList<u64>,
     pub last_read: Option<Reading>,
 }
 
-/// A share as the invariant of the ledgers' table knows it. The type exists only for contracts.
+/// A share (a thread's right to add) as the invariant of the ledgers' table describes it. The type exists only for
+/// contracts.
 pub type View = Token<Known>;
 
 /// One thread's right to add to all ledgers of one table. Contracts keep with it the sums of what was added through it.
 ///
-/// A share must be used and joined with the ledgers that it came from. If a share is dropped, its weight is lost: then
-/// no share can have the whole weight any more.
+/// The caller must use and join a share only with the ledgers that created it. If a share is dropped, its weight is
+/// lost: then no share can have the whole weight any more.
 #[derive(Drop)]
 pub struct Share {
     pub(crate) seat: Seat<(), View>,
@@ -44,7 +46,7 @@ impl Model for Share {
 }
 
 impl Share {
-    /// Returns whether this share has the whole weight: all other shares were joined into it.
+    /// Returns whether this share has the whole weight, which means that all other shares were joined into it.
     pub fn is_whole(&self) -> bool
         ensures { IsTrue result ↔ IsWhole self.now }
     {

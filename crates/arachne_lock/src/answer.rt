@@ -19,12 +19,13 @@ pub enum Admitted {
     },
 }
 
-/// The result of a call that tries once: the call was made, or another kernel thread was in a call on the same lock.
+/// The result of a call that tries once: the call did its work, or another kernel thread was in a call on the same
+/// lock.
 #[derive(Clone, Copy, Debug, PartialEq, Eq)]
 pub enum Attempt<A> {
-    /// The call was made on the lock's state, with this result.
+    /// The call did its work on the lock's state, with this result.
     Answered(A),
-    /// Another kernel thread was in a call on the lock. Nothing has changed, and the call may be repeated.
+    /// Another kernel thread was in a call on the lock. Nothing has changed, and the caller may try again.
     Contended,
 }
 
@@ -48,7 +49,7 @@ impl From<AllocError> for AskRefusal {
     }
 }
 
-/// The result of freeing a lock: the task that holds the lock now, if one waited.
+/// The result of freeing a lock: the task that holds the lock now, if a task waited for it.
 #[derive(Clone, Copy, Debug, PartialEq, Eq)]
 pub struct Released {
     /// The number of the task that holds the lock now and must be woken: of the waiting tasks, the one that had waited
@@ -66,12 +67,12 @@ pub struct NotOwner;
 /// The result of `withdraw`, by which a task leaves the queue of a lock.
 #[derive(Clone, Copy, Debug, PartialEq, Eq)]
 pub enum Withdrawn {
-    /// The task waited, and waits no longer. The lock will not be granted to the task unless it asks again.
+    /// The task waited, and has now left the queue. The lock will not be granted to the task unless it asks again.
     Left {
         /// The event number of the task's leave.
         at: u64,
     },
-    /// The task was granted the lock, and must still free it.
+    /// The task was granted the lock before it could leave the queue, and must still free the lock.
     Holds {
         /// The event number of the grant.
         at: u64,

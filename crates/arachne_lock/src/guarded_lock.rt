@@ -1,4 +1,4 @@
-//! The state of a lock for hosts, as the locks' table stores it while no seat has it.
+//! The state of a lock, as the locks' table stores it while no seat has it.
 ghost use Rattle.std.specs.Prelude.{◌≡◌, [], Option};
 ghost use Rattle.arachne_lock.specs.State.{unused, IsAsked, IsFreed, IsWithdrawn, IsChecked};
 ghost use Rattle.arachne_lock.specs.Deeds.{events_of, asked_events, freed_events, withdrawn_events};
@@ -12,7 +12,8 @@ use std::marker::Model;
 
 /// A lock's state, on cache lines of its own, and the effect of the last call on the lock.
 ///
-/// The effect, 24 bytes, exists only for proofs: it is logged for the seat that puts the state back.
+/// The effect, which takes 24 bytes, exists only for proofs: it is logged for the seat (a kernel thread's right to call
+/// the locks) that puts the state back.
 #[derive(Drop)]
 pub struct GuardedLock {
     state: CachePadded<LockEntry>,

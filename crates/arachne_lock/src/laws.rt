@@ -20,17 +20,17 @@ pub fn one_that_left_is_not_granted()
     ensures { (events : List QueueEvent) → IsLawful events → GrantsNoneThatLeft events }
 {}
 
-/// Between any two atomic operations, each lock has had one holder at a time so far.
+/// Between any two atomic operations, it holds for each lock that no two tasks have held it at the same time so far.
 ///
-/// Nor was the lock granted to a task that had left the queue. Both statements are about the lock's one history, to
-/// which the calls of all seats add.
+/// Nor was the lock granted to a task that had left the queue. Both statements are about the one history of the lock,
+/// to which the calls of all seats (rights to call) add.
 pub fn locks_have_one_holder()
     ensures { (locks : ℕ) (board : Board) → (rule : IsKept locks board) → (lock : ℕ) → IsHeldWell (rule.histories lock) }
 {}
 
-/// No atomic operation on a lock's words creates a seat.
+/// No atomic operation on a lock's words creates a seat (a right to call).
 ///
-/// Each seat except the first was split off another, whose log counts its splits.
+/// Each seat except the first was split off another seat, and the other seat's log counts that split.
 pub fn seats_are_split_off()
     ensures enters { (locks word : ℕ) → ¬ Enters (IsKept locks) locks word (λ n view. Unit {0}) }
     ensures arrives { (locks word : ℕ) (f : ℕ → ℕ) → ¬ Arrives (IsKept locks) locks word f (λ n seat. Unit {0}) }

@@ -89,7 +89,7 @@ impl LockEntry {
         Ok(Released { next, at })
     }
 
-    /// Removes `who` from the queue, if it waits.
+    /// Removes `who` from the queue, if `who` waits there.
     pub(crate) fn withdraw(&mut self, who: u64) -> Withdrawn
         ensures { IsWithdrawn self.old self.new who result }
     {

@@ -7,7 +7,7 @@ use std::marker::Model;
 /// One kernel thread's right to call a set of locks. Contracts keep with it a log of the calls that were made through
 /// it. A seat has no bytes.
 ///
-/// A seat must be used, split and joined with the locks that it came from.
+/// The caller must use, split and join a seat only with the locks that created it.
 #[derive(Drop)]
 pub struct LockSetSeat {
     pub(crate) seat: Seat<GuardedLock, KnownLocks>,

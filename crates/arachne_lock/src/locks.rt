@@ -1,5 +1,5 @@
-//! A set of locks that kernel threads share. If another kernel thread is in a call on the same lock, a call returns at
-//! once.
+//! A set of locks that kernel threads share. If a call finds another kernel thread in a call on the same lock, it
+//! returns at once.
 ghost use Rattle.std.specs.Prelude.{◌≡◌, ◌<◌, ℕ, List, MatchBool, IsFalse, IfOk, Option, [], ◌∷◌, ◌^◌, vec_len, slice_index};
 ghost use Rattle.arachne_lock.specs.declared.event.QueueEvent.{QueueEvent};
 ghost use Rattle.arachne_lock.specs.State.{IsAsked, IsFreed, IsWithdrawn, IsChecked};
@@ -22,19 +22,20 @@ use std::marker::Model;
 /// The number of words in two cache lines, which processors fetch together.
 const SPACING: usize = 16;
 
-/// The value of a lock's guard word (its atomic word) while no seat has the lock's state.
+/// The value of a lock's guard word (its atomic word) while no call has the lock's state.
 const HOME: u64 = 0;
 
-/// The value of a lock's guard word while a seat has the lock's state.
+/// The value of a lock's guard word (its atomic word) while a call has the lock's state.
 const TAKEN: u64 = 1;
 
 /// A set of locks. Each lock has a guard word: an atomic word that is 1 while a seat has the lock's state, and
 /// otherwise 0.
 ///
-/// Each kernel thread calls all of the locks through one seat of its own. A task is identified by a number that the
-/// host chooses, such as its name or a number for each future. `ask`, `free`, `withdraw` and `check` try once to set
-/// the lock's guard word. If it is already set, a call returns `Contended`, and changes nothing. If not, the call does
-/// its work on the lock's state, clears the guard word, and returns the result.
+/// Each kernel thread calls all of the locks through one seat (a right to call) of its own. A task is identified by a
+/// number that the host (the program that uses the locks) chooses, such as a number for each future. `ask`, `free`,
+/// `withdraw` and `check` try once to set the lock's guard word. If the word is already set, the call returns
+/// `Contended`, and changes nothing. If not, the call does its work on the lock's state, clears the guard word, and
+/// returns the result.
 #[derive(Drop)]
 pub struct Locks {
     table: Table<GuardedLock, KnownLocks, usize, LockRule, Global>,
@@ -85,7 +86,8 @@ fn first_slots(alloc: Global, count: usize) -> Result<Vec<GuardedLock>, AllocErr
 }
 
 impl Locks {
-    /// Creates `count` locks (`count` may be 0), for which nobody has asked yet, and their first seat.
+    /// Creates `count` locks (0 is allowed), for which nobody has asked yet. Returns them with their first seat (a
+    /// right to call).
     pub fn new(alloc: Global, count: usize) -> Result<(Locks, LockSetSeat), AllocError>
         ensures count { IfOk result (λ made. made.0.count ≡ count) }
         ensures seat { IfOk result (λ made. made.1 ≡ first_seat made.0) }
@@ -150,9 +152,9 @@ impl Locks {
         Attempt::Answered(answer)
     }
 
-    /// Removes the task `who` from the queue of a lock, for example because its future is dropped.
+    /// Removes the task `who` from the queue of a lock, for example because the task's future is dropped.
     ///
-    /// Returns `Holds` if the task was granted the lock meanwhile. Then the caller must free the lock.
+    /// Returns `Holds` if the task was granted the lock meanwhile. The caller must then free the lock.
     pub fn withdraw(&self, seat: &mut LockSetSeat, lock: usize, who: u64) -> Attempt<Withdrawn>
         requires { IsLockAt self.now seat.old.table lock }
         ensures own { IsSeatOf self.now seat.new }
@@ -183,9 +185,9 @@ impl Locks {
         Attempt::Answered(answer)
     }
 
-    /// Splits off a seat for another kernel thread.
+    /// Splits off a seat (a right to call) for another kernel thread.
     ///
-    /// The new seat's log begins with the histories that `seat` has read, and without tries or events.
+    /// The log of the new seat begins with the histories that `seat` has read, and has no tries or events yet.
     pub fn split(&self, seat: &mut LockSetSeat) -> LockSetSeat
         requires { IsSeatOf self.now seat.old }
         ensures first { seat.new ≡ first_half seat.old }
@@ -205,8 +207,8 @@ impl Locks {
         self.table.shared.join_seat::<Divide>(&mut seat.seat, spent);
     }
 
-    /// Tries once to set a lock's guard word, and with it to take the lock's state out of the table. Returns whether it
-    /// did.
+    /// Tries once to set a lock's guard word and so to take the lock's state out of the table. Returns whether it
+    /// succeeded.
     fn take(&self, seat: &mut Seat<GuardedLock, KnownLocks>, lock: usize) -> bool
         requires at { IsLockAt self.now seat.old.table_id lock }
         requires idle { seat.old.me ≡ idle seat.old.me.0.log }

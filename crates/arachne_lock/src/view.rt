@@ -2,14 +2,15 @@
 use crate::QueueEvent;
 use std::collections::LinkedList;
 
-/// An event that a call through a seat caused, with its lock and its index in that lock's history.
+/// An event that a call through a seat (a kernel thread's right to call the locks) caused, with its lock and its index
+/// in that lock's history.
 pub struct LoggedEvent {
     pub lock: usize,
     pub at: usize,
     pub event: QueueEvent,
 }
 
-/// A lock's history as a call through the seat read it.
+/// The history of a lock at the time when a call through the seat (a kernel thread's right to call the locks) read it.
 pub struct Sight {
     pub lock: usize,
     pub history: LinkedList<QueueEvent>,
@@ -21,7 +22,8 @@ pub struct Try {
     pub found: u64,
 }
 
-/// The log of a seat: the events that its calls caused, the histories that they read, and their tries.
+/// The log of a seat (a right to call): the events that its calls caused, the histories that they read, and their tries
+/// to set a guard word.
 pub struct EventLog {
     /// The events that calls through the seat caused, oldest first.
     pub made: LinkedList<LoggedEvent>,
@@ -33,9 +35,9 @@ pub struct EventLog {
     pub splits: u64,
 }
 
-/// A seat's log, and the lock whose state the seat has at present, if any.
+/// A seat's log, and the lock whose state the seat (a kernel thread's right to call the locks) has at present, if any.
 pub struct KnownLocks {
-    /// False if the seat was joined into another.
+    /// True unless the seat was joined into another.
     pub live: bool,
     pub out: Option<Sight>,
     pub log: EventLog,

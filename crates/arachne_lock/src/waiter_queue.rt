@@ -8,7 +8,8 @@ use std::marker::Model;
 
 /// A queue of tasks in which no task is twice.
 ///
-/// A set of the queue's tasks is kept beside the queue, so the cost of `contains` doesn't grow with the queue's length.
+/// It consists of the queue and a set of the same tasks, so the cost of `contains` doesn't grow with the queue's
+/// length.
 #[derive(Debug, Drop)]
 pub(crate) struct WaiterQueue {
     order: VecDeque<u64>,

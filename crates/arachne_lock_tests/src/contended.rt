@@ -1,4 +1,4 @@
-//! A test in which two kernel threads contend for two locks.
+//! A test in which two kernel threads contend for the same two locks.
 ghost use Rattle.std.specs.Prelude.{◌<◌};
 ghost use Rattle.arachne_lock.specs.Views.{IsSeatOf, IsLockAt};
 
@@ -7,20 +7,20 @@ use std::alloc::{AllocError, Global};
 use std::thread;
 use std::thread::Threads;
 
-/// The number of times that each thread holds a lock.
+/// The number of times that each kernel thread holds a lock.
 const ROUNDS: u64 = 10_000;
 
-/// The most calls of each thread that make no progress.
+/// The greatest number of polls of each thread, in which it makes no progress.
 const MOST_POLLS: u64 = 100_000_000;
 
-/// Lets other kernel threads run. Returns `None` after too many polls.
+/// Lets other kernel threads run, and subtracts 1 from `polls_left`. Returns `None` if no polls are left.
 fn poll(polls_left: &mut u64) -> Option<()> {
     *polls_left = polls_left.checked_sub(1)?;
     thread::yield_now();
     Some(())
 }
 
-/// Asks for a lock, and polls until the thread holds it. Returns the number of the grant.
+/// Asks for a lock, and polls until the calling thread holds it. Returns the number of the grant.
 fn enter(
     locks: &Locks,
     seat: &mut LockSetSeat,
@@ -47,7 +47,7 @@ fn enter(
     None
 }
 
-/// Frees a lock. Returns `None` if the thread didn't hold the lock.
+/// Frees a lock. Returns `None` if the calling thread didn't hold the lock.
 fn leave(
     locks: &Locks,
     seat: &mut LockSetSeat,
@@ -67,9 +67,9 @@ fn leave(
     None
 }
 
-/// Holds each of two locks in turn, `ROUNDS` times.
+/// Holds each of two locks `ROUNDS` times, alternately.
 ///
-/// Returns the number of holds, or `None` if a call fails or a grant's number doesn't rise.
+/// Returns the number of holds, or `None` if a call fails or the number of a grant isn't greater than the one before.
 fn hold_each(locks: &Locks, seat: &mut LockSetSeat, who: u64) -> Option<u64>
     requires own { IsSeatOf locks.now seat.old }
     ensures { IsSeatOf locks.now seat.new }
@@ -100,8 +100,8 @@ fn work(locks: &Locks, mut seat: LockSetSeat, who: u64) -> (LockSetSeat, Option<
     (seat, held)
 }
 
-/// Has two threads contend for two locks. Returns the number of holds of each thread, and then the number of events of
-/// the second lock.
+/// Runs two threads that contend for two locks. Returns the number of holds of each thread, and then the number of
+/// events of the second lock.
 fn contend<R: Threads + Sync>(
     rt: &R,
     alloc: Global,

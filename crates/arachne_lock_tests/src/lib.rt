@@ -1,4 +1,5 @@
-//! Tests of locks for hosts, only by public calls: behaviour that no contract states.
+//! Tests of locks for hosts (programs that have their own scheduler), only by public calls: behaviour that no contract
+//! states.
 //!
 //! The locks are proved without these tests.
 #![tactic(auto)]

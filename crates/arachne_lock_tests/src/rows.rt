@@ -1,4 +1,4 @@
-//! A sequence of calls on two locks, one row for each call with its result.
+//! A sequence of calls on two locks, each with its expected result.
 ghost use Rattle.std.specs.Prelude.{◌<◌};
 ghost use Rattle.arachne_lock.specs.Views.{IsSeatOf, IsLockAt};
 
@@ -7,7 +7,7 @@ use arachne_lock::{
 };
 use std::alloc::AllocError;
 
-/// The call on a lock that a test makes in this row.
+/// A call on a lock of the set.
 #[derive(Clone, Copy)]
 enum Call {
     Ask,
@@ -16,13 +16,15 @@ enum Call {
     Withdraw,
 }
 
-/// The result of a call: its name, the number of the event, and the next holder.
+/// The result of a call: its name, the number of the event in the lock's history, and the lock's next holder, if there
+/// is one.
 type Answer = (&'static str, u64, Option<u64>);
 
-/// A row: the call, the lock, the number of the task, and the expected result.
+/// A call, the number of its lock, the number of the task for which it is made, and the expected result.
 type Row = (Call, usize, u64, Answer);
 
-/// Task 7 holds lock 0, tasks 8 and 9 wait for it, and task 8 leaves, so task 9 is next. Lock 1 counts its own events.
+/// In this list of calls, task 7 holds lock 0, tasks 8 and 9 wait for it, and task 8 stops waiting, so task 9 is next.
+/// Lock 1 counts its own events.
 const ROWS: &[Row] = &[
     (Call::Ask, 0, 7, ("granted", 1, None)),
     (Call::Ask, 0, 8, ("queued", 2, None)),
@@ -81,7 +83,7 @@ fn answer_to(
     }
 }
 
-/// Returns the first row with another result, if there is one.
+/// Makes all calls in turn. Returns the index of the first call whose result isn't the expected one, if there is one.
 fn first_wrong(locks: &Locks, seat: &mut LockSetSeat) -> Option<usize>
     requires own { IsSeatOf locks.now seat.old }
     ensures { IsSeatOf locks.now seat.new }

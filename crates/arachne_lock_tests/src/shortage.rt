@@ -1,4 +1,4 @@
-//! Locks without memory: a free lock can be held and freed, and each refused ask for a lock that has a holder leaves
+//! Locks without memory: a free lock can be held and freed, and a refused request for a lock that has a holder leaves
 //! the lock as it was.
 ghost use Rattle.std.specs.Prelude.{◌<◌};
 ghost use Rattle.arachne_lock.specs.Views.{IsSeatOf, IsLockAt};
@@ -7,10 +7,11 @@ use arachne_lock::{Admitted, AskRefusal, Attempt, LockSetSeat, Locks, Released, 
 use arachne_shortage::Hoard;
 use std::alloc::AllocError;
 
-/// The bytes that the test gives back after a refusal: so few that the next growth of the same call is refused too.
+/// The number of bytes that the test frees after a refusal: so few that the next growth of a list in the same call is
+/// refused too.
 const FEW: usize = 40;
 
-/// The maximum number of asks of the crowd, the tasks that wait for one lock.
+/// The greatest number of requests that the crowd (the tasks that wait for one lock) makes.
 const TRIES: u64 = 100_000;
 
 /// The number of tasks that wait for the lock.
@@ -30,7 +31,7 @@ fn is_held_and_freed(locks: &Locks, seat: &mut LockSetSeat, lock: usize) -> bool
     )
 }
 
-/// Has each task of the crowd ask for `lock`, again and again until there is memory for the ask.
+/// Asks for `lock` for each task of the crowd, again and again until there is memory for the request.
 ///
 /// Returns the number of refusals, if each left the lock as it was.
 fn all_ask(locks: &Locks, seat: &mut LockSetSeat, lock: usize, hoard: &mut Hoard) -> Option<u64>
@@ -60,7 +61,7 @@ fn all_ask(locks: &Locks, seat: &mut LockSetSeat, lock: usize, hoard: &mut Hoard
     None
 }
 
-/// Has the crowd free the lock in turn, which needs no memory. Returns the number of frees.
+/// Frees the lock for each task of the crowd in turn, which needs no memory. Returns the number of releases.
 fn all_free(locks: &Locks, seat: &mut LockSetSeat, lock: usize) -> u64
     requires { IsLockAt locks.now seat.old.table lock }
     ensures { IsSeatOf locks.now seat.new }

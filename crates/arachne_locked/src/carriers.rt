@@ -3,7 +3,8 @@ ghost use Rattle.std.specs.Prelude.{◌≡◌, ◌≢◌, ◌+◌, ◌<◌};
 
 use std::marker::Model;
 
-/// The counter from which each seat gets its number. Contracts refer to the last number that was given.
+/// The counter that supplies a number for each seat (a kernel thread's right to call the table). Contracts refer to the
+/// last number that it supplied.
 #[derive(Debug, Drop)]
 pub struct Carriers {
     last: u32,
@@ -18,17 +19,20 @@ impl Model for Carriers {
 }
 
 impl Carriers {
-    /// Creates the counter, which starts at 0, the number of the first seat.
+    /// Creates the counter. It starts at 0, which is the number of the first seat (a kernel thread's right to call the
+    /// table).
     pub fn new() -> Self
         ensures { result ≡ 0 }
     {
         Carriers { last: 0 }
     }
 
-    /// Returns a number for a new seat, which is split off the seat with the number `other`.
+    /// Returns a number for a new seat (a kernel thread's right to call the table), which is split off the seat with
+    /// the number `other`.
     ///
     /// The result is greater than all numbers before, until all numbers of 32 bits have been used. After that, the
-    /// numbers begin at 0 again; even then, two seats that are split from each other have different numbers.
+    /// numbers begin at 0 again; even then, a new seat's number differs from that of the seat from which it was split
+    /// off.
     pub fn next(&mut self, other: u32) -> u32
         ensures last { self.new ≡ result }
         ensures apart { result ≢ other }

@@ -16,7 +16,8 @@ use arachne_core::{
 use std::alloc::{AllocError, Global};
 use std::marker::Model;
 
-/// The state of a table (a `World`), and for each context the value of its thread, if no seat holds that thread.
+/// The state of a table (a `World`), and for each context (the record of a user thread) the value of its thread, if no
+/// seat holds that thread.
 ///
 /// A seat is one kernel thread's right to call the table, and `carrier` the number of a seat. The value of a thread is
 /// *at home* while it is stored here. A take of the thread removes the value.
@@ -69,21 +70,21 @@ impl<T: Tagged + Drop> Homes<T> {
         &self.world
     }
 
-    /// Returns the number of contexts.
+    /// Returns the number of contexts (records of threads), used or not.
     pub fn contexts(&self) -> usize
         ensures { result ≡ (world_of self.now.table).cores * (world_of self.now.table).slots }
     {
         self.values.len()
     }
 
-    /// Returns whether the table has a context of this number.
+    /// Returns whether the table has a context (the record of a user thread) of this number.
     pub fn has(&self, context: u32) -> bool
         ensures { IsTrue result ↔ IsContext (world_of self.now.table) context }
     {
         (context as usize) < self.values.len()
     }
 
-    /// Returns the generation of a context, which rises with each thread.
+    /// Returns the generation of a context (the record of a user thread), which rises with each thread.
     pub fn generation(&self, context: u32) -> u64
         requires { IsContext (world_of self.now.table) context }
         ensures { result ≡ (world_of self.now.table).generation context }
@@ -101,7 +102,7 @@ impl<T: Tagged + Drop> Homes<T> {
         self.world.reserve(posts, retires)
     }
 
-    /// Applies an event that moves no thread's value.
+    /// Applies an event that doesn't put a thread's value into the table or take one out.
     pub fn apply(&mut self, event: Event) -> Result<(), NotApplied>
         requires { LeavesValues event }
         ensures answer { Answers event self.old.table self.new.table result }
@@ -111,7 +112,8 @@ impl<T: Tagged + Drop> Homes<T> {
         self.world.apply(event)
     }
 
-    /// Applies an event that moves no thread's value, is allowed, and needs no memory.
+    /// Applies an event that is allowed, needs no memory, and doesn't put a thread's value into the table or take one
+    /// out.
     pub fn make(&mut self, event: Event)
         requires values { LeavesValues event }
         requires memory { WantsNoRoom event }
@@ -125,9 +127,10 @@ impl<T: Tagged + Drop> Homes<T> {
         }
     }
 
-    /// Puts a thread with this value, ready to run, into a context that the seat `carrier` has claimed.
+    /// Puts a thread with this value, ready to run, into a context (the record of a user thread) that the seat (a
+    /// kernel thread's right to call the table) with the number `carrier` has claimed.
     ///
-    /// If the event is not allowed or memory is refused, returns the value with the error.
+    /// If the table's state doesn't allow this, or if memory is refused, returns the value with the error.
     pub fn post(&mut self, carrier: u32, context: u32, value: T) -> Result<(), (NotApplied, T)>
         ensures made { OnOk result (Answers (event.Post carrier context (T.tag_of value)) self.old.table self.new.table (Ok tt)) }
         ensures home { OnOk result (self.new.values ≡ slice_set self.old.values context (Some value)) }
@@ -150,7 +153,8 @@ impl<T: Tagged + Drop> Homes<T> {
         }
     }
 
-    /// Takes the thread in a context, if it is ready, and returns its value. The seat `carrier` then holds the thread.
+    /// Takes the thread in a context (the record of a user thread), if it is ready, and returns its value. The seat (a
+    /// kernel thread's right to call the table) with the number `carrier` then holds the thread.
     pub fn take(&mut self, carrier: u32, context: u32) -> Option<T>
         ensures made { IfSome result (λ value. Answers (event.Take carrier context) self.old.table self.new.table (Ok tt)) }
         ensures value { IfSome result (λ value. value_at self.old.values context ≡ Some value) }
@@ -167,7 +171,8 @@ impl<T: Tagged + Drop> Homes<T> {
         }
     }
 
-    /// Returns whether the seat `carrier` holds the thread with this id and tag.
+    /// Returns whether the seat (a kernel thread's right to call the table) with the number `carrier` holds the thread
+    /// with this id and tag.
     pub fn holds(&self, carrier: u32, id: ThreadId, tag: u64) -> bool
         ensures { IsTrue result ↔ HoldsThread (world_of self.now.table) carrier id tag }
     {
@@ -184,7 +189,8 @@ impl<T: Tagged + Drop> Homes<T> {
         }
     }
 
-    /// Puts back a thread that the seat `carrier` holds, as ready or as blocked, with its value.
+    /// Puts back a thread that the seat (a kernel thread's right to call the table) with the number `carrier` holds, as
+    /// ready or as blocked, and stores its value in the table.
     pub fn put_back(&mut self, carrier: u32, id: ThreadId, value: T, rest: Rest)
         requires { HoldsThread (world_of self.old.table) carrier id (T.tag_of value) }
         ensures made { Answers (event.Rest carrier id.context rest) self.old.table self.new.table (Ok tt) }
@@ -204,7 +210,8 @@ impl<T: Tagged + Drop> Homes<T> {
 }
 
 impl<T: Tagged + Drop> Homes<T> {
-    /// Returns the threads that no seat holds, in the order of their contexts.
+    /// Returns the threads that no seat (a kernel thread's right to call the table) holds, in the order of their
+    /// contexts (the records of user threads).
     ///
     /// If memory is refused, returns the unchanged table as an error.
     pub fn close(self, alloc: Global) -> Result<Vec<(ThreadId, T)>, Self>

@@ -3,8 +3,8 @@
 //! The lock protects the state of the table (a `World` of `arachne_core`) and the values of the threads that no *seat*
 //! holds. A seat is one kernel thread's right to call the table; it holds a thread from the take until the thread is
 //! put back or ended. Each call applies its events to the state, one after another. So between any two calls, no two
-//! threads share a context or a place, which is one of a core's thread slots. Tests compare the table on atomic words
-//! with this one.
+//! threads share a context (the record of a thread) or a place (one of a core's thread slots). Tests compare the table
+//! on atomic words with this one.
 #![tactic(auto)]
 
 mod carriers;

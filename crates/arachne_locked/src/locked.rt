@@ -47,11 +47,11 @@ impl<T: Tagged + Drop> LockedContexts<T> {
     }
 }
 
-/// Returns `word` if it is the occupancy word of a full core of `slots` thread slots, and otherwise the word of a full
-/// core.
+/// Returns `word` if it is the occupancy word of a core whose `slots` thread slots are all occupied, and otherwise such
+/// a word.
 ///
-/// The function must check this at run time, since proofs outside the lock don't know how many slots the cores behind
-/// the lock have.
+/// The function checks this at run time, since proofs outside the lock don't know how many thread slots the cores
+/// behind the lock have.
 fn full_word(word: u64, slots: Slots) -> u64
     ensures { ShowsFull slots result }
 {
@@ -64,7 +64,7 @@ fn full_word(word: u64, slots: Slots) -> u64
 }
 
 /// Returns `word` if it is the occupancy word of a core to which no thread may be moved, and otherwise the word of a
-/// full core.
+/// core whose `slots` thread slots are all occupied.
 fn no_room_word(word: u64, slots: Slots) -> u64
     ensures { ShowsNoRoom slots result }
 {

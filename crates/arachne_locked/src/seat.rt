@@ -1,14 +1,15 @@
-//! One thread's right to call a locked table, with the number by which the table knows it.
+//! One kernel thread's right to call a locked table, with the number by which the table knows it.
 ghost use Rattle.std.specs.Prelude.{◌≡◌};
 ghost use Rattle.arachne_locked.specs.Seats.{one_more, one_fewer};
 
 use arachne_weights::Weight;
 use std::marker::Model;
 
-/// One thread's right to call a table whose state is behind a lock. The state knows the seat by a number, its carrier.
+/// One kernel thread's right to call a table whose state is behind a lock. The state knows the seat by a number, its
+/// carrier.
 ///
-/// Contracts refer to the seat's carrier, its weight, and how many unused claims and held threads it has together. If
-/// that count has reached 2^32 - 1, it no longer changes.
+/// Contracts refer to the seat's carrier, its weight, and the count of its unused claims and the threads that it holds.
+/// After that count has reached 2^32 - 1, it no longer changes.
 #[derive(Debug, Drop)]
 pub struct LockedSeat {
     pub(crate) carrier: u32,

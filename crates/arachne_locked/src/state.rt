@@ -1,5 +1,5 @@
-//! The data behind the lock of a locked table: the place of each thread, and the values of the threads that no seat
-//! holds.
+//! The data behind the lock of a locked table: the thread slot of each thread, and the values of the threads that no
+//! seat holds.
 ghost use Rattle.std.specs.Prelude.{◌≡◌, ◌≢◌, ◌*◌, ◌<◌, ◌≤◌, ◌↔◌, ℕ, [], ◌∷◌, Ok, IfOk, OnOk, OnErr, IfErr, IfSome, IfNone, MatchBool, IsTrue, true, false, Some, slice_set};
 ghost use Rattle.arachne_core.specs.ContextTable.{world_of, ShowsCore, IsVacantFrom, Answers, marked};
 ghost use Rattle.arachne_core.specs.World.{Allowed, IsContext, IsPlace, HasClaimed, HoldsIn, IsAtRest, id_of};
@@ -22,8 +22,8 @@ use arachne_core::{
 use std::alloc::{AllocError, Global};
 use std::marker::Model;
 
-/// The state of a table (a `World`) and the values of the threads that no seat holds. It always has memory reserved to
-/// put a thread into each claimed context, and to end each thread.
+/// The state of a table (a `World`) and the values of the threads that no seat holds. There is always enough memory
+/// reserved to put a thread into each claimed context (the record of a user thread), and to end each thread.
 ///
 /// A seat is one kernel thread's right to call the table, and `carrier` the number of a seat.
 #[derive(Drop)]
@@ -42,8 +42,8 @@ impl<T: Tagged> Model for TableState<T> {
     ghost invariant = { λ s. HasRoom s.homes.table };
 }
 
-/// Returns the occupancy word of a full core of `slots` thread slots, which stands for a core that the table doesn't
-/// have.
+/// Returns the occupancy word of a core whose `slots` thread slots are all occupied. It serves for a core that the
+/// table doesn't have.
 pub fn no_core(slots: u8) -> OccWord
     requires { slots ≤ SLOTS }
     ensures open { result.closed ≡ false }
@@ -76,8 +76,9 @@ impl<T: Tagged + Drop> TableState<T> {
         Ok(TableState { homes })
     }
 
-    /// Does nothing. Its contract is a law: no two threads share a context or a place, and the table has a thread's
-    /// value exactly if no seat holds the thread.
+    /// Does nothing. Its contract is a law: no two threads share a context (the record of a user thread) or a thread
+    /// slot, and the table has the value of a thread exactly if no seat (a kernel thread's right to call the table)
+    /// holds that thread.
     pub fn is_owned_once(&self)
         ensures owned_once { OwnedOnce (world_of self.now.table) }
         ensures home { IsHome T.tag_of (world_of self.now.table) self.now.values }
@@ -114,7 +115,8 @@ impl<T: Tagged + Drop> TableState<T> {
         Some(self.homes.world().occ(core))
     }
 
-    /// Returns the mark word (the packed state) of a context, or `None` if the table has no such context.
+    /// Returns the mark word (the packed state) of a context (the record of a user thread), or `None` if the table has
+    /// no such context.
     pub fn look_mark(&self, context: u32) -> Option<MarkWord>
         ensures some { IfSome result (λ mark. IsContext (world_of self.now.table) context × (mark ≡ marked (world_of self.now.table) context)) }
         ensures none { IfNone result (IsContext (world_of self.now.table) context → ⊥) }
@@ -137,7 +139,8 @@ impl<T: Tagged + Drop> TableState<T> {
 
     // ---- claims
 
-    /// Reserves memory for the thread that may be put into the context, and then applies `claim`.
+    /// Reserves memory for the thread that the claiming seat (a kernel thread's right to call the table) may put into
+    /// the context (the record of a user thread), and then applies the event `claim`.
     fn claim_context(&mut self, claim: Event) -> Result<(), AllocError>
         requires claim { IsClaim claim }
         requires allowed { Allowed (world_of self.old.table) claim }
@@ -153,7 +156,8 @@ impl<T: Tagged + Drop> TableState<T> {
         }
     }
 
-    /// Claims the lowest free thread slot of a core for the seat `carrier`.
+    /// Claims the lowest free thread slot of the core `core` for the seat (a kernel thread's right to call the table)
+    /// with the number `carrier`.
     pub fn claim(&mut self, carrier: u32, core: u8) -> Result<Claimed<LockedClaim>, AllocError>
         ensures answer { IfOk result (Claims (world_of self.old.table) (world_of self.new.table) carrier core) }
         ensures err { OnErr result (world_of self.new.table ≡ world_of self.old.table) }
@@ -177,7 +181,8 @@ impl<T: Tagged + Drop> TableState<T> {
         Ok(Claimed::Place(LockedClaim { context, place }))
     }
 
-    /// Claims a whole empty core for one thread of the seat `carrier`.
+    /// Claims a whole empty core, for one thread, for the seat (a kernel thread's right to call the table) with the
+    /// number `carrier`.
     pub fn claim_alone(
         &mut self,
         carrier: u32,
@@ -203,9 +208,10 @@ impl<T: Tagged + Drop> TableState<T> {
         Ok(Claimed::Place(LockedClaim { context, place }))
     }
 
-    /// Frees a place that the seat `carrier` has claimed.
+    /// Frees a thread slot that the seat (a kernel thread's right to call the table) with the number `carrier` has
+    /// claimed.
     ///
-    /// Returns the claim as an error if the table doesn't know it.
+    /// If the table doesn't know the claim, returns it as an error.
     pub fn give_back(&mut self, carrier: u32, claim: LockedClaim) -> Result<(), LockedClaim>
         ensures ok { OnOk result (Takes (world_of self.old.table) (event.Release carrier claim.context ∷ []) (world_of self.new.table)) }
         ensures values { self.new.values ≡ self.old.values }
@@ -221,9 +227,9 @@ impl<T: Tagged + Drop> TableState<T> {
 
     // ---- threads
 
-    /// Puts a thread with this value, ready to run, into a claimed place. Takes no memory.
+    /// Puts a thread with this value, ready to run, into the claimed thread slot. Does not allocate.
     ///
-    /// Returns the claim and the value as an error if the table doesn't know the claim.
+    /// If the table doesn't know the claim, returns the claim and the value as an error.
     pub fn post(
         &mut self,
         carrier: u32,
@@ -248,7 +254,8 @@ impl<T: Tagged + Drop> TableState<T> {
         })
     }
 
-    /// Takes the thread at `place`, if it is ready. The seat `carrier` then holds the thread.
+    /// Takes the thread at `place`, if it is ready. The seat (a kernel thread's right to call the table) with the
+    /// number `carrier` then holds the thread.
     pub fn take(&mut self, carrier: u32, place: Place) -> Taken<T, LockedHold>
         ensures { TakesFrom (world_of self.old.table) (world_of self.new.table) self.old.values self.new.values carrier place result }
     {
@@ -272,9 +279,11 @@ impl<T: Tagged + Drop> TableState<T> {
         }
     }
 
-    /// Puts a thread that the seat `carrier` holds back, as ready or as blocked.
+    /// Puts a thread that the seat (a kernel thread's right to call the table) with the number `carrier` holds back
+    /// into the table, as ready or as blocked.
     ///
-    /// Returns the thread as an error if the table doesn't know it by its id and tag.
+    /// If the table doesn't know the thread by its id and tag (a number of the caller's), returns the thread as an
+    /// error.
     pub fn put_back(
         &mut self,
         carrier: u32,
@@ -296,9 +305,11 @@ impl<T: Tagged + Drop> TableState<T> {
         Ok(rested)
     }
 
-    /// Ends a thread that the seat `carrier` holds, and returns its value. Takes no memory.
+    /// Ends a thread that the seat (a kernel thread's right to call the table) with the number `carrier` holds, and
+    /// returns its value. Does not allocate.
     ///
-    /// Returns the thread as an error if the table doesn't know it by its id and tag.
+    /// If the table doesn't know the thread by its id and tag (a number of the caller's), returns the thread as an
+    /// error.
     pub fn finish(
         &mut self,
         carrier: u32,
@@ -319,7 +330,8 @@ impl<T: Tagged + Drop> TableState<T> {
         Ok(held.value)
     }
 
-    /// Ends the thread of a context, which the seat `carrier` holds.
+    /// Ends the thread of a context (the record of a user thread). The caller must pass a context whose thread the seat
+    /// (a kernel thread's right to call the table) with the number `carrier` holds.
     fn end(&mut self, carrier: u32, context: u32)
         requires { HoldsIn (world_of self.old.table) carrier context }
         ensures events { Takes (world_of self.old.table) (ends (world_of self.old.table) carrier context) (world_of self.new.table) }
@@ -338,7 +350,7 @@ impl<T: Tagged + Drop> TableState<T> {
         }
     }
 
-    /// Wakes the thread with this id. Any id may be passed.
+    /// Wakes the thread with this id. The caller may pass any id.
     pub fn wake(&mut self, id: ThreadId) -> Woken
         ensures answer { Wakes (world_of self.old.table) (world_of self.new.table) id result }
         ensures values { self.new.values ≡ self.old.values }
@@ -360,7 +372,8 @@ impl<T: Tagged + Drop> TableState<T> {
 
     // ---- cores
 
-    /// Closes a core. Returns its occupancy word as it was before the call, or `None` if the table has no such core.
+    /// Closes a core. Returns the core's occupancy word as it was before the call, or `None` if the table has no such
+    /// core.
     pub fn close_core(&mut self, core: u8) -> Option<OccWord>
         ensures some { IfSome result (λ occ. ShowsCore (world_of self.old.table) core occ × Takes (world_of self.old.table) (event.CloseCore core ∷ []) (world_of self.new.table)) }
         ensures none { IfNone result ((core < (world_of self.old.table).cores → ⊥) × (self.new ≡ self.old)) }
@@ -373,7 +386,8 @@ impl<T: Tagged + Drop> TableState<T> {
         }
     }
 
-    /// Opens a core. Returns its occupancy word as it was before the call, or `None` if the table has no such core.
+    /// Opens a core. Returns the core's occupancy word as it was before the call, or `None` if the table has no such
+    /// core.
     pub fn open_core(&mut self, core: u8) -> Option<OccWord>
         ensures some { IfSome result (λ occ. ShowsCore (world_of self.old.table) core occ × Takes (world_of self.old.table) (event.OpenCore core ∷ []) (world_of self.new.table)) }
         ensures none { IfNone result ((core < (world_of self.old.table).cores → ⊥) × (self.new ≡ self.old)) }
@@ -388,7 +402,8 @@ impl<T: Tagged + Drop> TableState<T> {
 
     // ---- moves
 
-    /// Moves the thread at `place` to the lowest free slot of the core `to`, if no seat holds the thread.
+    /// Moves the thread at `place` to the lowest free thread slot of the core `to`, if no seat (a kernel thread's right
+    /// to call the table) holds the thread.
     pub fn move_one(&mut self, carrier: u32, place: Place, to: u8) -> Moved
         requires { to ≢ place.core }
         ensures answer { Moves (world_of self.old.table) (world_of self.new.table) carrier place to result }
@@ -410,7 +425,8 @@ impl<T: Tagged + Drop> TableState<T> {
         self.move_to(carrier, from, place, to)
     }
 
-    /// Moves the thread of context `from`, which no seat holds and which shares its core, to the core `to`.
+    /// Moves the thread of context `from` to the core `to`. No seat (a kernel thread's right to call the table) holds
+    /// that thread, and it shares its core with others.
     fn move_to(&mut self, carrier: u32, from: u32, place: Place, to: u8) -> Moved
         requires within { IsContext (world_of self.old.table) from }
         requires at { (world_of self.old.table).at from ≡ place }
@@ -437,8 +453,8 @@ impl<T: Tagged + Drop> TableState<T> {
         Moved::Moved
     }
 
-    /// Claims context `target`, moves the thread of context `from` to the target's place, and frees the place that the
-    /// thread left.
+    /// Claims context `target`, moves the thread of context `from` to the thread slot of `target`, and frees the slot
+    /// that the thread left.
     fn swap(&mut self, carrier: u32, from: u32, target: u32)
         requires { CanMove (world_of self.old.table) from target }
         ensures events { Takes (world_of self.old.table) (event.Claim carrier target ∷ event.Move carrier from target ∷ event.Release carrier target ∷ []) (world_of self.new.table) }
@@ -461,7 +477,8 @@ impl<T: Tagged + Drop> TableState<T> {
 
     // ---- the end
 
-    /// Returns the threads that no seat holds, in the order of their contexts.
+    /// Returns the threads that no seat (a kernel thread's right to call the table) holds, in the order of their
+    /// contexts (the records of threads).
     ///
     /// If memory is refused, returns the unchanged table as an error.
     pub fn close(self, alloc: Global) -> Result<Vec<(ThreadId, T)>, Self>
@@ -479,7 +496,8 @@ impl<T: Tagged + Drop> TableState<T> {
     }
 }
 
-/// Returns the result of putting back a thread as `rest` says, if `state` was its context's state before.
+/// Returns the result of putting a thread back as `rest` says, if the state of the thread's context (the record of a
+/// user thread) was `state` before.
 fn rested(rest: Rest, state: State) -> Rested
     ensures { result ≡ rests_as rest state }
 {
@@ -489,7 +507,8 @@ fn rested(rest: Rest, state: State) -> Rested
     }
 }
 
-/// Returns whether the thread of the context's last generation has ended.
+/// Returns whether the thread of the context's last generation has ended, so that the context (the record of a user
+/// thread) is never used again.
 fn is_spent(state: State) -> bool
     ensures { IsTrue result ↔ (state ≡ State.Spent) }
 {

@@ -1,16 +1,17 @@
-//! The claims of places by a seat, and the handles of the threads that a seat has taken and not put back.
+//! A seat's claim of a thread slot, and its handle of a thread that it has taken and not yet put back.
 
 use arachne_contexts::{Identified, Placed};
 use arachne_core::{Place, ThreadId};
 
-/// A place that a seat has claimed: one of a core's thread slots, reserved for a thread.
+/// A place that a seat (a kernel thread's right to call the table) has claimed: one of a core's thread slots, reserved
+/// for a thread.
 #[derive(Debug, Drop)]
 pub struct LockedClaim {
     pub(crate) context: u32,
     pub(crate) place: Place,
 }
 
-/// The handle of a thread that a seat has taken and not yet put back.
+/// The handle of a thread that a seat (a kernel thread's right to call the table) has taken and not yet put back.
 #[derive(Debug, Drop)]
 pub struct LockedHold {
     pub(crate) id: ThreadId,

@@ -1,4 +1,4 @@
-//! Runs a whole program on the calling kernel thread, without a second one.
+//! Runs a whole program on the calling kernel thread, and creates no other.
 ghost use Rattle.std.specs.Prelude.{[], ◌≡◌, ◌+◌, ◌∷◌, ◌≤◌, ◌<◌, List, map, reverse, sum_by, None, Some, IfOk, OnOk};
 ghost use Rattle.arachne_program.specs.Program.{source_of};
 ghost use Rattle.arachne_program.specs.Meaning.{meaning_of};
@@ -18,9 +18,9 @@ use std::alloc::{AllocError, Global};
 
 /// Runs a program on the calling kernel thread. Returns the program's value, ledger sums and report lines.
 ///
-/// The newest task thread runs first, for at most `budget` steps at a time; a budget of 0 counts as 1. Each request for
-/// a lock is granted at once. That is safe because a checked program forks no thread while it holds a lock, so no other
-/// thread runs until the lock is free.
+/// Always runs the newest of the program's threads, for at most `budget` steps at a time; a budget of 0 counts as 1.
+/// Each request for a lock is granted at once. That is safe because a checked program forks no thread while it holds a
+/// lock, so no other thread runs until the lock is free.
 pub fn run_alone(alloc: Global, program: &Program, budget: u32) -> Result<Meaning, AllocError>
     ensures { IfOk result (λ meaning. meaning ≡ meaning_of (source_of program.now)) }
 {
@@ -45,10 +45,10 @@ fn run_all<'p>(alloc: Global, root: Thread<'p>, budget: u32) -> Result<DetachedO
     Ok(outcomes.pop().unwrap())
 }
 
-/// The state of a thread after its slice.
+/// The result of a thread's slice (at most `budget` steps).
 #[derive(Drop)]
 enum Turn<'p> {
-    /// The thread has more to do.
+    /// The thread can run on in a later slice.
     Goes,
     /// The thread has forked this child, which is to run first.
     Forks(Thread<'p>),
@@ -56,7 +56,7 @@ enum Turn<'p> {
     Ends,
 }
 
-/// Runs `thread`, the newest thread, for one slice. `threads` has all older threads, without `thread`.
+/// Runs `thread`, the newest thread, for one slice (at most `budget` steps). `threads` has all older threads.
 ///
 /// `outcomes` is a stack of the outcomes of ended threads that were not joined yet. The newest thread's children are at
 /// its top, below them the children of the next older thread, and so on.
@@ -91,7 +91,7 @@ fn take_turn<'p>(
     }
 }
 
-/// Advances the newest thread by at most `budget` steps. If the thread pauses with a request, fulfils the request.
+/// Runs the newest thread for at most `budget` steps. If the thread pauses with a request, fulfils the request.
 fn go_on<'p>(
     thread: &mut Thread<'p>,
     outcomes: &mut Vec<DetachedOutcome>,

@@ -1,10 +1,10 @@
-//! Resumes a paused thread after its caller has done what the thread paused for: taken a forked child, got or freed a
-//! lock, or added to a ledger (a shared sum).
+//! Resumes a paused thread after its caller has fulfilled its request: taken a forked child, got or freed a lock, or
+//! added to a ledger (a shared sum).
 use crate::frame::Control;
 use crate::state::State;
 use crate::tables::add_at;
 
-/// The calls that resume a paused thread. None of them takes memory.
+/// The calls that resume a paused thread. None of them allocates memory.
 impl<'p> State<'p> {
     ghost use Rattle.std.specs.Prelude.{◌≡◌, ℕ, Some};
     ghost use Rattle.std.specs.Borrow.{Bor};
@@ -16,8 +16,8 @@ impl<'p> State<'p> {
     ghost use Rattle.arachne_machine.specs.Steps.{HasLine, Turns, pending_of};
     ghost use Rattle.arachne_machine.specs.Runs.{CountsHold, CountsTally, after_fork};
 
-    /// Resumes a thread that paused at a fork. Call it after you have taken the child. The thread then evaluates the
-    /// fork's expression that runs beside the child.
+    /// Resumes a thread that paused at a fork. Call it after you have taken the child. The thread then evaluates its
+    /// own expression of the fork or, in a sweep (a parallel reduction), reduces the right half of the range.
     pub fn forked(&mut self)
         requires { pending_of self.old.control ≡ Some pause.Forks }
         ensures { Turns self.old self.new (after_fork self.old.control) }
@@ -29,8 +29,8 @@ impl<'p> State<'p> {
         }
     }
 
-    /// Resumes a thread that paused to ask for a lock, and counts that it got the lock. Call it when the thread holds
-    /// the lock.
+    /// Resumes a thread that paused to ask for a lock. Call it when the thread holds the lock. Also adds one to the
+    /// number of times that the thread has held this lock.
     pub fn granted(&mut self)
         requires asks { IsAsk (pending_of self.old.control) }
         requires line { HasLine self.old }
@@ -44,7 +44,8 @@ impl<'p> State<'p> {
         self.control = Control::Begin(body);
     }
 
-    /// Adds one to the number of times that the innermost thread (the one that makes the next step) has held this lock.
+    /// Adds one to the number of times that the innermost thread (the one that makes the next step) has held the lock
+    /// of number `lock`.
     fn count_hold(&mut self, lock: u64)
         requires { HasLine self.old }
         ensures { CountsHold self.old self.new lock }

@@ -1,4 +1,5 @@
-//! Makes the first step of an expression: evaluates a number or a variable, or begins a part of any other expression.
+//! Makes the first step of an expression: a number or a variable yields its value, and any other expression begins one
+//! of its parts.
 use crate::frame::{Control, Frame};
 use crate::lookup::{length_in, variable_in};
 use crate::placing::Placing;
@@ -67,9 +68,8 @@ impl<'p> State<'p> {
         }
     }
 
-    /// Makes the first step of a binary operation. If at least two more steps are left, also evaluates the first
-    /// operand, and then the second, as long as they are numbers or variables, and subtracts a step from `left` for
-    /// each.
+    /// Makes the first step of a binary operation. If `left` is at least 2, also evaluates the first operand if it is a
+    /// number or a variable, and then the second if it is one too, and subtracts a step from `left` for each.
     #[inline(always)]
     fn operate(
         &mut self,
@@ -100,7 +100,7 @@ impl<'p> State<'p> {
         self.enter(Frame::Right(operation, second), first)
     }
 
-    /// Returns the value of a number or a variable, and `None` for any other expression.
+    /// Returns the value of `expr` if it is a number or a variable, otherwise `None`.
     #[inline(always)]
     fn leaf(&self, expr: &Expr) -> Option<u64>
         ensures leaf { IfSome result (λ _. IsLeaf (tree_of expr.now)) }
@@ -124,8 +124,8 @@ impl<'p> State<'p> {
         Ok(Progress::Begin(part))
     }
 
-    /// Pauses the thread to ask for a lock. Pushes a frame that will release the lock when the value of `body` is
-    /// known.
+    /// Pauses the thread until it gets the lock of number `lock`. Pushes a frame that releases the lock when the value
+    /// of `body` is known.
     #[inline(always)]
     fn ask(&mut self, lock: u64, body: &'p Expr) -> Result<Progress<'p>, AllocError>
         ensures stops { IfOk result (λ asked. asked ≡ ways.Stops) }

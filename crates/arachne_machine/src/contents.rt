@@ -24,12 +24,12 @@ pub struct Contents {
 }
 
 impl Contents {
-    /// Allocates an empty box, into which a thread's outcome can be written later.
+    /// Allocates a box without an outcome. A thread's outcome can be written into the box later, without an allocation.
     pub fn new(alloc: Global) -> Result<Box<Contents>, AllocError> {
         Ok(Box::new(alloc, Contents::vacant(alloc))?)
     }
 
-    /// Returns empty contents, which belong to no thread. Takes no memory.
+    /// Returns a placeholder that belongs to no thread. Allocates no memory.
     fn vacant(alloc: Global) -> Contents {
         Contents {
             value: 0,
@@ -39,7 +39,7 @@ impl Contents {
         }
     }
 
-    /// Moves the value, the sums and the lines out of these contents.
+    /// Moves the value, the ledger sums and the report lines out of `self`.
     ///
     /// Allocates a list for the lines. Returns `Err`, with `self` unchanged, if memory is refused.
     pub(crate) fn take_parts(&mut self) -> Result<OutcomeParts, AllocError>

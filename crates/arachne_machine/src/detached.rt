@@ -10,7 +10,7 @@ use std::snapshot::Snapshot;
 
 /// The boxed value, ledger sums and report lines of an ended thread, without a reference to the program.
 ///
-/// In contracts, it still has the program, as an `Outcome` has.
+/// In contracts, it still refers to the program, as an `Outcome` does.
 #[derive(Drop)]
 pub struct DetachedOutcome {
     /// The thread's program. A `Snapshot` exists only for contracts and has size 0.
@@ -34,7 +34,7 @@ impl Model for DetachedOutcome {
 }
 
 impl DetachedOutcome {
-    /// Returns the value, the ledger sums and the report lines.
+    /// Returns the thread's value, its ledger sums, and the report lines of the thread and its descendants.
     ///
     /// Allocates a list for the lines. If memory is refused, returns `self` as the error.
     pub fn into_parts(self) -> Result<OutcomeParts, DetachedOutcome>

@@ -1,4 +1,5 @@
-//! The steps that fork a child, or split a sweep (a reduction over a range of numbers, halved among threads).
+//! The steps that fork a child, or split a sweep (a parallel reduction over a range of numbers, which is halved among
+//! threads).
 use crate::frame::{Control, Frame, Stretch};
 use crate::placing::Placing;
 use crate::spares::Spares;
@@ -19,8 +20,8 @@ impl<'p> State<'p> {
     ghost use Rattle.arachne_machine.specs.Runs.{Comes};
     ghost use Rattle.arachne_machine.specs.Steps.{CountsFork, HasLine, IsForkOf, IsSame, IsSpawned};
 
-    /// Forks a child of class `class`, which will evaluate `child`. This thread next evaluates `during`. It also pushes
-    /// a frame that joins the child later and then evaluates `after`.
+    /// Forks a child of class `class` (normal or exclusive), which evaluates `child`. Meanwhile this thread evaluates
+    /// `during`; then it joins the child and evaluates `after`.
     pub fn fork(
         &mut self,
         class: Class,
@@ -45,8 +46,8 @@ impl<'p> State<'p> {
         )
     }
 
-    /// Forks a child without a pause. The child will run inside this thread's slot, as a call would, when the value of
-    /// `during` is known.
+    /// Forks a child without a pause of this thread. The child runs inside this thread's slot, as a function call
+    /// would, after this thread has evaluated `during`. Then this thread evaluates `after`.
     #[inline(always)]
     pub fn fork_here(
         &mut self,
@@ -70,8 +71,8 @@ impl<'p> State<'p> {
         Ok(Progress::Begin(during))
     }
 
-    /// Creates a child of class `class` that starts with the action `begins`. Pushes `frame`, which joins the child
-    /// later, and makes `next` this thread's next action.
+    /// Creates a child of class `class` whose first action is `begins`. Pushes `frame`, which joins the child later,
+    /// and makes `next` this thread's next action.
     #[inline(always)]
     fn spawn(
         &mut self,
@@ -176,8 +177,8 @@ impl<'p> State<'p> {
         )
     }
 
-    /// Splits `stretch` at `middle` without a pause. The left half will run inside this thread's slot, as a call would,
-    /// after the right half, which this thread reduces next.
+    /// Splits `stretch` at `middle` without a pause of this thread. This thread reduces the right half next. Then a
+    /// child reduces the left half inside this thread's slot, as a function call would.
     #[inline(always)]
     fn halve_here(&mut self, stretch: Stretch<'p>, middle: u64) -> Result<Progress<'p>, AllocError>
         requires number { self.old.level.forks + 1 < 2 ^ 64 }

@@ -1,4 +1,4 @@
-//! Passes a value to the newest stack frame, and that frame's value to the next, until a frame needs a step.
+//! Passes a value to the newest stack frame, and the value that results to the next frame, until a frame needs a step.
 use crate::frame::{Control, Frame, Stretch};
 use crate::lookup::item_in;
 use crate::placing::Placing;
@@ -21,11 +21,11 @@ impl<'p> State<'p> {
     ghost use Rattle.arachne_machine.specs.Runs.{Comes, FoldsOn, HandsResult, IsOneStep, IsPoppedIn, RunsOn, SweepsOn, giving_in, seen_in};
     ghost use Rattle.arachne_machine.specs.declared.state.Progress.TheVariants as ways;
 
-    /// Passes `value` to the newest frame, and the value of that frame to the next one, until a frame needs a further
-    /// step or no frame is left.
+    /// Passes `value` to the newest stack frame, and the value that results to the next frame, until a frame needs a
+    /// further step or no frame is left.
     ///
-    /// When a child that runs inside its parent's slot has ended, its value goes on to the parent. If memory is
-    /// refused, the thread keeps the value, and a later step passes the value to the frame.
+    /// If that ends a child that runs inside its parent's slot, the parent joins the child and resumes. If memory is
+    /// refused, returns `Err`, and the thread keeps the value, which a later step passes on.
     #[inline(always)]
     pub fn give<P: Placing>(
         &mut self,
@@ -51,7 +51,7 @@ impl<'p> State<'p> {
     }
 
     /// Passes `value` to the newest frame of the innermost thread (the one that makes the next step). If that thread
-    /// has no frame left, it ends with `value`. If it runs inside its parent's slot, its parent resumes.
+    /// has no frame left, it ends with `value`; if it ran inside its parent's slot, the parent joins it and resumes.
     #[inline(always)]
     fn hand_newest<P: Placing>(
         &mut self,
@@ -81,8 +81,8 @@ impl<'p> State<'p> {
         self.join_here(value, left)
     }
 
-    /// Keeps `value`, so that a later step passes it to the newest frame, and returns the error that memory was
-    /// refused.
+    /// Stores `value` in `control`, so that a later step passes it to the newest frame. Always returns
+    /// `Err(AllocError)`.
     #[cold]
     #[inline(never)]
     pub fn refused(&mut self, value: u64) -> Result<Progress<'p>, AllocError>
@@ -93,7 +93,7 @@ impl<'p> State<'p> {
         Err(AllocError)
     }
 
-    /// Reserves room for the two variables and the one frame that passing a value can add.
+    /// Reserves room for two more variables and one more frame, which is as much as passing a value to a frame can add.
     pub fn reserve_turn(&mut self) -> Result<(), AllocError>
         ensures same { IsSame self.old self.new }
         ensures environment { OnOk result (vec_len self.new.environment + 2 ≤ vec_capacity self.new.environment) }
@@ -103,7 +103,8 @@ impl<'p> State<'p> {
         self.frames.try_reserve(1)
     }
 
-    /// Passes `value` to `frame`, which the caller has popped. If memory is refused, pushes `frame` again.
+    /// Passes `value` to `frame`, which the caller has popped from the stack. If memory is refused, pushes `frame`
+    /// again.
     #[inline(always)]
     fn hand<P: Placing>(
         &mut self,
@@ -158,7 +159,8 @@ impl<'p> State<'p> {
         }
     }
 
-    /// Undoes the step that passed `value` to `frame`: pushes the frame again and keeps the value for a later step.
+    /// Undoes the step that passed `value` to `frame`: pushes `frame` again, and stores `value` in `control` for a
+    /// later step.
     #[cold]
     #[inline(never)]
     fn stand_before(&mut self, frame: Frame<'p>, value: u64)
@@ -169,7 +171,7 @@ impl<'p> State<'p> {
         self.control = Control::Give(value);
     }
 
-    /// Passes `value` to `frame`. The frame must be one that begins no child.
+    /// Passes `value` to `frame`, which must not be one that begins a child (`JoinHere` or `MergeHere`).
     #[inline(always)]
     fn hand_within(&mut self, frame: Frame<'p>, value: u64, left: &mut u32) -> Progress<'p>
         requires within { IsWithin frame }
@@ -215,8 +217,8 @@ impl<'p> State<'p> {
         }
     }
 
-    /// Passes `value` to `frame`. The frame must be one at which the thread pauses, or at which a loop (a fold or a
-    /// sweep) begins.
+    /// Passes `value` to `frame`, which must be one at which the thread pauses (`Amount`, `Release`, `Join` or `Merge`)
+    /// or one that `hand_to_range` accepts.
     #[inline(always)]
     fn hand_on(&mut self, frame: Frame<'p>, value: u64, left: &mut u32) -> Progress<'p>
         requires later { IsPauseOrRange frame }
@@ -263,7 +265,8 @@ impl<'p> State<'p> {
         }
     }
 
-    /// Passes `value` to `frame`. The frame must be one at which a loop (a fold or a sweep) begins.
+    /// Passes `value` to `frame`, which must wait for a loop's range or first value (`FoldTo`, `FoldFirst`,
+    /// `FoldStart`, `SweepTo` or `SweepStart`).
     #[inline(always)]
     fn hand_to_range(&mut self, frame: Frame<'p>, value: u64, left: &mut u32) -> Progress<'p>
         requires range { IsOfRange frame }
@@ -300,8 +303,8 @@ impl<'p> State<'p> {
         }
     }
 
-    /// Pushes `frame`, and begins the expression `part`, for whose value that frame waits. There must be room for the
-    /// frame, as there is after another one was popped, so nothing is allocated.
+    /// Pushes `frame`, and begins the expression `part`, whose value `frame` waits for. Allocates nothing: the caller
+    /// must have room for one more frame, for instance since it has popped one.
     #[inline(always)]
     pub fn go_on(&mut self, frame: Frame<'p>, part: &'p Expr) -> Progress<'p>
         requires { vec_len self.old.frames + 1 ≤ vec_capacity self.old.frames }
@@ -312,7 +315,7 @@ impl<'p> State<'p> {
         Progress::Begin(part)
     }
 
-    /// Appends `value` as a new variable, and begins the expression `body`.
+    /// Appends `value` as a new variable, pushes a frame that removes it later, and begins the expression `body`.
     #[inline(always)]
     fn extend(&mut self, value: u64, body: &'p Expr) -> Progress<'p>
         requires environment { vec_len self.old.environment + 1 ≤ vec_capacity self.old.environment }
@@ -327,8 +330,8 @@ impl<'p> State<'p> {
         Progress::Begin(body)
     }
 
-    /// Passes on the result of a fold (a sequential loop), or of a sweep (a parallel reduction) or a part of it.
-    /// Passing it on is a step of its own, which is made at once if a step is left, otherwise later.
+    /// Returns `value`, the result of a loop or of a part of one, to be passed to the newest frame. That takes a step:
+    /// if none is left, stores `value` in `control` instead, for a later step.
     #[inline(always)]
     pub fn hand_result(&mut self, value: u64, left: &mut u32) -> Progress<'p>
         ensures same { Changes self.old (seen_in result self.new) self.old.environment.items self.old.frames.items (control.Give value) }

@@ -1,4 +1,5 @@
-//! Begins children inside their parent's slot, and joins children wherever they ran.
+//! Begins children inside their parent's thread slot, and joins children, whether they ran there or in a slot of their
+//! own.
 use crate::contents::Contents;
 use crate::frame::{Control, Frame};
 use crate::level::{Level, Parent, move_parents};
@@ -13,7 +14,7 @@ use std::mem::swap;
 /// The reason why a child's outcome could not be joined.
 #[derive(Clone, Copy)]
 pub enum Unjoined {
-    /// The outcome belongs to another thread than the awaited child.
+    /// The outcome is not that of the child that the thread waits for.
     Foreign,
     /// Memory was refused.
     Memory,
@@ -34,7 +35,8 @@ impl<'p> State<'p> {
     ghost use Rattle.arachne_machine.specs.Outcome.{finished};
     ghost use Rattle.arachne_machine.specs.declared.join.Unjoined.TheVariants.{Foreign};
 
-    /// Returns whether `name` is the name of the child that this state's innermost thread waits to join.
+    /// Returns whether `name` is the name of the child that the innermost thread (the one that makes the next step)
+    /// waits to join.
     pub fn awaits(&self, name: &Name) -> bool
         requires joins { pending_of self.now.control ≡ Some pause.Joins }
         requires line { HasLine self.now }
@@ -48,8 +50,8 @@ impl<'p> State<'p> {
         }
     }
 
-    /// Begins the child of number `number` inside the slot of its parent, this state's innermost thread, which waits as
-    /// for a call.
+    /// Begins child `number` of this state's innermost thread inside that thread's slot. The parent waits until the
+    /// child has ended, as for a function call; `awaits` is the parent's pending join.
     ///
     /// Returns `Err` if memory is refused; then only capacities may have changed.
     #[inline(always)]
@@ -77,11 +79,11 @@ impl<'p> State<'p> {
         Ok(())
     }
 
-    /// Makes a child this state's innermost thread, which makes the next step. Its parent, which was innermost before,
-    /// now waits for the child: `awaits` is the pending join.
+    /// Makes a child this state's innermost thread, the one that makes the next step. The parent, which was innermost
+    /// before, now waits for the child: `awaits` is the parent's pending join.
     ///
     /// `place` is the index of the child's report line, and `forks` the number of threads that the child has forked.
-    /// There must be room for one more item in `parents`.
+    /// The caller must have reserved room for one more item in `parents`.
     #[inline(always)]
     fn descend(&mut self, awaits: Control<'p>, place: usize, forks: u64)
         requires { vec_len self.old.parents + 1 ≤ vec_capacity self.old.parents }
@@ -99,8 +101,8 @@ impl<'p> State<'p> {
         };
     }
 
-    /// Moves the awaited child into this state, together with the threads that run inside the child's slot. They
-    /// continue here, while the child's parent waits as for a call.
+    /// Moves `child`, for which this state's innermost thread waits, into this state, together with the threads that
+    /// run inside the child's slot. They continue here, while the child's parent waits as for a function call.
     ///
     /// Returns `Err` if memory is refused; then only capacities may have changed.
     pub fn take_in(&mut self, child: &mut State<'p>) -> Result<(), AllocError>
@@ -131,11 +133,11 @@ impl<'p> State<'p> {
         Ok(())
     }
 
-    /// Takes over a child and the threads that run inside the child's slot. This state's innermost thread, the parent,
-    /// now waits for the child.
+    /// Takes over the levels (each a thread's indices and counts) of `child` and of the threads that run inside its
+    /// slot. This state's innermost thread, the parent, now waits for `child`.
     ///
-    /// The child's frames will follow the frames of this state, and its report lines begin at index `place`. There must
-    /// be room in `parents` for the threads that wait.
+    /// The child's frames will follow the frames of this state, and its report lines begin at index `place`. The caller
+    /// must have reserved room in `parents` for all threads that wait.
     #[inline(always)]
     fn take_levels(&mut self, child: &State<'p>, place: usize)
         requires room { vec_len self.old.parents + vec_len child.now.parents + 1 ≤ vec_capacity self.old.parents }
@@ -153,9 +155,10 @@ impl<'p> State<'p> {
         self.level = child.level.moved(child.parents.is_empty(), start, place);
     }
 
-    /// Ends, with the value `value`, a child that ran inside its parent's slot. The parent joins the child and resumes.
+    /// Ends the innermost thread, a child that ran inside its parent's slot, with the value `value`. The parent joins
+    /// the child and resumes.
     ///
-    /// If memory is refused, a later step passes the value to the parent.
+    /// If memory is refused, returns `Err`, and a later step passes the value to the parent.
     #[inline(always)]
     pub fn join_here(&mut self, value: u64, left: &mut u32) -> Result<Progress<'p>, AllocError>
         requires parent { HasParent self.old }
@@ -188,7 +191,8 @@ impl<'p> State<'p> {
         }
     }
 
-    /// Appends two variables: the child's value, and then `during`. There must be room for both, and for one frame.
+    /// Appends two variables: `value`, the child's value, and then `during`. Pushes a frame that removes them later.
+    /// The caller must have reserved room for both variables and the frame.
     #[inline(always)]
     fn bind_joined(&mut self, value: u64, during: u64)
         requires environment { vec_len self.old.environment + 2 ≤ vec_capacity self.old.environment }
@@ -202,7 +206,8 @@ impl<'p> State<'p> {
         self.frames.push_reserved(Frame::Restore(length));
     }
 
-    /// Joins the child whose outcome is `contents`. Returns `Foreign` if it is not the awaited child.
+    /// Joins the child whose outcome is `contents`. Returns the error `Foreign` if that is not the child that this
+    /// thread waits for.
     ///
     /// After an error, only capacities may have changed.
     pub fn join(&mut self, contents: &mut Contents) -> Result<(), Unjoined>
@@ -227,8 +232,8 @@ impl<'p> State<'p> {
         Ok(())
     }
 
-    /// Moves the lines of `contents` behind this state's lines, and adds its sums to this state's sums. Returns `Err`
-    /// if memory is refused; then only capacities may have changed.
+    /// Moves the report lines of `contents` behind this state's lines, and adds the ledger sums of `contents` to this
+    /// state's sums. Returns `Err` if memory is refused; then only capacities may have changed.
     #[inline(always)]
     fn take_contents(&mut self, contents: &mut Contents) -> Result<(), AllocError>
         requires sums { length contents.old.sums.items ≡ length self.old.sums.items }
@@ -247,8 +252,8 @@ impl<'p> State<'p> {
         Ok(())
     }
 
-    /// Resumes the thread after the join of the awaited child, which has ended with the value `value`. There must be
-    /// room for the two new variables and one frame.
+    /// Resumes the thread after it has joined the child that it waited for, which has ended with the value `value`. The
+    /// caller must have reserved room for two more variables and one more frame.
     #[inline(always)]
     fn resume_joined(&mut self, value: u64)
         requires joins { pending_of self.old.control ≡ Some pause.Joins }
@@ -273,7 +278,8 @@ impl<'p> State<'p> {
         }
     }
 
-    /// Undoes the step in which the thread began to wait for a child.
+    /// Undoes the step in which the thread began to wait for a child: pushes the frame again, and stores its value in
+    /// `control`.
     pub fn stand_before_join(&mut self)
         requires joins { pending_of self.old.control ≡ Some pause.Joins }
         requires room { HasRoom self.old }

@@ -1,13 +1,13 @@
-//! The part of a state that belongs to one of the nested threads that run in one slot.
+//! The indices and counts of each of the threads that run nested inside one thread slot.
 ghost use Rattle.std.specs.Prelude.{◌≡◌, ◌+◌, ◌≤◌, ◌<◌, ◌^◌, ℕ, ◌++◌, false, length, reverse, vec_len, vec_capacity, IsTrue};
 ghost use Rattle.arachne_machine.specs.Strands.{Fits, moved_parents};
 
 use crate::frame::Control;
 
-/// The part of a state that belongs to one thread. A state has several if children run inside their parent's slot.
+/// The indices and counts of one thread in a `State`. A state has several if children run inside their parent's slot.
 #[derive(Clone, Copy)]
 pub struct Level {
-    /// The index of this thread's first frame. The frames before it belong to the threads that wait for this one.
+    /// The index of this thread's first stack frame. Earlier frames belong to the threads that wait for this one.
     pub start: usize,
     /// The number of children that this thread has forked.
     pub forks: u64,
@@ -17,7 +17,7 @@ pub struct Level {
 }
 
 impl Level {
-    /// Returns the initial level of the outermost thread of a state.
+    /// Returns the indices and counts with which the outermost thread of a state begins.
     pub fn outermost() -> Level
         ensures { result ≡ record { start = 0; forks = 0; place = 0 } }
     {
@@ -28,9 +28,11 @@ impl Level {
         }
     }
 
-    /// Returns this level as it is after its state was moved into another one, behind `start` frames.
+    /// Returns this level with the indices that it gets when its state is moved into another one, behind that one's
+    /// `start` frames.
     ///
-    /// The line of the moved state's outermost thread gets the index `place`, and the lines of the others follow it.
+    /// `outermost` says if this level is that of the moved state's outermost thread. That thread's report line gets the
+    /// index `place`, and the lines of the threads nested in it follow.
     #[inline(always)]
     pub fn moved(self, outermost: bool, start: usize, place: usize) -> Level
         requires start { start + self.start < 2 ^ 64 }
@@ -51,19 +53,19 @@ impl Level {
     }
 }
 
-/// A thread that waits for a child that runs inside its slot.
+/// A thread that waits for a child, while the child runs inside the thread's slot.
 #[derive(Clone, Copy)]
 pub struct Parent<'p> {
     pub level: Level,
-    /// The pending join: the number of the awaited child, and the action after the join.
+    /// The pending join: the number of the child that this thread waits for, and the action after the join.
     pub control: Control<'p>,
 }
 
 /// Appends `others`, the waiting threads of a state that is moved into this one, to `parents`. In both lists the
 /// outermost thread comes first.
 ///
-/// `start` is the number of frames before those of `others`, and `place` the index at which their lines begin. There
-/// must be room for `others`.
+/// The frames of `others` will follow `start` other frames, and their report lines begin at index `place`. The caller
+/// must have reserved room in `parents`.
 pub fn move_parents<'p>(
     parents: &mut Vec<Parent<'p>>,
     others: &[Parent<'p>],

@@ -1,5 +1,5 @@
-//! The report line of an ended thread: its name, its tag, the kind of slot in which it ran, and how often it held each
-//! lock.
+//! The line of an ended thread in the report of a run: its name, its tag (identifying number), the kind of thread slot
+//! in which it ran, and how often it held each lock.
 ghost use Rattle.std.specs.Prelude.{◌≡◌, IfOk};
 
 use arachne_program::{Name, Sequence};
@@ -14,11 +14,11 @@ pub enum Ran {
     Slot,
     /// In a slot of its own, which a worker found later, while the thread waited for one.
     Spill,
-    /// Inside its parent's slot, as a function call would run.
+    /// Inside its parent's slot, run like a function call.
     InPlace,
 }
 
-/// The tag of a thread, and the kind of slot in which it runs.
+/// The tag (identifying number) of a thread, and the kind of thread slot in which the thread runs.
 #[derive(Clone, Copy, Debug)]
 pub struct Label {
     /// The number by which a run identifies the thread.
@@ -27,8 +27,8 @@ pub struct Label {
     pub ran: Ran,
 }
 
-/// The line of an ended thread in a report: its name, its tag, the kind of slot in which it ran, and how often it held
-/// each lock.
+/// The line of an ended thread in the report of a run: its name, its tag (identifying number), the kind of thread slot
+/// in which it ran, and how often it held each lock.
 #[derive(Debug, Drop)]
 pub struct ThreadLine {
     pub name: Name,
@@ -41,7 +41,7 @@ pub struct ThreadLine {
 }
 
 impl ThreadLine {
-    /// Returns an empty line, which belongs to no thread. Takes no memory.
+    /// Returns a placeholder that belongs to no thread. Allocates no memory.
     #[inline(always)]
     pub(crate) fn vacant(alloc: Global) -> ThreadLine {
         ThreadLine {
@@ -52,7 +52,7 @@ impl ThreadLine {
         }
     }
 
-    /// Moves this line out, and leaves an empty line in its stead.
+    /// Moves the line out of `self`, in which a placeholder remains.
     #[inline(always)]
     pub(crate) fn take(&mut self, alloc: Global) -> ThreadLine
         ensures { result ≡ self.old }
@@ -82,7 +82,7 @@ impl<'a> Model for LineView<'a> {
 impl<'a> LineView<'a> {
     ghost use Rattle.arachne_machine.specs.declared.line.ThreadLine.{ThreadLine};
 
-    /// Returns a view of the line with these parts.
+    /// Returns a view of the line with the name `name`, the label `label` and the counts of held locks `holds`.
     #[inline(always)]
     pub(crate) fn new(name: &'a Name, label: Label, holds: &'a [u64]) -> LineView<'a>
         ensures { result ≡ record { name = name.now; tag = label.tag; holds = holds.now; ran = label.ran } }

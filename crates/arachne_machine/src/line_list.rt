@@ -1,4 +1,4 @@
-//! A list of threads' report lines. One flat array has how often each thread held each lock.
+//! A list of threads' report lines, whose counts of held locks are in one flat array.
 ghost use Rattle.std.specs.Prelude.{◌≡◌, ◌+◌, ◌<◌, ◌∷◌, ◌++◌, [], ℕ, length, get_or, IfOk, IfSome, MatchOption, OnOk, OnErr};
 ghost use Rattle.arachne_program.specs.Effects.{tabulated};
 ghost use Rattle.arachne_machine.specs.declared.line.ThreadLine.{ThreadLine};
@@ -10,7 +10,8 @@ use arachne_program::Name;
 use std::alloc::{AllocError, Global};
 use std::marker::Model;
 
-/// The name, the tag and the kind of slot of a thread: its report line except for how often it held each lock.
+/// A thread's report line without its counts of held locks: its name, its tag (identifying number) and its kind of
+/// slot.
 #[derive(Debug, Drop)]
 struct Mark {
     name: Name,
@@ -39,7 +40,7 @@ impl Model for LineList {
 }
 
 impl LineList {
-    /// Returns an empty list for threads of a program with `locks` locks. Takes no memory.
+    /// Returns an empty list for threads of a program with `locks` locks. Allocates no memory.
     #[inline(always)]
     pub fn new(alloc: Global, locks: usize) -> LineList
         ensures { result ≡ record { locks = locks; lines = [] } }
@@ -62,7 +63,7 @@ impl LineList {
         Ok(list)
     }
 
-    /// Returns the number of locks of the program whose threads have their lines here.
+    /// Returns the number of locks of the threads' program, which is the number of counts in each line.
     #[inline(always)]
     pub fn locks(&self) -> usize
         ensures { result ≡ self.now.locks }
@@ -122,8 +123,7 @@ impl LineList {
         Ok(())
     }
 
-    /// Moves the line `own`, and then the lines `below`, to the end of this list. All lines must belong to threads of
-    /// the same program.
+    /// Moves `own`, and then the lines of `below`, to the end of this list. All lines must have equally many counts.
     ///
     /// Returns `Err` if memory is refused; then only capacities may have changed.
     #[inline(always)]

@@ -12,13 +12,14 @@ use std::alloc::{AllocError, Global};
 use std::marker::Model;
 use std::mem::replace;
 
-/// The greatest length of a list that a join copies to the end of another. A longer list is kept as a list of its own.
+/// The greatest number of lines that a join copies to the end of another list. A list with more lines is kept as it is.
 const MOST_MOVED: usize = 1000;
 
-/// The maximum number of lines.
+/// The greatest number of lines in a `Lines`.
 const MOST: usize = usize::MAX / 2;
 
-/// The report lines of threads, in order, in a few lists. Most lines are copied only once, when the report is complete.
+/// The report lines of threads, in the report's order, in a few lists. Most lines are copied only once, when the report
+/// is complete.
 #[derive(Debug, Drop)]
 pub struct Lines {
     earlier: Vec<LineList>,
@@ -41,7 +42,7 @@ impl Model for Lines {
 }
 
 impl Lines {
-    /// Returns an empty list for threads of a program with `locks` locks. Takes no memory.
+    /// Returns an empty list for threads of a program with `locks` locks. Allocates no memory.
     #[inline(always)]
     pub fn new(alloc: Global, locks: u8) -> Lines
         ensures { result ≡ [] }
@@ -86,7 +87,7 @@ impl Lines {
         Ok(())
     }
 
-    /// Appends a line like `push`, but in a new list, which becomes the last.
+    /// Appends a line like `push`, but to a new list, since the last list is for another number of locks.
     #[cold]
     #[inline(never)]
     fn push_apart(
@@ -134,8 +135,8 @@ impl Lines {
         }
     }
 
-    /// Moves the line `own`, and then the lines `below`, to the end of this list. Returns `Err` if memory is refused;
-    /// then only capacities may have changed.
+    /// Moves `own`, the line of a joined child, and then `below`, the lines of its descendants, to the end of this
+    /// list. Returns `Err` if memory is refused; then only capacities may have changed.
     #[inline(always)]
     pub fn append(
         &mut self,
@@ -161,8 +162,7 @@ impl Lines {
         self.append_many(alloc, own, below)
     }
 
-    /// Moves the line `own`, and then the lines `below`, to the end, as `append` does. Moves the lists of `below` as
-    /// they are, so that none of their lines is copied.
+    /// Appends like `append`, but moves the lists of `below` as they are, so that none of their lines is copied.
     #[cold]
     #[inline(never)]
     fn append_many(
@@ -190,8 +190,8 @@ impl Lines {
         Ok(())
     }
 
-    /// Moves out all lines, with `own` before them, without copying them into one list. Returns `Err` if memory is
-    /// refused; then nothing has changed.
+    /// Moves `own`, and then all lines of this list, into a `ThreadLines`. Copies no line of this list. Returns `Err`
+    /// if memory is refused; then nothing has changed.
     pub fn complete(
         &mut self,
         alloc: Global,
@@ -212,7 +212,7 @@ impl Lines {
     }
 }
 
-/// Returns the line at index `place`, counted over all of `lists`.
+/// Returns the line at index `place` of the concatenated `lists`.
 #[cold]
 #[inline(never)]
 fn line_in(lists: &Vec<LineList>, place: usize) -> LineView<'_>
@@ -228,8 +228,8 @@ fn line_in(lists: &Vec<LineList>, place: usize) -> LineView<'_>
     lists[at].at(left)
 }
 
-/// Adds one to the number of times that a thread has held the lock `lock`. `place` is the index of the thread's line,
-/// counted over all of `lists`.
+/// Adds one to the number of times that a thread has held the lock `lock`. `place` is the index of the thread's line in
+/// the concatenated `lists`.
 #[cold]
 #[inline(never)]
 fn count_hold_in(lists: &mut Vec<LineList>, place: usize, lock: u64)

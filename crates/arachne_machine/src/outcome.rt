@@ -1,4 +1,5 @@
-//! The outcome of a thread: its value, its ledger sums and its report lines.
+//! The outcome of an ended thread: its value, the sums that it has added to each ledger (a shared sum), and its report
+//! lines.
 ghost use Rattle.std.specs.Prelude.{◌≡◌, ◌∷◌, IfOk, IfErr};
 ghost use Rattle.arachne_machine.specs.Outcome.{IsOfItsName};
 
@@ -10,7 +11,7 @@ use std::marker::Model;
 /// The outcome of an ended thread: its value, the totals that it has added to each ledger (a shared sum), and the
 /// report lines of the thread and its descendants.
 ///
-/// The invariant: the outcome is the one that the language's definition gives for the thread of this name in its
+/// As an invariant, this is the outcome that the language's definition gives for the thread of this name in its
 /// program.
 #[derive(Debug, Drop)]
 pub struct Outcome<'p> {
@@ -66,7 +67,7 @@ impl<'p> Outcome<'p> {
         self.contents.value
     }
 
-    /// Returns the value, the ledger sums and the report lines.
+    /// Returns the thread's value, its ledger sums, and the report lines of the thread and its descendants.
     ///
     /// Allocates a list for the lines. If memory is refused, returns the outcome as the error.
     pub fn into_parts(self) -> Result<OutcomeParts, Outcome<'p>>

@@ -7,14 +7,14 @@ use thiserror::Error;
 /// The reason why a thread has paused, which says what the caller must do next.
 #[derive(Drop)]
 pub enum Pause<'p> {
-    /// All steps were used up. Advance the thread again.
+    /// The thread has made all the steps that it was allowed. Call `advance` again to run it on.
     Budget,
-    /// The thread has forked this child, of this class. Take the child and call `forked`, or pass the child to
-    /// `in_place`.
+    /// The thread has forked a child (fields: its class, normal or exclusive, and the child). Take the child and call
+    /// `forked`, or pass the child to `in_place`, which runs it inside this thread's slot.
     Forks(Class, Thread<'p>),
     /// The thread waits to join a child. Pass the child's outcome to `joined`, or pass the child itself to `in_place`.
     Joins,
-    /// The thread asks for the lock of this number. Call `granted` when the thread holds the lock.
+    /// The thread asks for the lock of this number. Get the lock for the thread, then call `granted`.
     Asks(u64),
     /// The thread releases the lock of this number. Free the lock and call `freed`.
     Frees(u64),
@@ -25,7 +25,7 @@ pub enum Pause<'p> {
     Ended,
 }
 
-/// The request at which a thread has paused, as long as its caller has not resumed it; or that the thread has ended.
+/// The request of a paused thread that its caller has not fulfilled yet, or `Ended` if the thread has ended.
 #[derive(Clone, Copy, Debug, PartialEq, Eq)]
 pub enum Pending {
     Forks,
@@ -42,7 +42,7 @@ pub enum Pending {
 /// The reason why an outcome was not joined, with that outcome.
 #[derive(Drop, Error)]
 pub enum NotJoined<O> {
-    /// The outcome belongs to another thread than the awaited child.
+    /// The outcome is not that of the child that the thread waits for.
     #[error("the outcome of another thread")]
     Foreign(O),
     /// Memory was refused.
@@ -60,7 +60,7 @@ impl<O> fmt::Debug for NotJoined<O> {
     }
 }
 
-/// The reason why a child can't run inside this thread's slot, with that child.
+/// The reason why a child can't run inside its parent's thread slot, with that child.
 #[derive(Drop, Error)]
 pub enum NotPlaced<'p> {
     /// The child is not the one that the thread waits to join.

@@ -1,4 +1,4 @@
-//! Keeps children that are to run inside this thread's slot until the thread waits to join them.
+//! Children that were put inside their parent's slot: each begins when its parent waits to join it.
 use crate::frame::Control;
 use crate::line::Ran;
 use crate::placing::Placing;
@@ -7,7 +7,7 @@ use crate::state::State;
 use arachne_program::Class;
 use std::alloc::AllocError;
 
-/// The reason why a child could not be put inside this thread's slot, with that child.
+/// The reason why a child could not be put inside its parent's slot, with that child.
 #[derive(Drop)]
 pub enum Unplaced<'p> {
     /// The child is not the one that the thread waits to join.
@@ -16,7 +16,7 @@ pub enum Unplaced<'p> {
     Memory(Box<State<'p>>),
 }
 
-/// The functions that advance a thread whose slot also holds children that have not begun: the list `placed`, with the
+/// The functions that run a thread inside whose slot children wait that have not begun: the list `placed`, with the
 /// newest child last.
 impl<'p> State<'p> {
     ghost use Rattle.std.specs.Prelude.{◌≡◌, ◌≤◌, None, Some, true, All, IfOk, OnOk, OnErr};
@@ -27,12 +27,12 @@ impl<'p> State<'p> {
     ghost use Rattle.arachne_machine.specs.Suspended.{awaited};
     ghost use Rattle.arachne_machine.specs.Kept.{AdvancesWith, IsKept, Places, StandsBack, TakesUp, Went};
 
-    /// Advances the thread by at most `left` steps, until it pauses, and subtracts the steps that were made from
-    /// `left`.
+    /// Runs the thread until it pauses or has made `left` steps. Subtracts the steps that it makes from `left`.
     ///
-    /// When the thread that makes the steps begins to wait for the last child of `placed`, that child runs here, as a
-    /// call would. If the thread pauses at a fork, returns the forked child. If memory is refused, the thread stays as
-    /// it was before the refused step, which is not subtracted.
+    /// When the innermost thread (the one that makes the next step) begins to wait for the last child of `placed`, that
+    /// child runs inside this slot, as a function call would. If a thread pauses at a fork, returns the forked child
+    /// and its class, otherwise `None`. If memory is refused, returns `Err`, and the thread is as it was before the
+    /// refused step, which is not subtracted from `left`.
     pub fn advance_with<P: Placing>(
         &mut self,
         placed: &mut Vec<Box<State<'p>>>,
@@ -65,7 +65,7 @@ impl<'p> State<'p> {
     }
 
     /// If this state's innermost thread waits for the last child of `placed`, moves that child into this state, to run
-    /// as a call would. Returns whether it has.
+    /// as a function call would. Returns whether it moved a child.
     #[inline(always)]
     fn take_up(
         &mut self,
@@ -84,10 +84,9 @@ impl<'p> State<'p> {
         }
     }
 
-    /// Moves the last child of `placed` into this state, to run as a call would, if this state's innermost thread waits
-    /// for it. Returns whether it has.
+    /// Does the work of `take_up` if this state's innermost thread waits for a child. Returns whether it moved a child.
     ///
-    /// If memory is refused, undoes the step in which the thread began to wait for the child.
+    /// If memory is refused, returns `Err`, and undoes the step in which the thread began to wait for the child.
     #[cold]
     #[inline(never)]
     fn take_newest(
@@ -118,11 +117,12 @@ impl<'p> State<'p> {
         Ok(true)
     }
 
-    /// Puts a child, which the caller hands over, inside this thread's slot to run there.
+    /// Puts `child` inside this thread's slot, to run there as a function call would.
     ///
-    /// If the child was just forked, it begins when its parent waits for it, and before `others`, the children that
-    /// wait inside the child's own slot. If the child is the awaited one, it runs at once, and `others` go to the end
-    /// of `placed`. After an error, only capacities may have changed.
+    /// `others` are the children that wait inside the child's own slot. If this thread has paused at the fork of
+    /// `child`, then `child` goes to the end of `placed`, after `others`, and begins when this thread waits for it. If
+    /// this thread already waits for `child`, then `child` runs at once, and `others` go to the end of `placed`. After
+    /// an error, only capacities may have changed.
     pub fn place(
         &mut self,
         placed: &mut Vec<Box<State<'p>>>,
@@ -143,8 +143,8 @@ impl<'p> State<'p> {
         }
     }
 
-    /// Puts a child that was just forked inside this thread's slot, at the end of `placed`. The child begins when its
-    /// parent waits for it, and before `grandchildren`, the children that wait inside the child's slot.
+    /// Moves `grandchildren`, the children that wait inside the slot of `child`, and then `child`, which was just
+    /// forked, to the end of `placed`. The child begins when its parent waits for it.
     fn wait_with(
         &mut self,
         placed: &mut Vec<Box<State<'p>>>,
@@ -166,8 +166,8 @@ impl<'p> State<'p> {
         Ok(())
     }
 
-    /// Moves the awaited child into this state, to run at once, as a call would. `others`, the children that wait
-    /// inside the child's slot, go to the end of `placed`.
+    /// Moves `child`, for which this thread waits, into this state, to run at once as a function call would. Moves
+    /// `others`, the children that wait inside the child's slot, to the end of `placed`.
     fn go_on_with(
         &mut self,
         placed: &mut Vec<Box<State<'p>>>,

@@ -1,11 +1,12 @@
-//! Traits by which a caller decides, without a pause of the thread, if a forked child gets a slot of its own, and
+//! Callbacks of a running thread. One trait decides if a forked child may get a thread slot of its own, the other
 //! collects the amounts that the thread adds to ledgers (shared sums).
 ghost use Rattle.std.specs.Prelude.{◌≡◌, ℕ, Bool, true, false, IsTrue};
 ghost use Rattle.arachne_machine.specs.Tallying.{GainsAt};
 
 use arachne_program::Class;
 
-/// The caller's decisions at forks. Any decision is correct: it only settles where the child runs.
+/// Decides at each fork if the child may get a thread slot of its own. Any answer is correct: it only affects where the
+/// child runs.
 pub trait Placing {
     /// True if this type lets each child have a slot of its own.
     ghost gives_all: { Bool };
@@ -15,26 +16,27 @@ pub trait Placing {
     fn is_any(&mut self, class: Class) -> bool
         ensures { gives_all ≡ true → IsTrue result };
 
-    /// Returns whether a child that reduces `turns` numbers of a sweep (a parallel reduction) may get a slot of its
-    /// own, as `is_any` does.
+    /// Returns, like `is_any`, whether a child may get a slot of its own. The child reduces `turns` numbers of a sweep
+    /// (a parallel reduction).
     fn is_any_for(&mut self, class: Class, _turns: u64) -> bool
         ensures { gives_all ≡ true → IsTrue result }
     {
         self.is_any(class)
     }
 
-    /// Returns the number by which the run identifies a child that begins inside its parent's slot.
+    /// Returns a tag (the number by which the run identifies a thread) for a child that begins inside its parent's
+    /// slot.
     fn tag(&mut self) -> u64;
 }
 
-/// Collects the amounts that a thread adds to ledgers (shared sums). The caller must add them to the real ledgers
-/// later.
+/// Collects the amounts that a thread adds to ledgers (shared sums). The caller must later add these amounts to the
+/// shared ledgers themselves.
 pub trait Tallying {
     /// The amount that the caller must still add to each ledger, modulo 2^64.
     ghost due_to: { Self → ℕ → ℕ };
 
-    /// Collects `amount` for the ledger (a shared sum) of number `ledger`. If it can't, returns false and changes
-    /// nothing.
+    /// Collects `amount` for the ledger (a shared sum) of number `ledger`. If it can't collect the amount, returns
+    /// false and changes nothing.
     fn take(&mut self, ledger: u64, amount: u64) -> bool
         ensures taken { result ≡ true → GainsAt (due_to self.old) ledger amount (due_to self.new) }
         ensures full { result ≡ false → self.new ≡ self.old };

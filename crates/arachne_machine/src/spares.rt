@@ -5,10 +5,10 @@ use arachne_program::Program;
 use std::alloc::{AllocError, Global};
 use std::marker::Model;
 
-/// The greatest number of states in a store, and of boxes for outcomes.
+/// The greatest number of thread states that a store keeps, and of boxes for outcomes.
 const MOST: usize = 64;
 
-/// The memory of ended threads of a core, kept for its new threads.
+/// A store for the memory of ended threads, which new threads reuse.
 ///
 /// It keeps the boxed states of ended threads, with the capacity of their vectors, and the boxes of outcomes that were
 /// joined.
@@ -30,7 +30,7 @@ impl<'p> Model for Spares<'p> {
 }
 
 impl<'p> Spares<'p> {
-    /// Returns an empty store. Takes no memory.
+    /// Returns a store without any memory to reuse. Allocates no memory.
     pub fn new(alloc: Global) -> Spares<'p> {
         Spares {
             most: MOST,
@@ -39,7 +39,7 @@ impl<'p> Spares<'p> {
         }
     }
 
-    /// Returns a store that keeps nothing, so that no memory is reused.
+    /// Returns a store that never keeps anything, so that no memory is reused.
     pub(crate) fn none(alloc: Global) -> Spares<'p> {
         Spares {
             most: 0,

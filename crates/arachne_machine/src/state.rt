@@ -12,7 +12,8 @@ use arachne_program::{Class, Expr, Name, Program, Sequence};
 use std::alloc::{AllocError, Global};
 use std::mem::replace;
 
-/// The data of a thread's report line: its name, its tag and kind of slot, and how often it held each lock.
+/// A thread's line in the report of a run: its name, its tag (identifying number), the kind of thread slot in which it
+/// runs, and how often it held each lock.
 #[derive(Drop)]
 pub struct Own {
     pub name: Name,
@@ -25,7 +26,7 @@ impl Own {
     ghost use Rattle.std.specs.Prelude.{◌≡◌};
     ghost use Rattle.arachne_machine.specs.Strands.{own_line};
 
-    /// Returns empty data, which belong to no thread. Takes no memory.
+    /// Returns a placeholder that belongs to no thread. Allocates no memory.
     fn vacant(alloc: Global) -> Own {
         Own {
             name: Name::root(alloc),
@@ -37,7 +38,7 @@ impl Own {
         }
     }
 
-    /// Moves the thread's report line out, and leaves an empty name and no counts in its stead.
+    /// Moves the report line out of `self`, in which an empty name and no counts remain.
     #[inline(always)]
     pub fn take_line(&mut self, alloc: Global) -> ThreadLine
         ensures line { result ≡ own_line self.old }
@@ -68,42 +69,48 @@ impl Own {
     }
 }
 
-/// The state of a thread between two steps, together with the threads that run inside its slot.
+/// The state of an interpreted thread between two steps, together with the children that run inside its thread slot.
+///
+/// A child that gets no slot of its own runs inside its parent's slot, and the parent waits for it as for a function
+/// call. Of the threads nested in one slot, the *outermost* is the one that the slot was given to, and the *innermost*
+/// makes the next step.
 #[derive(Drop)]
 pub struct State<'p> {
     pub program: &'p Program,
     pub alloc: Global,
-    /// The data of the outermost thread's report line.
+    /// The outermost thread's line in the report of a run.
     pub own: Own,
-    /// The report lines of the outermost thread's descendants, in order: of those that were joined, and of those that
-    /// run inside its slot.
+    /// The report lines of the outermost thread's descendants that were joined or run inside its slot, in the report's
+    /// order.
     pub lines: Lines,
     /// For each ledger (a shared sum), the total that all threads of this state have added, modulo 2^64.
     pub sums: Vec<u64>,
     /// The threads that each wait for a child that runs inside them, the outermost first.
     pub parents: Vec<Parent<'p>>,
-    /// The part of the state that belongs to the innermost thread, which makes the next step.
+    /// The innermost thread's first frame, its number of forks, and the index of its report line.
     pub level: Level,
-    /// The values of the innermost thread's variables. The variables of each waiting thread are the first few of them.
+    /// The values of the innermost thread's variables. Those of each thread in `parents` are a prefix of this list.
     pub environment: Vec<u64>,
     /// The stack frames of all threads of this state, those of the outermost thread first. The newest frame is the
     /// last.
     pub frames: Vec<Frame<'p>>,
+    /// The innermost thread's next action, or the request at which it has paused.
     pub control: Control<'p>,
 }
 
-/// The result of a step, or of a part of one.
+/// The result of one step of a thread, or of a part of the step.
 #[derive(Drop)]
 pub enum Progress<'p> {
-    /// The step has yielded this value, which goes to the newest frame.
+    /// The step has computed this value, which must next be passed to the newest stack frame.
     Value(u64),
     /// The step was made. The next step begins this expression.
     Begin(&'p Expr),
     /// The step was made. The state's field `control` has the next action.
     Goes,
-    /// The step was made. The thread pauses, but not at a fork.
+    /// The step was made. The thread pauses, for another reason than a fork, or has ended.
     Stops,
-    /// The step was made. It has forked this child, of this class.
+    /// The step has forked a child. Fields: the child's class (normal, or exclusive: with a core for itself), and its
+    /// state.
     Forks(Class, Box<State<'p>>),
 }
 
@@ -147,7 +154,7 @@ impl<'p> State<'p> {
         Ok(state)
     }
 
-    /// Returns an empty state, which belongs to no thread of the program.
+    /// Returns a placeholder state, which belongs to no thread of `program`.
     #[cold]
     #[inline(never)]
     pub fn vacant(alloc: Global, program: &'p Program) -> State<'p> {
@@ -165,10 +172,10 @@ impl<'p> State<'p> {
         }
     }
 
-    /// Makes this the state of a thread that has not begun. The capacities of its lists stay.
+    /// Overwrites this state with that of a new thread, which has not begun. The lists keep their capacities.
     ///
-    /// Reserves room for three more variables: the current number of a sweep (a parallel reduction), and the two
-    /// variables that passing a value can add.
+    /// Reserves room for three more variables: the current number of a sweep (a parallel reduction), and the two that
+    /// `give` can add.
     fn renew(
         &mut self,
         program: &'p Program,
@@ -193,11 +200,11 @@ impl<'p> State<'p> {
         Ok(())
     }
 
-    /// Advances the thread by at most `left` steps, until it pauses, and subtracts the steps that were made from
-    /// `left`.
+    /// Runs the thread until it pauses or has made `left` steps. Subtracts the steps that it makes from `left`.
     ///
-    /// If the thread pauses at a fork, returns the forked child. If memory is refused, the thread stays as it was
-    /// before the refused step, which is not subtracted.
+    /// A step is the evaluation of one node of an expression. If the thread pauses at a fork, returns the forked child
+    /// and its class, otherwise `None`. If memory is refused, returns `Err`, and the thread is as it was before the
+    /// refused step, which is not subtracted from `left`.
     pub fn advance<P: Placing>(
         &mut self,
         left: &mut u32,
@@ -237,7 +244,7 @@ impl<'p> State<'p> {
         Ok(None)
     }
 
-    /// Returns the next expression, or `None` if the next action is not to begin an expression.
+    /// Returns the expression that the next step begins, or `None` if the next action is another one.
     #[inline(always)]
     fn beginning(&self) -> Option<&'p Expr>
         ensures current { current_in result self.now ≡ self.now }
@@ -249,7 +256,7 @@ impl<'p> State<'p> {
         }
     }
 
-    /// Makes the beginning of the expression in `begins` the next action. If `begins` is `None`, changes nothing.
+    /// Stores in `control` that the next step begins the expression `begins`. If `begins` is `None`, changes nothing.
     #[inline(always)]
     fn settle(&mut self, begins: Option<&'p Expr>)
         ensures { self.new ≡ current_in begins.entry self.old }
@@ -259,12 +266,12 @@ impl<'p> State<'p> {
         }
     }
 
-    /// Makes a step, and those later steps that it can make in the same call. Subtracts only the later steps from
-    /// `left`.
+    /// Makes one step, and possibly further steps in the same call. Subtracts only the further steps from `left`, since
+    /// the caller has already subtracted the first.
     ///
     /// The step begins the expression `begins`. If `begins` is `None`, the step begins a part of a sweep (a parallel
-    /// reduction), or resumes with a value that was kept when memory was refused. If the step yields a value, passes
-    /// that value to the newest frame.
+    /// reduction), or uses a value that an earlier step has stored in `control`. If the step yields a value, passes
+    /// that value to the newest stack frame.
     #[inline(always)]
     fn make<P: Placing>(
         &mut self,
@@ -290,7 +297,7 @@ impl<'p> State<'p> {
         }
     }
 
-    /// Begins the expression `begins`. If `begins` is `None`, calls `resume`.
+    /// Begins the expression `begins`, or calls `resume` if `begins` is `None`.
     #[inline(always)]
     fn begin_next<P: Placing>(
         &mut self,
@@ -312,8 +319,8 @@ impl<'p> State<'p> {
         }
     }
 
-    /// Resumes with a value that an earlier step kept when memory was refused, or begins a part of a sweep (a reduction
-    /// over a range that is halved among threads).
+    /// Returns the value that an earlier step has stored in `control`, or begins the part of a sweep (a parallel
+    /// reduction) that is stored there.
     #[inline(always)]
     fn resume<P: Placing>(
         &mut self,
@@ -335,7 +342,8 @@ impl<'p> State<'p> {
         }
     }
 
-    /// Returns the request at which the thread has paused, or `None` if the thread can make a step.
+    /// Returns the request at which the innermost thread has paused, or that it has ended; `None` if it can make a
+    /// step.
     pub fn pending(&self) -> Option<Pending>
         ensures { result ≡ pending_of self.now.control }
     {
@@ -350,7 +358,7 @@ impl<'p> State<'p> {
         }
     }
 
-    /// Returns the name of the innermost thread, which makes the next step.
+    /// Returns the name of the innermost of the threads nested in this slot, the one that makes the next step.
     #[inline(always)]
     pub fn running_name(&self) -> &Name
         requires { HasLine self.now }
@@ -362,7 +370,8 @@ impl<'p> State<'p> {
         self.lines.at(self.level.place).name()
     }
 
-    /// Returns the tag (identifying number) of the innermost thread, which makes the next step.
+    /// Returns the tag (identifying number) of the innermost of the threads nested in this slot, the one that makes the
+    /// next step.
     pub fn running_tag(&self) -> u64
         requires { HasLine self.now }
         ensures { result ≡ (top self.now).own.label.tag }

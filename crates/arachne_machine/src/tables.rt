@@ -1,4 +1,4 @@
-//! Lists with one number for each ledger or lock: makes them, all 0, and adds to their numbers.
+//! Functions for lists that have one number for each ledger (a shared sum) or each lock.
 ghost use Rattle.std.specs.Prelude.{◌≡◌, ℕ, ◌+◌, ◌==◌, if◌then◌else◌, ◌++◌, length, IfOk, OnOk, OnErr};
 ghost use Rattle.arachne_program.specs.Effects.{tabulated};
 

@@ -39,7 +39,7 @@ use std::snapshot::Snapshot;
 pub struct Thread<'p> {
     /// The state of the thread, and of the children that have begun inside its slot.
     state: Box<State<'p>>,
-    /// The children that the caller has put inside this thread's slot and that have not begun, the newest last.
+    /// The children that the caller has put inside this thread's slot and that have not begun yet, the newest last.
     placed: Vec<Box<State<'p>>>,
 }
 
@@ -75,7 +75,8 @@ impl<'p> Thread<'p> {
         Ok(thread_of(state))
     }
 
-    /// Returns the number by which the run identifies this thread, not a child that runs inside its slot.
+    /// Returns the tag (the number by which the run identifies a thread) of this thread, not of a child that runs
+    /// inside its slot.
     pub fn tag(&self) -> u64
         ensures { result ≡ (whole self.now).label.tag }
     {
@@ -104,7 +105,8 @@ impl<'p> Thread<'p> {
         self.state.running_tag()
     }
 
-    /// Sets the number by which the run identifies this thread. The thread must not have begun.
+    /// Sets the number by which the run identifies this thread. The caller must not call this while a child runs inside
+    /// the thread's slot.
     pub fn set_tag(&mut self, tag: u64)
         requires { self.old.parents ≡ [] }
         ensures tagged { self.new ≡ record self.old { running = with_tag tag self.old.running } }
@@ -114,8 +116,8 @@ impl<'p> Thread<'p> {
         self.state.own.label.tag = tag;
     }
 
-    /// Records in the thread's report line that a worker found its slot later, while it waited for one. The thread must
-    /// not have begun.
+    /// Records, for the report, that this thread got its slot only after it had waited for one. The caller must not
+    /// call this while a child runs inside that slot.
     pub fn set_spilled(&mut self)
         requires { self.old.parents ≡ [] }
         ensures spilled { self.new ≡ record self.old { running = spilled_of self.old.running } }
@@ -124,8 +126,8 @@ impl<'p> Thread<'p> {
         self.state.own.label.ran = Ran::Spill;
     }
 
-    /// Returns the request at which this thread, or a child that runs inside its slot, has paused. Returns `None` if it
-    /// can make a step.
+    /// Returns the request at which this thread, or a child that runs inside its slot, has paused. Returns `None` if
+    /// that thread can make a step.
     pub fn pending(&self) -> Option<Pending>
         ensures pending { result ≡ pending_in self.now }
         ensures next { IsNext self.now.running.pending self.now.running.trace }
@@ -135,8 +137,8 @@ impl<'p> Thread<'p> {
         self.state.pending()
     }
 
-    /// Advances the thread by at most `budget` steps, until it pauses. Each node of an expression is a step, and each
-    /// fork a pause.
+    /// Runs the thread until it pauses or has made `budget` steps. Evaluating one node of an expression is a step. The
+    /// thread pauses at each fork.
     ///
     /// If memory is refused, the thread stays as it was before the refused step, and the caller may call this again.
     pub fn advance(&mut self, budget: u32) -> Result<Pause<'p>, AllocError>
@@ -157,12 +159,12 @@ impl<'p> Thread<'p> {
         self.advance_within(&mut left, &mut spares, &mut Everywhere)
     }
 
-    /// Advances the thread by at most `left` steps, until it pauses, and subtracts the steps that were made from
-    /// `left`. If the pause is `Budget`, all steps were made; at any other pause, at least one.
+    /// Runs the thread until it pauses or has made `left` steps. Subtracts the steps that it makes from `left`, which
+    /// is 0 after the pause `Budget`; before any other pause, the thread makes at least one step.
     ///
-    /// `places` decides at each fork: if it refuses the child a slot of its own, the child runs inside this thread's
-    /// slot later, without a pause. Other children reuse memory of `spares`. If memory is refused, the thread stays as
-    /// it was before the refused step, as with `advance`.
+    /// `places` decides at each fork if the child gets a slot of its own. If not, the thread doesn't pause, and the
+    /// child runs inside this thread's slot later. Children with a slot of their own reuse memory of `spares`. If
+    /// memory is refused, the thread stays as it was before the refused step, as with `advance`.
     pub fn advance_within<P: Placing>(
         &mut self,
         left: &mut u32,
@@ -191,8 +193,8 @@ impl<'p> Thread<'p> {
         Ok(pause_of(forked, self.pending()))
     }
 
-    /// Advances the thread like `advance_within`, but doesn't pause at additions to ledgers (shared sums) whose amounts
-    /// `due` collects.
+    /// Runs the thread like `advance_within`, but doesn't pause at an addition to a ledger (a shared sum) if `due`
+    /// collects the amount.
     pub fn advance_tallying<P: Placing, D: Tallying>(
         &mut self,
         left: &mut u32,
@@ -225,7 +227,7 @@ impl<'p> Thread<'p> {
     }
 
     /// If the thread has paused to add to a ledger (a shared sum) and `due` collects the amount, resumes the thread.
-    /// Returns whether it has.
+    /// Returns whether it resumed the thread.
     #[inline(always)]
     fn tally<D: Tallying>(&mut self, due: &mut D) -> bool
         ensures made { result ≡ true → (ledger amount : ℕ) × IsTallied ledger amount self.old self.new × GainsAt (D.due_to due.old) ledger amount (D.due_to due.new) }
@@ -241,7 +243,8 @@ impl<'p> Thread<'p> {
         true
     }
 
-    /// Advances the thread by at most `left` steps, until it pauses. If it pauses at a fork, returns the forked child.
+    /// Runs the thread until it pauses or has made `left` steps. If it pauses at a fork, returns the forked child and
+    /// its class, otherwise `None`.
     #[inline(always)]
     fn stop<P: Placing>(
         &mut self,
@@ -263,7 +266,7 @@ impl<'p> Thread<'p> {
         Ok(forked)
     }
 
-    /// Resumes a thread that paused at a fork. Call it after you have taken the child. Takes no memory.
+    /// Resumes a thread that paused at a fork. Call it after you have taken the child. Allocates no memory.
     pub fn forked(&mut self)
         requires { pending_in self.old ≡ Some pause.Forks }
         ensures whole { SameWhole self.old self.new }
@@ -280,9 +283,9 @@ impl<'p> Thread<'p> {
 
     /// Runs a child inside this thread's slot, as a function call would.
     ///
-    /// At a fork, `child` must be the child that was just forked; it begins when its parent waits for it. At a join,
-    /// `child` must be the awaited child, and runs at once. After an error nothing has changed, and the error has the
-    /// child.
+    /// If this thread has paused at a fork, `child` must be the child that it forked, which begins when this thread
+    /// waits for it. If this thread waits to join a child, `child` must be that child, which runs at once. After an
+    /// error nothing has changed, and the error has the child.
     pub fn in_place(&mut self, child: Thread<'p>) -> Result<(), NotPlaced<'p>>
         requires pending { IsPlacing (pending_in self.old) }
         requires child { MayBePlaced self.old child }
@@ -304,7 +307,7 @@ impl<'p> Thread<'p> {
         }
     }
 
-    /// Resumes a thread that paused to ask for a lock. Call it when the thread holds the lock. Takes no memory.
+    /// Resumes a thread that paused to ask for a lock. Call it when the thread holds the lock. Allocates no memory.
     pub fn granted(&mut self)
         requires { IsAsk (pending_in self.old) }
         ensures whole { SameWhole self.old self.new }
@@ -319,7 +322,7 @@ impl<'p> Thread<'p> {
         self.state.granted();
     }
 
-    /// Resumes a thread that paused to release a lock. Call it after you have freed the lock. Takes no memory.
+    /// Resumes a thread that paused to release a lock. Call it after you have freed the lock. Allocates no memory.
     pub fn freed(&mut self)
         requires { IsFree (pending_in self.old) }
         ensures whole { SameWhole self.old self.new }
@@ -334,8 +337,8 @@ impl<'p> Thread<'p> {
         self.state.freed();
     }
 
-    /// Resumes a thread that paused to add to a ledger (a shared sum). Call it after you have added the amount. Takes
-    /// no memory.
+    /// Resumes a thread that paused to add to a ledger (a shared sum). Call it after you have added the amount.
+    /// Allocates no memory.
     pub fn tallied(&mut self)
         requires { IsTally (pending_in self.old) }
         ensures whole { SameWhole self.old self.new }
@@ -351,8 +354,8 @@ impl<'p> Thread<'p> {
         self.state.tallied();
     }
 
-    /// Joins the awaited child, whose outcome is `outcome`, and resumes the thread. After an error nothing has changed,
-    /// and the error has the outcome.
+    /// Joins the child that this thread waits for, whose outcome is `outcome`, and resumes the thread. After an error
+    /// nothing has changed, and the error has the outcome.
     pub fn joined(&mut self, outcome: Outcome<'p>) -> Result<(), NotJoined<Outcome<'p>>>
         requires pending { pending_in self.old ≡ Some pause.Joins }
         requires program { source_of outcome.program ≡ source_of (whole self.old).program }
@@ -375,7 +378,7 @@ impl<'p> Thread<'p> {
         }
     }
 
-    /// Joins the awaited child like `joined`, but takes its outcome in a box, which `spares` keeps.
+    /// Joins like `joined`, but takes the child's outcome in a box, which `spares` keeps for a later outcome.
     pub fn joined_into(
         &mut self,
         outcome: DetachedOutcome,
@@ -408,8 +411,8 @@ impl<'p> Thread<'p> {
         }
     }
 
-    /// Joins the child whose outcome is `contents`. Returns `Foreign` if that is not the awaited child. After an error
-    /// nothing has changed.
+    /// Joins the child whose outcome is `contents`. Returns the error `Foreign` if this thread doesn't wait for that
+    /// child. After an error nothing has changed.
     #[inline(always)]
     fn join(&mut self, program: &Snapshot<Program>, contents: &mut Contents) -> Result<(), Unjoined>
         requires pending { pending_in self.old ≡ Some pause.Joins }
@@ -430,7 +433,7 @@ impl<'p> Thread<'p> {
         self.state.join(contents)
     }
 
-    /// Returns the outcome of a thread that has ended. Takes no memory.
+    /// Returns the outcome of a thread that has ended. Allocates no memory.
     pub fn finish(self) -> Outcome<'p>
         requires { pending_in self ≡ Some pause.Ended }
         ensures program { result.program ≡ (whole self.entry).program }
@@ -445,7 +448,8 @@ impl<'p> Thread<'p> {
         }
     }
 
-    /// Returns the outcome of a thread that has ended, in the box `contents`. `spares` keeps the thread's other memory.
+    /// Returns the outcome of a thread that has ended, in the box `contents`. `spares` keeps the thread's other memory
+    /// for later threads.
     pub fn finish_into(self, contents: Box<Contents>, spares: &mut Spares<'p>) -> DetachedOutcome
         requires { pending_in self ≡ Some pause.Ended }
         ensures program { result.program ≡ (whole self.entry).program }

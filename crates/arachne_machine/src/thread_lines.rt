@@ -8,7 +8,8 @@ use crate::line_list::LineList;
 use std::alloc::{AllocError, Global};
 use std::marker::Model;
 
-/// Report lines in order, in several lists. Only `into_vec` and `to_vec` copy them into one.
+/// The report lines of all threads of a run, in the report's order, in several lists. Only `into_vec` and `to_vec` copy
+/// them into one.
 #[derive(Debug, Drop)]
 pub struct ThreadLines {
     count: usize,
@@ -29,7 +30,7 @@ impl Model for ThreadLines {
 }
 
 impl ThreadLines {
-    /// Returns the lines of `lists`. `count` must be the number of lines in all of them together.
+    /// Returns the concatenation of `lists`. `count` must be the number of lines in all lists together.
     pub fn of(lists: Vec<LineList>, count: usize) -> ThreadLines
         requires { count ≡ length (lines_in lists.items) }
         ensures { result ≡ lines_in lists.items }
@@ -44,14 +45,14 @@ impl ThreadLines {
         self.count
     }
 
-    /// Returns true if there is no line.
+    /// Returns whether there is no line.
     pub fn is_empty(&self) -> bool
         ensures { result ≡ (length self.now == 0) }
     {
         self.count == 0
     }
 
-    /// Returns the lines in order.
+    /// Returns an iterator over the lines, in the report's order.
     pub fn iter(&self) -> LinesLeft<'_>
         ensures { result ≡ self.now }
     {
@@ -84,7 +85,7 @@ impl ThreadLines {
     }
 }
 
-/// An iterator over report lines in order.
+/// An iterator over the report lines of a `ThreadLines`, in order.
 #[derive(Drop)]
 pub struct LinesLeft<'a> {
     /// The lists that still have lines to return.
@@ -103,15 +104,15 @@ impl<'a> Model for LinesLeft<'a> {
     ghost view = { λ l. lines_from l.place l.lists.now };
 }
 
-/// A line, and the position of the next one: the lists that have lines left, and an index into the first of them.
+/// A line, and the position behind it: the remaining lists, and an index into the first of them.
 struct FirstLine<'a> {
     line: LineView<'a>,
     lists: &'a [LineList],
     place: usize,
 }
 
-/// Returns the line at index `place` of the first list or, if there is none, the first line of the later lists. Also
-/// returns the position behind that line.
+/// Returns the line at index `place` of the first list or, if there is none, the first line of the later lists; with
+/// it, the position behind that line. Returns `None` if no line is left.
 #[inline(always)]
 fn first_line<'a>(lists: &'a [LineList], place: usize) -> Option<FirstLine<'a>>
     ensures { MatchOption result (lines_from place lists.now ≡ [])

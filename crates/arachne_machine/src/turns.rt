@@ -20,7 +20,8 @@ impl<'p> State<'p> {
     /// Continues a fold (a sequential loop) over the numbers `next..end`. `so_far` is the value after the earlier
     /// iterations.
     ///
-    /// First runs all iterations that it can run in one call, then begins the next one, or ends the fold.
+    /// First runs those iterations that need no more steps than are left and have no effects, each in one call. Then
+    /// begins the next iteration, or ends the fold.
     pub fn turn_fold(
         &mut self,
         next: u64,
@@ -43,8 +44,8 @@ impl<'p> State<'p> {
         self.begin_fold(next, end, body, so_far, left)
     }
 
-    /// Runs iterations of a fold (a sequential loop), each in one call, as long as it can. Returns the next number, and
-    /// the value so far.
+    /// Runs iterations of a fold (a sequential loop), each in one call, until one has effects or needs more steps than
+    /// are left. Returns the number of the next iteration, and the value so far.
     #[inline(always)]
     fn fold_at_once(
         &mut self,
@@ -97,7 +98,7 @@ impl<'p> State<'p> {
         value
     }
 
-    /// Begins an iteration of a fold, or ends the fold.
+    /// Begins the iteration for `next` of a fold (a sequential loop), or ends the fold if `next` has reached `end`.
     #[inline(always)]
     fn begin_fold(
         &mut self,
@@ -128,7 +129,7 @@ impl<'p> State<'p> {
     }
 
     /// Continues a sweep (a parallel reduction) over the numbers `next..end`. `so_far` is the reduction of the earlier
-    /// values. Otherwise like `turn_fold`.
+    /// values. Otherwise does the same as `turn_fold`.
     #[inline(always)]
     pub fn turn_sweep(
         &mut self,
@@ -153,8 +154,8 @@ impl<'p> State<'p> {
         self.begin_sweep(reduction, next, end, body, so_far, left)
     }
 
-    /// Runs iterations of a sweep (a parallel reduction), each in one call, as long as it can. Returns the next number,
-    /// and the value so far.
+    /// Runs iterations of a sweep (a parallel reduction), each in one call, until one has effects or needs more steps
+    /// than are left. Returns the number of the next iteration, and the value so far.
     #[inline(always)]
     fn sweep_at_once(
         &mut self,
@@ -207,7 +208,8 @@ impl<'p> State<'p> {
         value
     }
 
-    /// Begins an iteration of a sweep, or ends the sweep.
+    /// Begins the iteration for `next` of a sweep (a parallel reduction), or ends the sweep if `next` has reached
+    /// `end`.
     #[inline(always)]
     fn begin_sweep(
         &mut self,

@@ -1,4 +1,4 @@
-//! Evaluates expressions without effects by plain recursion, as long as steps are left.
+//! Evaluates expressions without effects in one recursive call, if they need no more steps than are left.
 ghost use Rattle.std.specs.Prelude.{◌≡◌, ◌≤◌, ◌+◌, ◌-◌, vec_len, vec_capacity, IfSome, MatchOption};
 ghost use Rattle.arachne_program.specs.Program.{source_of, tree_of};
 ghost use Rattle.arachne_program.specs.Value.{with_newest};
@@ -7,9 +7,10 @@ ghost use Rattle.arachne_machine.specs.Pure.{IsWorth};
 use crate::lookup::{item_in, length_in, variable_in};
 use arachne_program::{Expr, Program};
 
-/// Returns the value of `body`, the body of a loop. Returns `None` if it has effects or needs more steps than are left.
+/// Returns the value of `body`, the body of a loop. Returns `None` if `body` has effects or needs more than `left`
+/// steps.
 ///
-/// If there is a value, subtracts the steps of the body from `left`.
+/// If it returns a value, subtracts the steps of `body` from `left`.
 #[inline(always)]
 pub fn body_at_once(
     program: &Program,
@@ -32,7 +33,7 @@ pub fn body_at_once(
     Some(value)
 }
 
-/// Returns the value of `expr`, or `None` if it needs more steps than are left.
+/// Returns the value of `expr`, or `None` if that takes more than `left` steps.
 ///
 /// Evaluates only numbers, variables, lengths and items of arrays, operations, conditionals and `let`. Returns `None`
 /// for any other expression. Leaves the variables in `environment` unchanged.

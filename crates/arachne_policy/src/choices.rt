@@ -11,9 +11,9 @@ pub struct CoreLoad {
 
 /// Returns the core for a new thread: of two random entries of `loads`, the one with fewer threads.
 ///
-/// With n entries, the first is picked by the low 32 bits of `word` modulo n, the second by the high 32 bits modulo n.
-/// On a tie, the core of the first is returned. This method, the power of two random choices, is the one by which the
-/// original Arachne places new threads.
+/// With n entries, the low 32 bits of `word`, modulo n, select the first entry, and the high 32 bits, modulo n, the
+/// second. On a tie, returns the core of the first. This method, the power of two random choices, is the one by which
+/// the original Arachne places new threads.
 pub fn two_choices(word: u64, loads: &[CoreLoad]) -> u8
     requires { 0 < length loads.now }
     ensures formula { result ≡ chosen_core word loads.now }

@@ -12,9 +12,9 @@ use std::marker::Model;
 /// Judges samples (measurements of one period) one after another: advises to add a core if the load is high, and to
 /// remove one if the utilisation has fallen.
 ///
-/// A core is added if a scan of a core sees too many runnable threads on average. The utilisation at that time becomes
-/// the threshold for the new number of cores. A core is removed if the utilisation is below that threshold by more than
-/// the hysteresis. The load estimator of the original Arachne has this form.
+/// It advises to add a core if a scan of a core sees too many runnable threads on average. The utilisation at that time
+/// becomes the threshold for the new number of cores. It advises to remove a core if the utilisation is below that
+/// threshold by more than the hysteresis. The load estimator of the original Arachne has this form.
 #[derive(Clone, Debug, Drop)]
 pub struct Estimator {
     up: u64,
@@ -39,8 +39,8 @@ impl Estimator {
     /// Creates an estimator that has judged no sample yet.
     ///
     /// It advises to add a core, up to `max` cores, if a scan of a core sees more than `up` thousandths of a runnable
-    /// thread on average. It advises to remove one if the utilisation is below the threshold by more than `hysteresis`
-    /// thousandths of a core.
+    /// thread on average. It advises to remove a core if the utilisation is below the threshold for the present number
+    /// of cores by more than `hysteresis` thousandths of a core.
     pub fn new(up: u64, hysteresis: u64, max: u8) -> Self
         requires { max ≤ most_cores }
         ensures settings { result.settings ≡ record { up = up; hysteresis = hysteresis; max = max } }
@@ -60,8 +60,8 @@ impl Estimator {
         }
     }
 
-    /// Creates an estimator with the thresholds that another estimator has learnt. The threshold of n cores is at index
-    /// n - 1.
+    /// Creates an estimator with the thresholds that another estimator has learnt, in thousandths of a core. The
+    /// threshold for n cores is at index n - 1.
     pub fn resume(up: u64, hysteresis: u64, max: u8, thresholds: &[u64; MAX_CORES]) -> Self
         requires { max ≤ most_cores }
         ensures settings { result.settings ≡ record { up = up; hysteresis = hysteresis; max = max } }
@@ -75,18 +75,18 @@ impl Estimator {
         }
     }
 
-    /// Returns all that the estimator has learnt from its samples: the thresholds. The threshold of n cores is at index
-    /// n - 1.
+    /// Returns the thresholds, in thousandths of a core: all that the estimator has learnt from its samples. The
+    /// threshold for n cores is at index n - 1.
     pub fn thresholds(&self) -> &[u64; MAX_CORES]
         ensures { result.now ≡ self.now.thresholds }
     {
         &self.thresholds
     }
 
-    /// Returns the advice on a sample. If the advice is `Add`, the sample's utilisation becomes the threshold by which
-    /// the estimator later advises to give that core back.
+    /// Returns the advice on `sample`. If the advice is `Add`, the sample's utilisation becomes the threshold below
+    /// which the estimator later advises to give that core back.
     ///
-    /// Returns `Err`, and changes nothing, if the sample cannot have been measured.
+    /// If `sample` has values that no measurement can have, returns `Err`, and changes nothing.
     pub fn estimate(&mut self, sample: Sample) -> Result<Advice, BadSample>
         ensures good { is_ok result ≡ is_good self.old.settings.max sample }
         ensures advice { IfOk result (λ a. a ≡ advice_by self.old.settings (threshold_at self.old) sample) }
@@ -98,8 +98,8 @@ impl Estimator {
         ensures history { (past : List Sample) → StandsFor self.old past
             → IfOk result (λ a. (a ≡ advice self.old.settings past sample) × StandsFor self.new (sample ∷ past)) }
 
-        // The advice is not to give back a core that was added, if the utilisation has since fallen by no more than the
-        // hysteresis.
+        // After a core was added, the advice is not to give it back as long as the utilisation has fallen by no more
+        // than the hysteresis since then.
         ensures hysteresis { (past : List Sample) (added : Sample) → StandsFor self.old past
             → RecordStands self.old.settings past added
             → sample.cores ≡ added.cores + 1
@@ -116,7 +116,8 @@ impl Estimator {
         Ok(advice)
     }
 
-    /// Returns the advice on a good sample, by the present thresholds.
+    /// Returns the advice on `sample`, by the present thresholds. The caller must pass a sample that can have been
+    /// measured.
     fn advise(&self, sample: &Sample) -> Advice
         requires { is_good self.now.settings.max sample.now ≡ true }
         ensures { result ≡ advice_by self.now.settings (threshold_at self.now) sample.now }

@@ -9,10 +9,10 @@ ghost use Rattle.arachne_policy.specs.Sample.{most_counted};
 ghost use Rattle.arachne_policy.specs.State.{most_cores, State, after, StandsFor, HasJudged};
 ghost use Rattle.arachne_policy.specs.Advice.{Settings, threshold, advice, advices, NoneAdded, RecordStands};
 
-/// A threshold is set by the last sample whose advice was `Add`.
+/// The last sample whose advice was `Add` sets the threshold for the number of cores after that addition.
 ///
-/// The threshold of `cores + 1` cores is the utilisation of the last sample of `cores` cores whose advice was `Add`. If
-/// there was no such sample, the threshold is the utilisation of `cores` busy cores.
+/// The threshold for `cores + 1` cores is the utilisation of the last sample of `cores` cores whose advice was `Add`.
+/// If there was no such sample, the threshold is the utilisation of `cores` busy cores.
 pub fn threshold_is_of_last_add()
     ensures recorded { (settings : Settings) (past : List Sample) (added : Sample)
         → RecordStands settings past added
@@ -24,9 +24,9 @@ pub fn threshold_is_of_last_add()
 
 /// Samples are judged one after another.
 ///
-/// A list of samples gets one advice for each: the advice on that sample, after all samples before it. The advices on a
-/// list, followed by the advice on one more sample by the thresholds after that list, are the advices on the longer
-/// list.
+/// A list of samples gets one advice for each: the advice on that sample, after all samples before it. If one more
+/// sample is added to a list, the advices on the longer list are those on the shorter list, followed by the advice on
+/// the new sample by the thresholds after the shorter list.
 pub fn advices_are_in_turn()
     ensures each_once { (settings : Settings) (samples : List Sample)
         → length (advices settings samples) ≡ length samples }
@@ -42,7 +42,7 @@ pub fn advices_are_in_turn()
         → HasJudged settings (samples ++ s ∷ []) (answers ++ a ∷ []) new }
 {}
 
-/// The limits in the code equal those in the definitions.
+/// The limits in the code equal those in the contracts' definitions.
 pub fn limits_are_the_definitions()
     ensures cores { MAX_CORES ≡ most_cores }
     ensures counts { MAX_COUNT ≡ most_counted }

@@ -1,7 +1,7 @@
-//! Decisions about cores: which core gets a new thread, when to ask for a core and when to give one back, and whether a
-//! list of orders to grant or release cores is valid.
+//! Decisions about cores: which core gets a new thread, when to ask for a core and when to give one back, and if a list
+//! of orders to grant or release cores is valid.
 //!
-//! Every call is a pure function of numbers: none takes memory, none waits, and none knows the table of threads.
+//! Every call is a pure function of numbers: no call allocates, waits, or uses the table of threads.
 #![tactic(auto)]
 
 mod choices;

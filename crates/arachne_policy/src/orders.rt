@@ -15,7 +15,7 @@ pub enum OrderKind {
 
 /// An order to grant one core to the runtime or to take it back.
 ///
-/// The order is due when `after` slices (a thread's steps at a time) have ended on all cores together.
+/// The order is due after `after` slices have ended on all cores together. A slice is some steps of one thread.
 #[derive(Clone, Copy, Debug, PartialEq, Eq)]
 pub struct CoreOrder {
     pub after: u64,
@@ -23,7 +23,7 @@ pub struct CoreOrder {
     pub core: u64,
 }
 
-/// The reason why a list may not contain an order.
+/// The reason why an order makes a list of orders invalid.
 #[derive(Clone, Copy, Debug, PartialEq, Eq, Error)]
 pub enum OrderFaultKind {
     #[error("no such core")]
@@ -43,8 +43,8 @@ pub struct OrderFault {
 }
 
 impl CoreOrder {
-    /// Returns the fault of this order, or `None` if it has none, on a machine of `cores` cores. The order before it is
-    /// due after `previous` slices.
+    /// Returns the fault of this order on a machine of `cores` cores, or `None` if it has none. `previous` is the
+    /// number of slices (some steps of one thread each) after which the order before it is due.
     fn fault(&self, cores: u64, previous: u64) -> Option<OrderFaultKind>
         ensures { result ≡ order_fault cores previous self.now }
     {
@@ -63,8 +63,8 @@ impl CoreOrder {
 /// Checks that a list of orders is valid on a machine of `cores` cores.
 ///
 /// Each order must name one of the machine's cores, must not release core 0, and must not be due before the order that
-/// precedes it. Returns the first faulty order as an error. If that order has several faults, returns the one that
-/// comes first in `OrderFaultKind`.
+/// precedes it in the list. Returns the first faulty order as an error. If that order has several faults, returns the
+/// one that comes first in `OrderFaultKind`.
 pub fn check_orders(orders: &[CoreOrder], cores: u64) -> Result<(), OrderFault>
     ensures accepts { IsOk result ↔ AreInOrder cores orders.now }
     ensures first { IfErr result (IsFirstFault cores orders.now) }

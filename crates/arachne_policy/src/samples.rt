@@ -54,7 +54,7 @@ impl Advice {
     }
 }
 
-/// The error of a sample that cannot have been measured.
+/// The error of a sample with values that no measurement can have.
 ///
 /// Such a sample has no core or too many cores, a period of length 0, more busy time than its cores could have, or a
 /// count greater than `MAX_COUNT`.
@@ -63,7 +63,7 @@ impl Advice {
 pub struct BadSample;
 
 impl Sample {
-    /// Returns whether the sample can be judged by an estimator for at most `max` cores.
+    /// Returns whether an estimator for at most `max` cores can judge the sample: its values can have been measured.
     pub(crate) fn is_good(&self, max: u8) -> bool
         ensures { result ≡ is_good max self.now }
     {

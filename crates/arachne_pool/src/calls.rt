@@ -20,13 +20,12 @@ impl<C: Seats> Pool<C> {
     ghost use Rattle.arachne_pool.specs.Waking.{HasWoken};
     ghost use Rattle.arachne_pool.specs.Workers.{IsArbiterFor, IsIdleAt, IsWorkerOf, WorksFor};
 
-    /// Makes one round on a core: carries out the orders to open or close cores that are due, gives each job that is
-    /// ready on the core a slice, and gives a place to a job of the worker that waits for one. Returns whether there
-    /// was anything to do.
+    /// Makes one round (a pass of the worker's loop) on a core. Returns whether there was anything to do.
     ///
-    /// If no job is ready, a job is moved to this core from another core, on which it is ready and was not reached yet
-    /// by that core's worker (a kernel thread that has called `work`). If the round only moved a job to the core, a
-    /// second round follows, in which that job has a slice.
+    /// The round carries out the orders that are due to open or close cores, runs each ready job of the core for a
+    /// slice, and gives a slot to one of the worker's waiting jobs. If no job is ready, it moves a ready job here from
+    /// another core for which some kernel thread has called `work`, and whose worker is awake but has not reached the
+    /// job yet. If the round has only moved a job to this core, makes a second round, in which that job runs.
     pub fn turn<'a, H: Wait + Clock, J: PoolJob>(
         &'a self,
         rt: &'a H,
@@ -62,8 +61,8 @@ impl<C: Seats> Pool<C> {
         found
     }
 
-    /// Works on a core until all jobs of the pool have ended and the pool is not kept open, or until the pool is
-    /// stopped. A fault stops the other workers too.
+    /// Makes rounds (passes of the worker's loop) on a core until the pool is stopped, or until all its jobs have ended
+    /// and it is not kept open. If this worker fails, stops the other workers too.
     pub fn work<'a, H: Wait + Clock, J: PoolJob>(
         &'a self,
         rt: &'a H,
@@ -151,7 +150,8 @@ impl<C: Seats> Pool<C> {
         unreachable!()
     }
 
-    /// Begins a call of a worker on a core, with all that the worker has. Returns `None` if the worker has no seat.
+    /// Begins a call of `worker` on a core. Returns the loop that makes the call's rounds, or `None` if the worker has
+    /// no seat (right to use the table).
     fn enter<'a, H: Wait + Clock, J: PoolJob>(
         &'a self,
         rt: &'a H,
@@ -169,15 +169,16 @@ impl<C: Seats> Pool<C> {
     {
         let before = replace(&mut worker.core, core);
         if before != core && before < self.cores {
-            // What the worker has noted of the core `before` is lost: the next worker there must look at every place.
+            // The hints about ready jobs that this worker has taken on the core `before` are lost, so the next worker
+            // there must visit every slot.
             self.shared.hint_cores(1 << u32::from(before));
         }
         let seat = worker.seat.take()?;
         Some(self.open(rt, worker, seat, works))
     }
 
-    /// Returns the loop that makes the rounds of a call, with the worker's seat and data. As long as the loop has the
-    /// seat and the data, `worker` has none.
+    /// Moves the seat (right to use the table) and the data of `worker` into the loop that makes the rounds of a call,
+    /// and returns the loop. Until `leave` moves them back, `worker` has neither.
     fn open<'a, H: Wait + Clock, J: PoolJob>(
         &'a self,
         rt: &'a H,
@@ -224,9 +225,10 @@ impl<C: Seats> Pool<C> {
         }
     }
 
-    /// Ends a call: the worker gets back the seat and the data with which it began. Returns whether the worker has a
-    /// seat: it has none if its seat still has a job or a place. `kernel` is lent, since the checker covers no call
-    /// that takes it by value.
+    /// Ends a call: moves the seat (right to use the table) and the data from the loop back into `worker`. Returns
+    /// whether the worker still has a seat; it loses the seat if the seat still owns a job or a slot.
+    ///
+    /// `kernel` is borrowed, since the prover supports no call that takes it by value.
     fn leave<'a, H: Wait + Clock, J: PoolJob>(
         &'a self,
         worker: &mut Worker<C::Seat, J>,

@@ -17,19 +17,19 @@ use std::alloc::{AllocError, Global};
 use std::collections::VecDeque;
 use std::sync::Wait;
 
-/// The jobs of a pool that have not ended, each with the jobs that run or wait in its place.
+/// The jobs of a closed pool that have not ended. Each has with it the children that run or wait inside its slot.
 #[derive(Drop)]
 pub struct Left<J: PoolJob> {
-    /// The jobs that had a place, by context, with the id under which each ran.
+    /// The jobs that had a slot, each with its id. They are in the order of the contexts in their ids.
     pub placed: Vec<(ThreadId, Spawned<J>)>,
-    /// The jobs that waited for a place, the oldest first.
+    /// The jobs that waited for a slot in the worker's own queue, the oldest first.
     pub near: VecDeque<Spawned<J>>,
 }
 
 impl<J: PoolJob> Left<J> {
     ghost use Rattle.arachne_pool.specs.Leftover.{count_of};
 
-    /// Returns whether no job is left.
+    /// Returns whether the list has no job.
     pub fn is_empty(&self) -> bool
         ensures { IsTrue result → count_of self.now ≡ 0 }
     {
@@ -37,15 +37,15 @@ impl<J: PoolJob> Left<J> {
     }
 }
 
-/// The reason why `close` has not closed the pool, with what it gives back.
+/// The reason why a call of `close` has failed, with the values that the call returns to the caller.
 #[derive(Drop)]
 pub enum NotClosed<C: Seats, J: PoolJob> {
-    /// Another worker has a part of the seat, or this worker has no seat. Pool and worker are returned.
+    /// Another worker has a part of the seat, or this worker has no seat. Fields: the pool and the worker, unchanged.
     NotWhole(Pool<C>, Worker<C::Seat, J>),
-    /// Memory was refused. The table, its seat and the jobs that had no place are returned.
+    /// Memory was refused. Fields: the table, its seat (the right to use it), and the jobs that had no slot.
     Memory(C, C::Seat, VecDeque<Spawned<J>>),
-    /// The counts don't agree: the number of jobs that were spawned is not the number of those that ended and those
-    /// that are left.
+    /// The number of spawned jobs is not the number of ended jobs plus the number of jobs that are left. The field has
+    /// the jobs that are left.
     Lost(Left<J>),
 }
 
@@ -55,10 +55,11 @@ impl<C: Seats> Pool<C> {
     ghost use Rattle.arachne_pool.specs.NotClosed.{ComesBack};
     ghost use Rattle.arachne_pool.specs.Workers.{ComeLast};
 
-    /// Replaces the pool's orders to open or close cores, as a caller's policy does between two rounds. The worker
-    /// forgets old orders that it has not carried out yet. A core that old orders have closed stays closed until a new
-    /// order grants it. The caller must give all orders of a pool to the same worker. If memory is refused, the worker
-    /// keeps its orders.
+    /// Replaces the orders by which `worker` opens and closes cores. The caller must give all orders of a pool to the
+    /// same worker.
+    ///
+    /// Old orders that the worker has not carried out yet are dropped. A core that old orders have closed stays closed
+    /// until a new order opens it. If memory is refused, returns an error, and the worker keeps its old orders.
     pub fn order<H: Wait, J: PoolJob>(
         &self,
         rt: &H,
@@ -91,9 +92,11 @@ impl<C: Seats> Pool<C> {
         Ok(())
     }
 
-    /// Closes the pool. Returns the jobs that were spawned and have not ended: their number and the number of jobs that
-    /// ended add up to the number of jobs that were spawned. The result of a job that has ended can be taken by the
-    /// job's handle. `worker` must be the only worker that is left.
+    /// Closes the pool. Returns the jobs that have not ended; their number and the number of ended jobs add up to the
+    /// number of spawned jobs.
+    ///
+    /// The handle of an ended job still gives its result. Returns `NotClosed::NotWhole` if `worker` is not the only
+    /// worker that is left.
     pub fn close<H: Wait, J: PoolJob>(
         self,
         rt: &H,
@@ -126,7 +129,7 @@ impl<C: Seats> Pool<C> {
         }
     }
 
-    /// Returns whether a worker has its seat, and no other worker has a part of the seat.
+    /// Returns whether `worker` has the whole seat (right to use the table), so that no other worker has a part of it.
     fn is_whole<J: PoolJob>(&self, worker: &Worker<C::Seat, J>) -> bool
         ensures { IsTrue result ↔ IsWhole C.weight worker.now.seat }
     {
@@ -140,7 +143,7 @@ impl<C: Seats> Pool<C> {
 impl Tally {
     ghost use Rattle.arachne_pool.specs.Leftover.{count_of};
 
-    /// Returns whether the number of jobs that ended and of those in `left` is the number of jobs that were spawned.
+    /// Returns whether the number of spawned jobs is the number of ended jobs plus the number of jobs in `left`.
     fn is_over<J: PoolJob>(self, left: &Left<J>) -> bool
         ensures { IsTrue result ↔ (self.spawned ≡ self.ended + count_of left.now) }
     {
@@ -157,7 +160,8 @@ impl Tally {
     }
 }
 
-/// Subtracts the number of jobs with a place. Returns `None` if that number is more than `count`.
+/// Returns `count` minus the number of jobs in `placed` that have not ended, including those inside their slots.
+/// Returns `None` if that number is more than `count`.
 #[tactic(auto, using(crate::proofs::Counts::placed_counts))]
 fn without_placed<J: PoolJob>(count: u64, placed: &[(ThreadId, Spawned<J>)]) -> Option<u64>
     ensures { MatchOption result (count < count_placed placed.now) (λ rest. rest + count_placed placed.now ≡ count) }
@@ -169,7 +173,8 @@ fn without_placed<J: PoolJob>(count: u64, placed: &[(ThreadId, Spawned<J>)]) -> 
     Some(rest)
 }
 
-/// Subtracts the number of jobs that waited for a place. Returns `None` if that number is more than `count`.
+/// Returns `count` minus the number of jobs in `near` that have not ended, including children that wait inside them.
+/// Returns `None` if that number is more than `count`.
 fn without_near<J: PoolJob>(count: u64, near: &VecDeque<Spawned<J>>) -> Option<u64>
     ensures { MatchOption result (count < count_near near.now.items) (λ rest. rest + count_near near.now.items ≡ count) }
 {

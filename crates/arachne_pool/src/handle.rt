@@ -41,9 +41,10 @@ pub(crate) fn leave_at<J: PoolJob>(sender: Option<ResultSender<J>>, output: J::O
     }
 }
 
-/// The handle of a job. A handle gives the job's result once, is used up by that, and can't be copied.
+/// The handle by which the caller that spawned a job gets the job's result. It gives the result once, is consumed by
+/// that, and can't be copied.
 ///
-/// Contracts see the job, as it was spawned.
+/// The model, which contracts see, is the job as it was spawned.
 #[derive(Drop)]
 pub struct Handle<J: PoolJob> {
     pub(crate) receiver: ResultReceiver<J>,
@@ -56,7 +57,8 @@ impl<J: PoolJob> Model for Handle<J> {
 }
 
 impl<J: PoolJob> Handle<J> {
-    /// Returns the job's result if it has ended, and the handle otherwise. The call takes no memory and never blocks.
+    /// Returns the job's result if the job has ended, and the handle itself otherwise. The call allocates no memory and
+    /// never blocks.
     pub fn poll(self) -> Result<J::Output, Handle<J>>
         ensures output { IfOk result (J.is_result self) }
         ensures same { IfErr result (λ back. back ≡ self) }

@@ -1,41 +1,44 @@
-//! The trait of jobs: a job says how it makes a step, takes a child's result, and how many steps a slice of it has.
+//! The trait of jobs, which the pool's user implements: how a job makes a step, and how it takes the result of a child.
 ghost use Rattle.std.specs.Prelude.{◌≡◌, List, [], ◌∷◌};
 ghost use Rattle.arachne_pool.specs.Jobs.{EndsWith, ForksFresh, HasJoined, IsAwaited, KeepsChildren, KeepsResults, KnowsChildren};
 
 use arachne_contexts::Tagged;
 use arachne_core::ThreadId;
 
-/// The wish of a job after a step: to go on, to fork a child, to join one, to sleep or to end.
+/// The result of a job's step: the job is ready for its next step, forks a child, joins one, sleeps or ends.
 #[derive(Drop)]
 pub enum Step<J, O> {
-    /// The job goes on.
+    /// The job is ready for its next step, and needs nothing.
     Again,
-    /// The job wants the result of the newest child that it has forked and not joined. If there is no such child, the
-    /// job goes on at once.
+    /// The job waits for the result of the newest child that it has not joined. If there is no such child, the job
+    /// makes its next step at once.
     Waits,
-    /// The job wants to rest until it is woken (`Pool::wake`) by the id that `sleeps_as` gave it. The job may go on
-    /// earlier, so it must check again whether what it waits for has happened.
+    /// The job sleeps until a call wakes it by the id that it got from `sleeps_as`. The pool may call `step` earlier
+    /// than that, so the job must check its condition again.
     Sleeps,
-    /// The job wants this job, its newest child, to run beside it.
+    /// The job forks this child, which can run at the same time as the job.
     Forks(J),
-    /// The job has ended, with this result.
+    /// The job has ended. The field is its result.
     Done(O),
 }
 
-/// A job. It goes on by steps, one after the other; any worker may make each.
+/// A job, which workers run step by step.
+///
+/// Two steps of a job never overlap, but any worker can make each of them.
 pub trait PoolJob: Tagged + Drop {
-    /// The type of the value with which the job ends.
+    /// The type of the result that the job returns when it ends.
     type Output: Drop;
 
-    /// True if this is a result of the job. A handle gives no other result.
+    /// True if the value is a possible result of the job. A handle of the job returns only such a value.
     ghost is_result: { Self → Self.Output → Type 0 };
 
-    /// True if the list is the children that the job has forked and not joined, the newest first, each as it was
-    /// forked. If `awaits` is true of any list, a job knows of a value that it joins only that the value is a result of
-    /// some job.
+    /// True if the list contains the children that the job has forked and not joined, the newest first, each as it was
+    /// when it was forked.
+    ///
+    /// If an implementation makes it always true, `joined` learns only that the value is a result of some job.
     ghost awaits: { Self → List Self → Type 0 };
 
-    /// Makes one step. A job that has ended makes none.
+    /// Makes one step of the job. The pool never calls it after a step that returned `Done`.
     fn step(&mut self) -> Step<Self, Self::Output>
         requires goes_on { KnowsChildren awaits self.old }
         ensures tag { Self.tag_of self.new ≡ Self.tag_of self.old }
@@ -44,23 +47,23 @@ pub trait PoolJob: Tagged + Drop {
         ensures fresh { ForksFresh awaits result }
         ensures output { (children : List Self) → awaits self.old children → EndsWith (is_result self.old) result };
 
-    /// Gives the job the result of its newest child.
+    /// Gives the job the result for which it has waited: that of the newest child that it has not joined.
     fn joined(&mut self, output: Self::Output)
         requires { IsAwaited is_result awaits self.old output }
         ensures tag { Self.tag_of self.new ≡ Self.tag_of self.old }
         ensures results { KeepsResults is_result self.old self.new }
         ensures children { HasJoined is_result awaits output self.old self.new };
 
-    /// Returns the most steps of a slice. 0 counts as 1.
+    /// Returns the greatest number of steps of the job in one slice (its turn on the core); 0 counts as 1.
     fn bound(&self) -> u32 {
         1
     }
 
-    /// Gives a job that is about to rest the id that it has until it ends. A wake that comes before the job rests isn't
-    /// lost. Jobs that run in one place one after the other have the same id.
+    /// Gives a job that is about to sleep its id, by which a call can wake it. A wake that arrives before the job
+    /// sleeps isn't lost. A child that runs inside its parent's slot gets the parent's id.
     fn sleeps_as(&self, _id: ThreadId) {}
 
-    /// Returns whether the job wants a core for itself, if one is empty.
+    /// Returns whether the job should get a core for itself if one is empty.
     fn is_exclusive(&self) -> bool {
         false
     }

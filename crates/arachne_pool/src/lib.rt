@@ -1,8 +1,11 @@
-//! A pool: jobs of the caller's own, run by kernel threads of the caller's own, over any context table.
+//! A pool, which runs the caller's jobs on the caller's kernel threads; a context table of any kind holds the jobs.
 //!
-//! A job is a value with a method `step`. A worker, one for each core, gives each job on its core a slice in turn. A
-//! job forks children, waits for their results, and ends with a result, which the job's handle gives to whoever spawned
-//! the job.
+//! A *job* is a value with a method `step`. A *worker*, one for each core, runs the jobs in its core's slots (at most
+//! 56, called *places*), one after another, each for a *slice* of some steps; *the current job* is the one that it runs
+//! now. A job forks children, waits for their results, and ends with a result, which the job's handle gives to the
+//! caller that spawned the job. A child for which no slot is free waits *in its parent's place*: it is stored in the
+//! parent's value, and runs there, as a function call would, when the parent awaits it. A *round* is one pass of a
+//! worker's loop. An *order* closes a core, which then takes no more jobs, or opens it again.
 #![tactic(auto)]
 
 mod calls;

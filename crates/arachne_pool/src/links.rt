@@ -1,4 +1,4 @@
-//! The children of jobs in one place that were forked and not joined.
+//! The children that the jobs in one slot have forked and not joined.
 ghost use Rattle.std.specs.Prelude.{◌≡◌, ◌+◌, ◌∷◌, [], IfErr, IfSome, MatchOption, OnErr, OnOk, reverse, take};
 ghost use Rattle.std.specs.VecDeque.{deque_len};
 ghost use Rattle.arachne_pool.specs.Children.{LosesAside, LosesBegun, with_aside};
@@ -10,9 +10,10 @@ use std::collections::VecDeque;
 use std::marker::Model;
 use std::snapshot::Snapshot;
 
-/// The children of jobs in one place that were forked and not joined. Each child that has begun elsewhere has a cell
-/// for its result. The children that have not begun are kept in this value, and are newer than those that have begun.
-/// Contracts see all of them as they were forked, the newest first, and the number of those that have not begun.
+/// The children that the jobs in one slot have forked and not joined. For a child that was moved to a slot of its own,
+/// the list has the receiver of its result. The children that have not begun are stored here themselves, and are newer
+/// than the others. Contracts see all of them as they were forked, the newest first, and the number of those that have
+/// not begun.
 #[derive(Drop)]
 pub(crate) struct Links<J: PoolJob> {
     begun: Vec<ResultReceiver<J>>,
@@ -32,7 +33,7 @@ impl<J: PoolJob> Model for Links<J> {
 }
 
 impl<J: PoolJob> Links<J> {
-    /// Returns an empty list, which takes no memory.
+    /// Returns a list of children without any. Allocates no memory.
     pub(crate) fn new(alloc: Global) -> Links<J>
         ensures { result ≡ record { all = []; aside = 0 } }
     {
@@ -42,14 +43,14 @@ impl<J: PoolJob> Links<J> {
         }
     }
 
-    /// Returns the number of children that have not begun.
+    /// Returns the number of the children in this list that have not begun.
     pub(crate) fn aside(&self) -> usize
         ensures { result ≡ self.now.aside }
     {
         self.aside.len()
     }
 
-    /// Keeps a child until it is awaited, or begins elsewhere. If memory is refused, the child is returned.
+    /// Adds a child that has not begun as the newest one. If memory is refused, returns the child as the error.
     pub(crate) fn put_aside(&mut self, child: J) -> Result<(), J>
         requires fresh { J.awaits child [] }
         ensures put { OnOk result (self.new ≡ with_aside child self.old) }
@@ -62,7 +63,7 @@ impl<J: PoolJob> Links<J> {
         }
     }
 
-    /// Takes the newest child out of the list, if the child has not begun, and returns it.
+    /// Removes the newest child and returns it, if it has not begun. Otherwise changes nothing.
     pub(crate) fn take_newest(&mut self) -> Option<J>
         ensures taken { MatchOption result ((self.new ≡ self.old) × (self.old.aside ≡ 0)) (λ child. LosesAside child self.old self.new) }
         ensures fresh { IfSome result (λ child. J.awaits child []) }
@@ -70,8 +71,8 @@ impl<J: PoolJob> Links<J> {
         self.aside.pop_back()
     }
 
-    /// Takes the result of the newest child, if the result is in its cell. If so, the child is joined, and the child's
-    /// cell is kept for the next child.
+    /// Takes the result of the newest child, if the child has ended and its result is in its cell. Then removes the
+    /// child from the list, and keeps its cell in `cells` for a later child.
     pub(crate) fn fetch_newest(&mut self, cells: &mut Cells<J>) -> Option<J::Output>
         requires { self.old.aside ≡ 0 }
         ensures { MatchOption result (self.new ≡ self.old) (λ output. (child : J) × (self.old.all ≡ child ∷ self.new.all) × (self.new.aside ≡ 0) × J.is_result child output) }
@@ -89,8 +90,8 @@ impl<J: PoolJob> Links<J> {
         }
     }
 
-    /// Takes the oldest child that has not begun, to begin elsewhere, with the sending end of the cell for the child's
-    /// result. Returns `None` if there is no such child or memory is refused.
+    /// Removes and returns the oldest child that has not begun, so that it can run in a slot of its own. Also returns
+    /// the sender of a cell for the child's result. Returns `None` if there is no such child or memory is refused.
     pub(crate) fn part_oldest(
         &mut self,
         alloc: Global,
@@ -113,7 +114,7 @@ impl<J: PoolJob> Links<J> {
         Some((child, sender))
     }
 
-    /// Drops the newest child from the children that are awaited. If the child had not begun, it is returned.
+    /// Removes the newest child, which its parent will never join. Returns that child if it had not begun.
     pub(crate) fn forget_newest(&mut self) -> Option<J>
         ensures forgotten { MatchOption result (LosesBegun self.old self.new) (λ child. LosesAside child self.old self.new) }
         ensures fresh { IfSome result (λ child. J.awaits child []) }
@@ -125,8 +126,8 @@ impl<J: PoolJob> Links<J> {
         None
     }
 
-    /// Returns the children that have not begun, the oldest first. The results of the children that have begun are
-    /// dropped.
+    /// Takes the list apart. Returns the children that have not begun, the oldest first, and drops the results of the
+    /// others.
     pub(crate) fn into_aside(self) -> VecDeque<J>
         ensures { (reverse result.items ≡ take self.aside self.all) × (deque_len result ≡ self.aside) }
     {

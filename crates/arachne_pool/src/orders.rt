@@ -1,4 +1,4 @@
-//! The orders by which the cores of a pool are closed and opened. One of the pool's workers has these orders.
+//! The orders that close and open the cores of a pool while it works. Only one of the pool's workers has them.
 ghost use Rattle.std.specs.Prelude.{◌≡◌, ◌<◌, ◌≤◌, ◌↔◌, IfOk, IsTrue, length};
 ghost use Rattle.arachne_contexts.specs.Out.{KeepsOut};
 ghost use Rattle.arachne_core.specs.declared.layout.TheConstants.{CORES};
@@ -12,11 +12,12 @@ use std::alloc::{AllocError, Global};
 use std::marker::Model;
 use std::sync::Wait;
 
-/// The orders to open or close cores of a pool. Contracts see how many the worker has carried out.
+/// The orders to open or close cores of a pool. The model, which contracts see, has the orders, and how many of them
+/// the worker has carried out.
 #[derive(Drop)]
 pub(crate) struct PoolOrders {
     arbiter: Arbiter,
-    /// The number of orders, also of those that the worker has carried out.
+    /// The number of all orders that were given, including those that the worker has carried out.
     count: usize,
 }
 
@@ -32,7 +33,7 @@ impl Model for PoolOrders {
 }
 
 impl PoolOrders {
-    /// Returns `list` as orders for this number of cores, none of them carried out yet.
+    /// Creates the state of `orders` for a pool with this number of cores; none of them is carried out yet.
     pub(crate) fn new(
         alloc: Global,
         orders: Vec<CoreOrder>,
@@ -47,7 +48,7 @@ impl PoolOrders {
         Ok(PoolOrders { arbiter, count })
     }
 
-    /// Returns whether there is any order, also if the worker has carried it out.
+    /// Returns whether the worker has any order, carried out or not.
     #[inline(always)]
     pub(crate) fn has_any(&self) -> bool
         ensures { IsTrue result ↔ (0 < length self.now.list) }
@@ -55,15 +56,17 @@ impl PoolOrders {
         self.count != 0
     }
 
-    /// Returns whether there is an order that the worker has not carried out yet.
+    /// Returns whether an order to open or close a core is left that the worker has not carried out yet.
     pub(crate) fn has_more(&self) -> bool
         ensures { IsTrue result ↔ (self.now.applied < length self.now.list) }
     {
         self.arbiter.applied() < self.count
     }
 
-    /// Carries out the orders that are due, and moves jobs away from a closed core. Returns the number of orders
-    /// carried out so far, if this call has carried out one, and the cores to which it has moved jobs, a bit for each.
+    /// Carries out the orders that are due to open or close cores, and moves jobs away from closed cores.
+    ///
+    /// Returns the number of all orders carried out so far, if this call has carried out an order, and the cores to
+    /// which it has moved jobs, one bit for each.
     pub(crate) fn tend<H: Wait, T: Tagged, C: Contexts<T>>(
         &mut self,
         cores: &Cores<'_, H, T, C>,

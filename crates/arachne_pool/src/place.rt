@@ -1,4 +1,4 @@
-//! Claims a free place for a job and puts the job there, and frees the place when the job has ended.
+//! Finds slots for new jobs, and frees the slot of a job that has ended.
 ghost use Rattle.std.specs.Prelude.{◌≡◌, ◌∷◌, [], IfErr, IfOk, IfSome, MatchOption, OnErr, OnOk};
 ghost use Rattle.arachne_arbiter.specs.Placed.{GetsPlace};
 ghost use Rattle.arachne_contexts.specs.Out.{Claim, HasOut, KeepsOut};
@@ -67,9 +67,9 @@ pub(crate) fn post<H: Wait, J: PoolJob, C: Contexts<Spawned<J>>>(
     }
 }
 
-/// Claims a place for a job: on the core that `claim_normal` of `arachne_arbiter` chooses, or for an exclusive job on
-/// an empty core, if there is one. If no core had a free place, notes this in the pool. The error is a refusal of
-/// memory.
+/// Claims a free slot for a job: on the less loaded of two random cores, or else on the first other core that has one
+/// (`claim_normal` of `arachne_arbiter`); for an exclusive job on an empty core, if there is one. If no core had a free
+/// place, notes this in the pool. The error is a refusal of memory.
 pub(crate) fn claim<H: Wait, J: PoolJob, C: Contexts<Spawned<J>>>(
     rt: &H,
     pool: &Pool<C>,
@@ -98,7 +98,7 @@ pub(crate) fn claim<H: Wait, J: PoolJob, C: Contexts<Spawned<J>>>(
     place
 }
 
-/// Gives a place to the worker's oldest job that waits for one, if a place is free.
+/// Moves the oldest job that waits in the worker's own queue into a free slot, if there is one.
 pub(crate) fn place_oldest<H: Wait, J: PoolJob, C: Contexts<Spawned<J>>>(
     rt: &H,
     pool: &Pool<C>,
@@ -127,8 +127,8 @@ pub(crate) fn place_oldest<H: Wait, J: PoolJob, C: Contexts<Spawned<J>>>(
     Ok(Some(post))
 }
 
-/// Makes the oldest child that waits with the job in hand a job of its own, and puts it at a place, if a core has a
-/// free place. If memory is refused, the refusal is noted, and the child goes on waiting.
+/// Moves the oldest child that waits inside `held`, the current job, into a slot of its own, if a core has a free one.
+/// If memory is refused, sets `is_short`, and the child continues to wait.
 #[inline(always)]
 pub(crate) fn post_oldest<H: Wait, J: PoolJob, C: Contexts<Spawned<J>>>(
     rt: &H,

@@ -1,4 +1,4 @@
-//! A pool's table, its counts of jobs, and the words by which its workers wake and stop one another.
+//! The pool: the data that all its workers share.
 ghost use Rattle.std.specs.Prelude.{◌≡◌, ◌<◌, ◌≤◌, [], IfOk, Some};
 ghost use Rattle.arachne_core.specs.declared.layout.TheConstants.{CORES, SLOTS};
 ghost use Rattle.arachne_policy.specs.Orders.{AreInOrder};
@@ -20,22 +20,22 @@ use std::marker::PhantomData;
 use std::sync::Wait;
 use std::sync::atomic::{AtomicU64, Ordering};
 
-/// The state that the workers of a pool share: the table, the counts of jobs, and the words that end all work.
+/// A pool: the table of jobs, the counts of jobs, and the words that stop the workers. All its workers share it.
 #[derive(Drop)]
 pub struct Pool<C: Seats> {
-    /// The table that says where each job is.
+    /// The context table: it has the jobs' slots, and says in which of them each job is.
     pub table: C,
     /// The number of cores, 1 to 64.
     pub cores: u8,
-    /// The number of places of each core, 1 to 56.
+    /// The number of slots of each core, 1 to 56.
     pub slots: u8,
     pub(crate) shared: SharedWords,
     pub(crate) live: Live,
-    /// 1 while a place may be free.
+    /// 1 if some core may have a free slot.
     pub(crate) room: CachePadded<AtomicU64>,
-    /// 1 once a job has wanted a core for itself.
+    /// 1 after any job has asked for a core for itself.
     pub(crate) exclusive: AtomicU64,
-    /// 1 while the pool is kept open.
+    /// 1 from a call of `keep_open` until a call of `finish`; otherwise 0.
     open: AtomicU64,
     /// A bit for each core for which a kernel thread has called `work`.
     pub(crate) worked: AtomicU64,
@@ -96,14 +96,16 @@ impl<C: Seats + Drop> Pool<C> {
 }
 
 impl<C: Seats> Pool<C> {
-    /// Returns how many jobs were spawned or forked and have not ended, as reported by the workers. If the number is 0,
-    /// no job makes another step, the result of each job is in its cell, and each job's place is free.
+    /// Returns the number of jobs that were spawned or forked and have not ended, as far as the workers have reported
+    /// them.
+    ///
+    /// If it is 0, no job makes another step, each result is in its cell, and each job's slot is free.
     pub fn live(&self) -> u64 {
         self.live.count()
     }
 
-    /// Returns whether the worker of a core sleeps, or its sleep has timed out and it has not looked since. Whoever has
-    /// work for that worker must wake it. A worker that is parked doesn't sleep.
+    /// Returns whether the worker of `core` sleeps, or has not searched for work since its sleep timed out. A caller
+    /// that has work for that worker must then wake it. A parked worker doesn't count as asleep.
     pub fn is_asleep(&self, core: u8) -> bool {
         self.shared.hints().is_asleep(core)
     }
@@ -115,36 +117,37 @@ impl<C: Seats> Pool<C> {
         self.overslept.load(Ordering::SeqCst)
     }
 
-    /// Stops all workers after their current slices, also the workers that sleep or are parked.
+    /// Makes each worker return after its current slice, and wakes the workers that sleep or are parked.
     pub fn stop(&self) {
         self.shared.stop();
     }
 
-    /// Returns whether the pool is stopped.
+    /// Returns whether the pool was stopped, by a call or a fault.
     pub fn is_stopped(&self) -> bool {
         self.shared.is_stopped()
     }
 
-    /// Keeps the pool open, as a server does: from now on `work` goes on even without any job, until `finish` is
-    /// called.
+    /// Keeps the pool open for later jobs: until a call of `finish`, `work` doesn't return when all jobs have ended.
     pub fn keep_open(&self) {
         self.open.store(1, Ordering::SeqCst);
     }
 
-    /// Ends `keep_open`: no more jobs are spawned, and `work` returns once all jobs have ended.
+    /// Ends the effect of `keep_open`: from now on, `work` returns when all jobs have ended. The caller must have
+    /// spawned the last job.
     pub fn finish(&self) {
         self.open.store(0, Ordering::SeqCst);
         // The last job may have ended long ago, and then nobody else wakes the workers.
         self.wake_if_over();
     }
 
-    /// Returns whether all jobs have ended and the pool is not kept open.
+    /// Returns whether the workers may return: all jobs have ended, and the host does not keep the pool open for more.
     pub(crate) fn is_over(&self) -> bool {
-        // `open` is read first: a job that was spawned before `finish` is then counted.
+        // Reads `open` first, so that a job that was spawned before a call of `finish` is counted.
         self.open.load(Ordering::SeqCst) == 0 && self.live.count() == 0
     }
 
-    /// Wakes all workers, sleeping and parked, if all jobs have ended and the pool is not kept open.
+    /// If all jobs have ended and the pool is not kept open, wakes all workers, sleeping and parked, so that they can
+    /// return.
     pub(crate) fn wake_if_over(&self) {
         if self.is_over() {
             for core in 0..self.cores {
@@ -154,13 +157,13 @@ impl<C: Seats> Pool<C> {
         }
     }
 
-    /// Returns whether a place may be free.
+    /// Returns whether a core may have a free slot, as far as the workers have seen.
     #[inline(always)]
     pub(crate) fn has_room(&self) -> bool {
         self.room.load(Ordering::SeqCst) != 0
     }
 
-    /// Notes that a place is free, or was free a moment ago.
+    /// Records that a slot is free, or was free a moment ago.
     #[inline(always)]
     pub(crate) fn room_was_seen(&self) {
         if !self.has_room() {
@@ -168,7 +171,7 @@ impl<C: Seats> Pool<C> {
         }
     }
 
-    /// Returns whether a job has wanted a core for itself.
+    /// Returns whether any job has asked for a core for itself.
     pub(crate) fn has_exclusive(&self) -> bool {
         self.exclusive.load(Ordering::SeqCst) != 0
     }
@@ -182,7 +185,7 @@ impl<C: Seats> Pool<C> {
         OccWord::from_word(self.table.glance(rt, core)).unwrap_or(OccWord::empty())
     }
 
-    /// Returns the cores of the table, for a kernel thread that uses them.
+    /// Returns the table's cores, together with the host `rt`, in the form that calls of `arachne_arbiter` need.
     pub(crate) fn cores<'a, H, T>(&'a self, rt: &'a H) -> Cores<'a, H, T, C>
         ensures table { result.table.now ≡ self.now.table }
         ensures count { result.count ≡ self.now.cores }

@@ -1,4 +1,5 @@
-//! A job that is run to its end, with all that it forks, on as many kernel threads as cores.
+//! `Pool::run`: runs a job, with all jobs that it forks, on one kernel thread for each core, and returns the job's
+//! result.
 ghost use Rattle.std.specs.Prelude.{◌≡◌, ◌≤◌, [], IfErr, IfOk, IfSome};
 ghost use Rattle.arachne_core.specs.declared.layout.TheConstants.{CORES};
 ghost use Rattle.arachne_pool.specs.Running.{HandsBackRun};
@@ -22,12 +23,12 @@ use std::sync::{Mutex, Wait};
 use std::thread::{Threads, available_parallelism};
 use std::time::Clock;
 
-/// A job that was run to its end. All jobs that it has forked have ended too.
+/// The result of `Pool::run` if the job and all jobs that it has forked have ended.
 #[derive(Drop)]
 pub struct Finished<O> {
-    /// The job's result.
+    /// The result that the job returned when it ended.
     pub output: O,
-    /// The numbers of jobs that were spawned, this one with them, and that have ended.
+    /// The number of jobs that were spawned, including this one, and the number of jobs that have ended.
     pub tally: Tally,
 }
 
@@ -48,20 +49,20 @@ impl From<TeamFault> for PoolFault {
 /// The error of `Pool::run` if the job has not ended: the fault that was recorded first, and the jobs that are left.
 #[derive(Drop)]
 pub enum Unfinished<J: PoolJob> {
-    /// Memory or a kernel thread was refused before the job was spawned. The job is returned.
+    /// Memory or a kernel thread was refused before the job was spawned. The variant holds the job.
     NotSpawned(PoolFault, J),
-    /// All kernel threads were stopped for a fault. The jobs that have not ended are returned; with those that have,
-    /// they are as many as were spawned.
+    /// A fault has stopped all kernel threads. The variant holds the jobs that have not ended; their number and that of
+    /// the ended jobs (in the `Tally`) add up to the number of spawned jobs.
     Stopped(PoolFault, Tally, Left<J>),
-    /// All kernel threads were stopped for a fault, and the jobs that have not ended are dropped: memory was refused
-    /// once more as they were put together, or the table didn't know a place or a job that a worker had of it.
+    /// A fault has stopped all kernel threads, and the jobs that have not ended are dropped: memory was refused again
+    /// while they were collected, or the table rejected a slot or a job that it had given to a worker.
     Lost(PoolFault),
 }
 
 impl<J: PoolJob> Unfinished<J> {
     ghost use Rattle.arachne_pool.specs.Running.{fault_of};
 
-    /// Returns why the job was not run to its end.
+    /// Returns the reason why the job was not run to its end.
     pub fn why(&self) -> PoolFault
         ensures { result ≡ fault_of self.now }
     {
@@ -76,11 +77,11 @@ impl<J: PoolJob + Send> Pool<WordContexts<Spawned<J>>>
 where
     J::Output: Send,
 {
-    /// Runs a job and all that it forks, on one kernel thread for each processor, this one among them. Returns its
-    /// result once all of them have ended.
+    /// Runs a job and all jobs that it forks, on one kernel thread for each processor, including the calling one.
+    /// Returns the job's result after all of them have ended.
     ///
-    /// If memory or a kernel thread is refused before the job is spawned, it is returned. If a worker can't go on, all
-    /// are stopped after their slices, and the jobs that have not ended are returned.
+    /// If memory or a kernel thread is refused before the job is spawned, returns the job. If a worker fails, all
+    /// workers stop after their current slices, and the call returns the jobs that have not ended.
     pub fn run<R: Threads + Wait + Clock + Sync>(
         rt: &R,
         alloc: Global,
@@ -112,7 +113,7 @@ where
         let Ok((pool, worker)) = made else {
             return Err(Unfinished::NotSpawned(PoolFault::Memory, job));
         };
-        // Until the job is spawned, by the first kernel thread once all have begun.
+        // Called so that the workers don't return before the first kernel thread has spawned the job.
         pool.keep_open();
         let asked = Snapshot::of(&job);
         let crew = Crew {
@@ -150,7 +151,8 @@ struct Crew<'p, C: Seats, J> {
     first_fault: Mutex<Option<PoolFault>>,
 }
 
-/// The share of one kernel thread: its worker, and for the first kernel thread also the job, or once that is spawned its
+/// The share of one kernel thread: its worker, and for the first kernel thread also the job, or once that is spawned
+/// its
 /// handle.
 #[derive(Drop)]
 struct Share<S, J: PoolJob> {
@@ -295,7 +297,7 @@ impl<'p, J: PoolJob, C: Contexts<Spawned<J>>> Team<Share<C::Seat, J>> for Crew<'
     }
 }
 
-/// Closes a pool whose kernel threads have ended, with what they have left, and takes the result of its first job.
+/// Closes a pool after its kernel threads have ended. Returns the result of the job that was run, or the error.
 fn end<C: Contexts<Spawned<J>> + Drop, R: Wait, J: PoolJob>(
     rt: &R,
     alloc: Global,

@@ -1,4 +1,5 @@
-//! A worker's seat at the table of a pool. Between two calls the seat has the job in hand, and nothing else.
+//! A worker's access to the pool's table, by which it takes, runs and puts back jobs. Between two calls, the seat (the
+//! right to use the table) holds the current job, if there is one, and nothing else.
 ghost use Rattle.std.specs.Prelude.{◌≡◌, ◌<◌, ◌≤◌, IfSome, false, if◌then◌else◌};
 ghost use Rattle.arachne_pool.specs.Grounds.{in_hand};
 ghost use Rattle.arachne_pool.specs.Stops.{rests_as};
@@ -20,24 +21,25 @@ use std::mem::replace;
 use std::sync::Wait;
 use std::sync::atomic::Ordering;
 
-/// A worker's desk at the table. Contracts see the pool to which the desk belongs; its invariant says which job the
-/// seat has in hand.
+/// A worker's access to the pool's table. The model, which contracts see, has the pool; the invariant says which job
+/// the seat (the right to use the table) holds.
 #[derive(Drop)]
 pub(crate) struct Seat<'a, H, J: PoolJob, C: Contexts<Spawned<J>>> {
     pub(crate) rt: &'a H,
     pub(crate) pool: &'a Pool<C>,
     pub(crate) core: u8,
-    /// True in `work`, in which the worker parks if its core is closed. In `turn` each job has one slice, and the worker
+    /// True in `work`, in which the worker parks if its core is closed. In `turn` each job has one slice, and the
+    /// worker
     /// doesn't wait.
     pub(crate) works: bool,
-    /// True if the table did not know a place or a job of the worker's. If true, the seat may still have a place or a
-    /// job, and the worker must stop.
+    /// True if the table has rejected a slot or a job that it had given to this worker. Then the seat perhaps still
+    /// owns a slot or a job, and the worker must stop.
     pub(crate) is_broken: bool,
     pub(crate) seat: C::Seat,
     pub(crate) held: Option<Held<Spawned<J>, C::Hold>>,
-    /// True if the job in hand must be put back as blocked.
+    /// True if the worker must put the current job, in `held`, back as blocked.
     pub(crate) blocks: bool,
-    /// True if a job was taken since the worker last checked whether others have too many jobs.
+    /// True if the worker has taken a job since it last tried to move one here from another core.
     pub(crate) has_taken: bool,
     pub(crate) bench: Bench<J>,
 }
@@ -91,17 +93,17 @@ impl<'a, H: Wait, J: PoolJob, C: Contexts<Spawned<J>>> Desk for Seat<'a, H, J, C
             stop = self.fall_asleep(left);
         }
         if stop == JobStop::Ends {
-            // The job's end is counted in `end`, once the place is free and the result is left.
+            // `end` counts the job as ended, after the job's slot is free and its result was sent.
             return Ok(ThreadStop::Ends);
         }
         self.blocks = stop.blocks();
-        // Before a child is posted: the child's end must not be counted before the child is.
+        // Reports the spawn before the child gets a slot, since its end must not be counted before its spawn.
         self.pool.live.add(self.core, self.bench.news());
         match stop {
             JobStop::Waits | JobStop::Sleeps => Ok(ThreadStop::Blocks),
             JobStop::LetsGo => Ok(ThreadStop::Goes),
             JobStop::Short => {
-                // Subtracts all: the next slice tries again.
+                // Uses up the slice: the job tries again in its next one.
                 *left = 0;
                 self.bench.is_short = true;
                 Ok(ThreadStop::Goes)
@@ -206,7 +208,7 @@ impl<'a, H: Wait, J: PoolJob, C: Contexts<Spawned<J>>> Desk for Seat<'a, H, J, C
     #[inline(always)]
     fn may_take_ticket(&mut self) -> bool {
         if self.held.is_some() && (!self.works || self.bench.is_short) {
-            // The job has had its slice: others must run.
+            // The current job has used its slice, so other jobs must run.
             return true;
         }
         if !self.bench.near.is_empty() && self.pool.has_room() {
@@ -306,8 +308,8 @@ impl<'a, H: Wait, J: PoolJob, C: Contexts<Spawned<J>>> Seat<'a, H, J, C> {
             .slice(&mut bench.cells, &mut bench.tally, left, may_post)
     }
 
-    /// Counts the jobs that began and ended until the job in hand ended. Returns the parent of that job, if the parent
-    /// has to be woken.
+    /// Reports to the pool how many jobs were forked and have ended since the last report. Returns the id of the ended
+    /// job's parent, if the caller must wake the parent.
     #[inline(always)]
     fn count_end(&mut self, ended: Ended<J>) -> Option<ThreadId>
         ensures desk { self.new ≡ self.old }
@@ -317,7 +319,8 @@ impl<'a, H: Wait, J: PoolJob, C: Contexts<Spawned<J>>> Seat<'a, H, J, C> {
         ended.parent
     }
 
-    /// Posts the oldest child that waits with the job in hand, if there is a place and memory is not refused.
+    /// Moves the oldest child that waits inside the current job, in `held`, into a free slot, if there is one and
+    /// memory is not refused.
     #[inline(always)]
     fn post_oldest(&mut self) -> Result<ThreadStop, Halt>
         ensures { self.new ≡ self.old }
@@ -341,8 +344,10 @@ impl<'a, H: Wait, J: PoolJob, C: Contexts<Spawned<J>>> Seat<'a, H, J, C> {
         }
     }
 
-    /// Prepares the job in hand to sleep, and gives the job its id. While a child waits in the job's place, the job
-    /// goes on instead, once in each slice, so that the child gets the first place that is free.
+    /// Prepares the current job, in `held`, to sleep, and gives it the id by which a call can wake it.
+    ///
+    /// While a child waits inside the job's slot, the job makes one step in each slice instead of sleeping, so that the
+    /// child gets the next free slot.
     fn fall_asleep(&self, left: &mut u32) -> JobStop
         ensures { left.new ≤ left.old }
     {
@@ -357,7 +362,7 @@ impl<'a, H: Wait, J: PoolJob, C: Contexts<Spawned<J>>> Seat<'a, H, J, C> {
         JobStop::Sleeps
     }
 
-    /// Returns whether a job waits on another core (`waiting_on`).
+    /// Returns whether another core has a job that this worker may move to its own core (see `waiting_on`).
     fn is_any_waiting(&self) -> bool {
         for core in 0..self.pool.cores {
             if self.waiting_on(core).is_some() {
@@ -367,7 +372,7 @@ impl<'a, H: Wait, J: PoolJob, C: Contexts<Spawned<J>>> Seat<'a, H, J, C> {
         false
     }
 
-    /// Moves a job that waits on another core to the worker's own core. Returns whether there was such a job.
+    /// Moves a job that waits for another core's worker to the worker's own core. Returns whether a job was moved.
     fn fetch(&mut self) -> bool
         ensures { self.new ≡ self.old }
     {
@@ -389,7 +394,7 @@ impl<'a, H: Wait, J: PoolJob, C: Contexts<Spawned<J>>> Seat<'a, H, J, C> {
         false
     }
 
-    /// Moves the job at a place of another core to the worker's own core, unless the job runs or has its core to
+    /// Moves the job in slot `place` of another core to the worker's own core, unless the job runs or has its core for
     /// itself. Returns whether the job was moved.
     fn move_here(&mut self, place: Place) -> bool
         ensures { self.new ≡ self.old }
@@ -407,8 +412,8 @@ impl<'a, H: Wait, J: PoolJob, C: Contexts<Spawned<J>>> Seat<'a, H, J, C> {
         )
     }
 
-    /// Returns a place of another core at which a job may be ready, if that core's worker is awake and has not reached
-    /// the place yet. In a `turn` only cores for which a kernel thread has called `work` count: this worker may make the
+    /// Returns a slot of another core in which a job may be ready, if that core's worker is awake and has not reached
+    /// it yet. In a `turn` only cores for which a kernel thread has called `work` count: this worker may make the
     /// rounds of the others itself.
     fn waiting_on(&self, core: u8) -> Option<Place>
         requires { core < self.now.cores }
@@ -419,7 +424,7 @@ impl<'a, H: Wait, J: PoolJob, C: Contexts<Spawned<J>>> Seat<'a, H, J, C> {
         }
         let word = self.pool.shared.hints().word(core)?;
         let seen = word.load(Ordering::SeqCst);
-        // The lowest bit says that the worker sleeps. The other bits are for the indexes.
+        // The lowest bit is set while the core's worker sleeps. The other bits stand for the indexes of the slots.
         let waiting = seen >> 1 & self.pool.glance::<H, J>(self.rt, core).mask();
         if seen & 1 != 0 || waiting == 0 {
             return None;
@@ -429,7 +434,7 @@ impl<'a, H: Wait, J: PoolJob, C: Contexts<Spawned<J>>> Seat<'a, H, J, C> {
     }
 }
 
-/// Returns the seat of a worker whose rounds are over, unless the seat still has a place or a job.
+/// Returns the seat (right to use the table) after a worker's rounds, or `None` if the seat still owns a slot or a job.
 pub(crate) fn idle_seat<J: PoolJob, C: Contexts<Spawned<J>>>(
     pool: &Pool<C>,
     seat: C::Seat,

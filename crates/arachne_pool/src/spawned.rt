@@ -1,4 +1,4 @@
-//! A job in a pool, with the jobs that run in its place, and the sending end of the cell for its result.
+//! A job in a pool, with the children that run or wait inside its slot, and the sender of the cell for its result.
 ghost use Rattle.std.specs.Prelude.{◌≡◌, ◌+◌, ◌<◌, ◌≤◌, [], IfSome, IsSome, MatchOption, Some, None, length, true};
 ghost use Rattle.arachne_pool.specs.Frames.{CountsEach};
 
@@ -13,8 +13,8 @@ use std::marker::Model;
 use std::snapshot::Snapshot;
 
 /// A job that was spawned and has not ended. A job is moved and never copied, and only its owner makes its steps. A
-/// child that the job has forked while no place was free waits in this value, and runs in the job's place once the job
-/// awaits the child.
+/// child that was forked while no slot was free waits inside this value, and runs in the job's slot when the job awaits
+/// it.
 ///
 /// Contracts see the job's tag, the job as it was spawned, the id under which its parent runs, if the parent has to be
 /// woken, and the jobs that have not ended and run or wait in the job's place, as they are now, with their number.
@@ -48,7 +48,7 @@ impl<J: PoolJob> Tagged for Spawned<J> {
 impl<J: PoolJob> Spawned<J> {
     ghost use Rattle.arachne_pool.specs.Jobs.{one};
 
-    /// Begins a job, which leaves its result at the end `sender` of a cell, if there is one.
+    /// Creates a job that has made no step. Its result will go to `sender`, if there is one.
     pub(crate) fn begin(
         alloc: Global,
         job: J,
@@ -67,7 +67,7 @@ impl<J: PoolJob> Spawned<J> {
         }
     }
 
-    /// Subtracts the number of jobs in this place that have not ended from `count`. Returns `None` if that number is
+    /// Returns `count` minus the number of jobs in this value that have not ended. Returns `None` if that number is
     /// more than `count`.
     pub(crate) fn taken_from(&self, count: u64) -> Option<u64>
         ensures { MatchOption result (count < self.now.many) (λ rest. rest + self.now.many ≡ count) }
@@ -91,8 +91,8 @@ impl<J: PoolJob> Spawned<J> {
         self.stack.slice(cells, tally, left, may_post)
     }
 
-    /// Releases one child as `Stack::let_go` does. If the child had not begun, returns it as a job of its own, whose
-    /// result is dropped.
+    /// Releases one child as `Stack::let_go` does. If that child had not begun, returns it as a job of its own, whose
+    /// result will be dropped.
     pub(crate) fn let_go(&mut self, alloc: Global, has_room: bool) -> Option<Spawned<J>>
         ensures room { IsSome result → has_room ≡ true }
         ensures same { self.new ≡ record self.old { many = self.new.many; jobs = self.new.jobs } }
@@ -102,8 +102,11 @@ impl<J: PoolJob> Spawned<J> {
         Some(Spawned::begin(alloc, job, None, None))
     }
 
-    /// Makes the oldest child that waits in this place a job of its own, whose parent runs under `me`. Returns `None`
-    /// if no child waits or memory is refused; then nothing has changed, not even the order of these jobs.
+    /// Removes the oldest child that waits inside this job, and returns it as a job of its own, whose parent has the id
+    /// `me`.
+    ///
+    /// Returns `None` if no child waits or memory is refused; then nothing has changed, not even the order of the
+    /// waiting children.
     pub(crate) fn part_oldest(
         &mut self,
         alloc: Global,
@@ -118,7 +121,8 @@ impl<J: PoolJob> Spawned<J> {
         Some(Spawned::begin(alloc, job, Some(sender), Some(me)))
     }
 
-    /// Ends the job, once all jobs in its place have ended. Its handle or its parent gets the result.
+    /// Ends this job and passes on its result; all jobs inside its slot must have ended. Its handle or its parent gets
+    /// the result.
     pub(crate) fn leave(self) -> Ended<J>
         requires { self.many ≡ 0 }
         ensures { result.job.value ≡ self }
@@ -137,8 +141,8 @@ impl<J: PoolJob> Spawned<J> {
         Ended { job, parent }
     }
 
-    /// Returns the jobs of this place that have not ended, as they are now: this job, and the jobs that run or wait in
-    /// its place. Unless this job has ended, it leaves no result.
+    /// Returns the jobs in this value that have not ended, in their present state: this job, and its descendants that
+    /// run or wait inside its slot. If this job has ended, sends its result.
     pub fn into_jobs(self) -> Jobs<J>
         ensures { (result ≡ self.jobs) × (length result ≡ self.many) }
     {
@@ -151,10 +155,11 @@ impl<J: PoolJob> Spawned<J> {
     }
 }
 
-/// A job that has ended and whose result was left. Only `Spawned::leave` returns a value of this type.
+/// A job that has ended, and whose result was put into its cell, or dropped if nobody wants it. Only `Spawned::leave`
+/// returns a value of this type.
 #[derive(Drop)]
 pub(crate) struct Ended<J: PoolJob> {
-    /// The job as it ended. The field has no bytes.
+    /// The job in its last state. The field is zero-sized.
     job: Snapshot<Spawned<J>>,
     /// The id under which the parent runs, if the parent has to be woken.
     pub(crate) parent: Option<ThreadId>,

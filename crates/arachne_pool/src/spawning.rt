@@ -15,19 +15,19 @@ use arachne_contexts::{Contexts, Seats};
 use std::sync::Wait;
 use thiserror::Error;
 
-/// The reason why a job was not spawned.
+/// The reason why a pool refuses to spawn a job.
 #[derive(Clone, Copy, Debug, PartialEq, Eq, Error)]
 pub enum Refusal {
     #[error("no core has a place")]
     NoPlace,
     #[error("out of memory")]
     Memory,
-    /// The worker has no seat, since the table did not know one of its places or jobs.
+    /// The worker has no seat (right to use the table) any more, since the table had rejected one of its slots or jobs.
     #[error("the worker has no seat")]
     NoSeat,
 }
 
-/// A job that could not be spawned, which is returned to the caller, with the reason.
+/// A job that could not be spawned, with the reason. The job is returned to the caller.
 #[derive(Drop)]
 pub struct Refused<J: PoolJob> {
     pub job: J,
@@ -76,9 +76,9 @@ impl<C: Seats> Pool<C> {
         }
     }
 
-    /// Spawns a job as `spawn` does, and returns its handle. If no core has a free place, the job is returned, and
-    /// nothing has changed. So there are at most as many jobs as places, not counting children that run or wait in
-    /// their parents' places.
+    /// Spawns a job as `spawn` does, and returns its handle. If no core has a free slot, returns the job, and changes
+    /// nothing. So this call never makes more jobs than slots, not counting children that run or wait inside their
+    /// parents' slots.
     pub fn try_spawn<H: Wait, J: PoolJob>(
         &self,
         rt: &H,
@@ -138,7 +138,8 @@ impl<C: Seats> Pool<C> {
         }
     }
 
-    /// Begins a job at a place that a worker's seat has claimed. If memory is refused, the place is given back.
+    /// Spawns a job into the slot that was claimed as `claim`. If memory is refused, frees the slot and returns the
+    /// job.
     fn begin_at<H: Wait, J: PoolJob>(
         &self,
         rt: &H,

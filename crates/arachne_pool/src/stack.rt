@@ -1,4 +1,5 @@
-//! A job and the jobs that run in its place. Each of them was forked by the one before it, and the newest runs first.
+//! A job and the descendants that run inside its slot, as a stack. Each job above the first was forked by the one below
+//! it, and only the topmost one makes steps.
 ghost use Rattle.std.specs.Prelude.{◌≡◌, ◌+◌, ◌<◌, ◌≤◌, [], ◌∷◌, List, None, IfSome, IsSome, MatchOption, length, false, true};
 ghost use Rattle.arachne_pool.specs.Frames.{CountsEach, IsServed, KeepsMany, count_none, unless_ended};
 ghost use Rattle.arachne_pool.specs.Jobs.{children_of};
@@ -48,11 +49,13 @@ impl JobStop {
     }
 }
 
-/// A job in a place: as it was forked, as it is now, and the number of its children that were forked and not joined,
-/// except for a child that runs in the job's place.
+/// One job of a stack.
+///
+/// The frame has the job when it was forked, the job now, and how many children it has forked and not joined, not
+/// counting a child that runs above it in the stack.
 #[derive(Drop)]
 struct JobFrame<J: PoolJob> {
-    /// The job as it was forked. The field has no bytes.
+    /// A ghost copy (of zero bytes) of the job as it was forked.
     asked: Snapshot<J>,
     job: J,
     awaited: usize,
@@ -67,7 +70,7 @@ impl<J: PoolJob> Model for JobFrame<J> {
 }
 
 impl<J: PoolJob> JobFrame<J> {
-    /// Returns the frame of a job that has made no step.
+    /// Returns the stack frame of a job that has made no step.
     fn begin(job: J) -> JobFrame<J>
         ensures { result ≡ record { asked = job; job = job; awaited = 0 } }
     {
@@ -79,26 +82,27 @@ impl<J: PoolJob> JobFrame<J> {
     }
 }
 
-/// A job and the jobs that run in its place. Each job above the first was forked by the job below it, which awaits it
-/// and found no place for it. Only the topmost job makes steps.
+/// A stack: a job, and the descendants that run inside its slot. Each job above the first was forked by the job below
+/// it, which waits for it; no slot was free for it. Only the topmost job makes steps.
 ///
-/// Contracts see the first job, as it was spawned, and the jobs that have not ended, as they are now, with their number.
+/// Contracts see the first job, as it was spawned, and the jobs that have not ended, as they are now, with their
+/// number.
 /// They also see what the topmost job has forked just now, or has ended with, and whether it has asked for the result
 /// of its newest child.
 #[derive(Drop)]
 pub(crate) struct Stack<J: PoolJob> {
-    /// The first job as it was spawned. The field has no bytes.
+    /// A ghost copy (of zero bytes) of the first job as it was spawned.
     asked: Snapshot<J>,
     top: JobFrame<J>,
-    /// The jobs below the topmost one, the first job first.
+    /// The frames of the jobs below the topmost one, the first job's first.
     below: Vec<JobFrame<J>>,
-    /// The children of all jobs in this place, except for children that run in this place.
+    /// The unjoined children of all jobs in this stack, except for those that are in the stack themselves.
     pub(crate) links: Links<J>,
-    /// A child that the topmost job has forked, and that has to wait in this place.
+    /// A child that the topmost job has just forked, and that was not added to `links` yet.
     child: Option<J>,
-    /// The result of the topmost job, if it has ended.
+    /// The result of the topmost job, if that job has ended.
     ended: Option<J::Output>,
-    /// True if the topmost job must get the result of its newest child before its next step.
+    /// True if the topmost job waits for the result of its newest child, which it must get before its next step.
     waits: bool,
 }
 
@@ -123,7 +127,7 @@ impl<J: PoolJob> Model for Stack<J> {
 }
 
 impl<J: PoolJob> Stack<J> {
-    /// Returns a stack with this job, which has made no step, as its only one.
+    /// Creates a stack that has only `job`, which has made no step.
     pub(crate) fn begin(alloc: Global, job: J) -> Stack<J>
         requires { J.awaits job [] }
         ensures { result ≡ record { asked = job; many = 1; jobs = job ∷ []; child = None; ended = None; waits = false } }
@@ -144,12 +148,12 @@ impl<J: PoolJob> Stack<J> {
         &self.top.job
     }
 
-    /// Returns whether a child waits in this place to begin.
+    /// Returns whether a child in this stack waits to begin.
     pub(crate) fn has_aside(&self) -> bool {
         self.links.aside() > 0
     }
 
-    /// Subtracts the number of jobs in this place that have not ended from `count`. Returns `None` if that number is
+    /// Returns `count` minus the number of jobs in this stack that have not ended. Returns `None` if that number is
     /// more than `count`.
     pub(crate) fn taken_from(&self, count: u64) -> Option<u64>
         ensures { MatchOption result (count < self.now.many) (λ rest. rest + self.now.many ≡ count) }
@@ -161,8 +165,10 @@ impl<J: PoolJob> Stack<J> {
             .checked_sub(u64::from(self.child.is_some()))
     }
 
-    /// Runs the jobs for at most `left` steps. Stops earlier if a child is forked that may get a place of its own
-    /// (`may_post`), if the topmost job waits, or if the first job has ended. Counts each job that begins or ends.
+    /// Runs the jobs for at most `left` steps.
+    ///
+    /// Stops earlier if a child is forked that may get a slot of its own (`may_post`), if the topmost job must wait, or
+    /// if the first job has ended. Counts in `tally` each child that is forked and each job that ends.
     #[tactic(auto, using(crate::proofs::Together::counting))]
     pub(crate) fn slice(
         &mut self,
@@ -175,7 +181,7 @@ impl<J: PoolJob> Stack<J> {
         ensures left { left.new ≤ left.old }
         ensures counts { CountsEach tally.old tally.new self.old.many self.new.many }
     {
-        // Before each step there may be a join, and after the last step an end.
+        // Each step can follow a join, and an end can follow the last one.
         for _ in 0..left.saturating_mul(2).saturating_add(1) {
             if *left == 0 && self.ended.is_none() {
                 break;
@@ -188,7 +194,7 @@ impl<J: PoolJob> Stack<J> {
         JobStop::Goes
     }
 
-    /// Makes a step, or does what has to be done before the next step.
+    /// Lets the topmost job make a step, or first does what must be done before that step.
     fn go_on(
         &mut self,
         cells: &mut Cells<J>,
@@ -213,7 +219,7 @@ impl<J: PoolJob> Stack<J> {
         self.step(tally, may_post)
     }
 
-    /// Makes a step of the topmost job.
+    /// Lets the topmost job make one step.
     fn step(&mut self, tally: &mut Tally, may_post: bool) -> JobStop
         requires running { (self.old.ended ≡ None) × (self.old.child ≡ None) × (self.old.waits ≡ false) }
         ensures asked { self.new.asked ≡ self.old.asked }
@@ -239,7 +245,7 @@ impl<J: PoolJob> Stack<J> {
         }
     }
 
-    /// Lets the child that was just forked wait in this place to begin.
+    /// Adds the child that was just forked to the children that wait to begin.
     fn put_aside(&mut self, may_post: bool) -> JobStop
         requires { self.old.ended ≡ None }
         ensures { KeepsMany self.old self.new }
@@ -290,7 +296,7 @@ impl<J: PoolJob> Stack<J> {
         }
     }
 
-    /// Begins the newest child in this place, above the job that awaits the child.
+    /// Pushes the newest child onto the stack, above the job that waits for it, so that the child makes the next steps.
     fn enter(&mut self) -> JobStop
         requires running { (self.old.ended ≡ None) × (self.old.child ≡ None) × (self.old.waits ≡ true) }
         ensures same { KeepsMany self.old self.new }
@@ -312,7 +318,7 @@ impl<J: PoolJob> Stack<J> {
         JobStop::Goes
     }
 
-    /// Gives the result of the topmost job to the job below it. The result of the first job stays in this value.
+    /// Gives the result of the topmost job to the job below it. If it is the first job, its result stays in `ended`.
     fn pass_on(&mut self) -> JobStop
         requires { IsSome self.old.ended }
         ensures same { KeepsMany self.old self.new }
@@ -334,7 +340,7 @@ impl<J: PoolJob> Stack<J> {
         JobStop::Goes
     }
 
-    /// Returns how many children were not joined before their parent, the topmost job, ended.
+    /// Returns how many of its children the topmost job never joined, if it has ended.
     pub(crate) fn orphans(&self) -> usize {
         if self.ended.is_some() {
             self.top.awaited
@@ -343,8 +349,9 @@ impl<J: PoolJob> Stack<J> {
         }
     }
 
-    /// Releases one child that was not joined before its parent ended. If the child had not begun, returns it. If there
-    /// is no room for such a child, nothing has changed.
+    /// Removes one child that the topmost job, which has ended, never joined. Returns the child if it had not begun.
+    ///
+    /// If `has_room` is false and a child that has not begun is left, changes nothing.
     pub(crate) fn let_go(&mut self, has_room: bool) -> Option<J>
         ensures room { IsSome result → has_room ≡ true }
         ensures asked { self.new.asked ≡ self.old.asked }
@@ -358,7 +365,8 @@ impl<J: PoolJob> Stack<J> {
         self.links.forget_newest()
     }
 
-    /// Returns the result of the first job, if it has ended. The first job has ended if no job is left in this place.
+    /// Takes the stack apart. Returns the result of the first job, if it has ended; then all jobs in the stack have
+    /// ended.
     pub(crate) fn into_output(self) -> Option<J::Output>
         ensures result { IfSome result (J.is_result self.asked) }
         ensures over { self.many ≡ 0 → IsSome result }
@@ -367,7 +375,7 @@ impl<J: PoolJob> Stack<J> {
         if below.is_empty() { ended } else { None }
     }
 
-    /// Returns all jobs that have not ended, and the result of the first job, if it has ended.
+    /// Takes the stack apart. Returns all jobs that have not ended, and the result of the first job, if it has ended.
     pub(crate) fn into_jobs(self) -> (Jobs<J>, Option<J::Output>)
         ensures jobs { result.0 ≡ self.jobs }
         ensures many { length result.0 ≡ self.many }
@@ -393,7 +401,7 @@ impl<J: PoolJob> Stack<J> {
     }
 }
 
-/// Returns the job, unless it has ended.
+/// Returns `job`, or `None` if `ended` has the job's result.
 fn unless_ended<J: PoolJob>(ended: &Option<J::Output>, job: J) -> Option<J>
     ensures job { result ≡ unless_ended ended.now job }
     ensures count { (others : List J) → length (children_of result others) ≡ count_none ended.now + length others }
@@ -404,10 +412,10 @@ fn unless_ended<J: PoolJob>(ended: &Option<J::Output>, job: J) -> Option<J>
     }
 }
 
-/// The jobs of a `Stack` that was taken apart, without the jobs that have ended. These jobs make no more steps in the
-/// pool; those that had not begun may be spawned.
+/// The unfinished jobs of a stack (a job and those that ran inside its slot) that was taken apart.
 ///
-/// Contracts see the jobs that are left, in the order in which `take` returns them.
+/// The pool makes no more steps of these jobs; the caller may spawn those that had not begun again. The model, which
+/// contracts see, has the jobs that are left, in the order in which `take` returns them.
 #[derive(Drop)]
 pub struct Jobs<J: PoolJob> {
     child: Option<J>,
@@ -426,7 +434,7 @@ impl<J: PoolJob> Model for Jobs<J> {
 }
 
 impl<J: PoolJob> Jobs<J> {
-    /// Takes the next job: first the jobs that had not begun, then those that had; in both groups the newest comes
+    /// Removes and returns the next job: first those that had not begun, then the others; in both groups the newest
     /// first.
     pub fn take(&mut self) -> Option<J>
         ensures { MatchOption result ((self.old ≡ []) × (self.new ≡ [])) (λ job. self.old ≡ job ∷ self.new) }

@@ -5,7 +5,8 @@ use crossbeam_utils::CachePadded;
 use std::alloc::{AllocError, Global};
 use std::sync::atomic::{AtomicU64, Ordering};
 
-/// The number of jobs that a worker has spawned, and of jobs that have ended on its core. Each count stays at 2^64 - 1.
+/// The number of jobs that a worker has spawned, and the number of jobs that have ended on its core. Each count
+/// saturates at 2^64 - 1.
 #[derive(Clone, Copy, Debug, PartialEq, Eq)]
 pub struct Tally {
     pub spawned: u64,
@@ -13,7 +14,7 @@ pub struct Tally {
 }
 
 impl Tally {
-    /// Returns counts of 0.
+    /// Returns a tally in which no job was spawned or has ended.
     pub(crate) fn new() -> Tally
         ensures { (result.spawned ≡ 0) × (result.ended ≡ 0) }
     {
@@ -23,7 +24,7 @@ impl Tally {
         }
     }
 
-    /// Counts a job that is spawned.
+    /// Adds 1 to the number of spawned jobs.
     pub(crate) fn count_spawned(&mut self)
         ensures spawned { self.new.spawned ≡ min (self.old.spawned + 1) u64.MAX }
         ensures grows { self.old.spawned ≤ self.new.spawned }
@@ -32,7 +33,7 @@ impl Tally {
         self.spawned = self.spawned.saturating_add(1);
     }
 
-    /// Counts a job that has ended.
+    /// Adds 1 to the number of ended jobs.
     pub(crate) fn count_ended(&mut self)
         ensures ended { self.new.ended ≡ min (self.old.ended + 1) u64.MAX }
         ensures grows { self.old.ended ≤ self.new.ended }

@@ -1,4 +1,5 @@
-//! Workers of a pool: the part that each worker has of the pool, how a worker is split in two, and how two are joined.
+//! A worker: one kernel thread's access to a pool. A worker can be split in two, for another kernel thread, and two
+//! workers can be joined again.
 ghost use Rattle.std.specs.Option.{option_or};
 ghost use Rattle.std.specs.Prelude.{◌≡◌, ◌+◌, ◌<◌, ◌≤◌, [], IfErr, IfOk, None, OnErr, if◌then◌else◌, false, true};
 ghost use Rattle.std.specs.VecDeque.{deque_capacity, deque_len};
@@ -23,17 +24,17 @@ use std::snapshot::Snapshot;
 use std::sync::Wait;
 use thiserror::Error;
 
-/// The reason why a worker can't go on.
+/// The reason why a worker's call on the pool has failed.
 #[derive(Clone, Copy, Debug, PartialEq, Eq, Error)]
 pub enum PoolFault {
-    /// Memory was refused. All jobs are as before, and the worker may go on.
+    /// Memory was refused. No job was changed, and the worker can be used again.
     #[error("out of memory")]
     Memory,
-    /// The table didn't know a place or a job that it had given to the worker. The worker has no seat any more and must
-    /// stop.
+    /// The table has rejected a slot or a job that it had given to the worker. The worker has lost its seat (the right
+    /// to use the table) and must stop.
     #[error("the table knows no such token")]
     Token,
-    /// The pool was stopped.
+    /// The pool was stopped, so the worker must return.
     #[error("the pool was stopped")]
     Stopped,
     /// The system started no kernel thread for a core. Only `Pool::run` reports this.
@@ -161,7 +162,7 @@ impl<J: PoolJob> Bench<J> {
 pub struct Worker<S, J: PoolJob> {
     pub(crate) seat: Option<S>,
     pub(crate) bench: Bench<J>,
-    /// The core on which the worker works, or last worked. A new worker has a number that no core has.
+    /// The core on which the worker works, or last worked. It is 255, which is no core, until the first call.
     pub(crate) core: u8,
     pub(crate) agenda: Agenda,
     pub(crate) pace: Pace,
@@ -185,15 +186,16 @@ impl<S, J: PoolJob> Model for Worker<S, J> {
 }
 
 impl<S, J: PoolJob> Worker<S, J> {
-    /// Returns how many jobs the worker has spawned, including the jobs that jobs on its core have forked, and how many
-    /// have ended on its core.
+    /// Returns how many jobs the worker has spawned, including those forked by jobs on its core, and how many jobs have
+    /// ended on its core.
     pub fn tally(&self) -> Tally
         ensures { result ≡ self.now.tally }
     {
         self.bench.tally
     }
 
-    /// Returns a worker with this seat, no jobs and no orders, for no core. `seed` begins its random choices.
+    /// Creates a worker that has `seat` (the right to use the table), but no jobs and no orders, and that belongs to no
+    /// core yet. `seed` seeds its random generator.
     pub(crate) fn new(alloc: Global, seat: Option<S>, seed: u64) -> Worker<S, J>
         ensures seat { result.seat ≡ seat }
         ensures nothing { (result.tally.spawned ≡ 0) × (result.tally.ended ≡ 0) × (result.near ≡ 0) }
@@ -227,8 +229,11 @@ impl<C: Seats> Pool<C> {
     ghost use Rattle.arachne_pool.specs.Leftover.{HalvesWeight, JoinsWeights};
     ghost use Rattle.arachne_pool.specs.Workers.{IsIdleAt, IsWorkerOf};
 
-    /// Splits a worker in two. The first worker keeps the jobs, the counts, the orders and the core of `worker`. The
-    /// second worker has half of the weight of the seat of `worker`, if there is one, and has worked for no core.
+    /// Splits a worker in two.
+    ///
+    /// The first worker keeps the jobs, the counts, the orders and the core of `worker`. The second worker gets half of
+    /// the seat (right to use the table) of `worker`, if `worker` has one, and belongs to no core yet. The caller must
+    /// join all workers again before `close`.
     pub fn split<H: Wait, J: PoolJob>(
         &self,
         rt: &H,
@@ -255,9 +260,11 @@ impl<C: Seats> Pool<C> {
         (worker, Worker::new(alloc, Some(theirs), seed))
     }
 
-    /// Joins two workers into one, with the core of the first, and the orders of the first or else of the second. The
-    /// joined worker has a seat if both workers have one. If memory for the jobs of both is refused, both workers are
-    /// returned; this can't happen if the second worker has no jobs.
+    /// Joins two workers into one.
+    ///
+    /// It has the core of the first, and the orders of the first or, if that has none, of the second. It has a seat
+    /// (the right to use the table) if both workers have one. If memory for the waiting jobs of both is refused,
+    /// returns both workers; this can't happen if the second one has no such jobs.
     pub fn join_workers<H: Wait, J: PoolJob>(
         &self,
         rt: &H,

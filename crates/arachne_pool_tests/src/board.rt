@@ -1,29 +1,31 @@
-//! The counts and replies that the jobs of a row (a test case) share with the kernel threads that wake them.
+//! Counters that the jobs of a test case share with the kernel threads that wake these jobs.
 use arachne_core::ThreadId;
 use std::alloc::Global;
 use std::sync::Arc;
 use std::sync::atomic::{AtomicU64, Ordering};
 use std::thread::yield_now;
 
-/// The number of looks at a word before a job rests, which take some microseconds.
+/// The number of times that a job reads an atomic word before it sleeps, which delays it by some microseconds.
 const MOMENT: u32 = 2_000;
 
-/// The most looks for an answer, which take some tenths of a second if nothing else wants the processors.
+/// The greatest number of times that a job checks for an answer (an event for which it waits). That takes some tenths
+/// of a second if nothing else uses the processors.
 const MOST_LOOKS: u32 = 1_000_000;
 
-/// The counts of a row's jobs, and the number of answers that have come.
+/// The counters of a test case's jobs, and the number of *answers* (events for which jobs sleep) so far.
 #[derive(Drop)]
 pub(crate) struct Board {
     pub(crate) alloc: Global,
-    /// The number of jobs that have made a step.
+    /// The number of jobs that have made their first step.
     pub(crate) begun: AtomicU64,
     /// The number of steps that jobs have made.
     pub(crate) steps: AtomicU64,
     /// The number of times that a job was about to sleep.
     pub(crate) sleeps: AtomicU64,
-    /// The number of times that a kernel thread has returned from its work.
+    /// The number of times that a kernel thread has returned from `work`.
     pub(crate) returns: AtomicU64,
-    /// The number of times that the turn was passed to the kernel thread that waits for it.
+    /// The number of calls of `pass_turn`, by which one kernel thread lets the other go on, which waits in
+    /// `await_turn`.
     pub(crate) turns: AtomicU64,
     context: AtomicU64,
     generation: AtomicU64,
@@ -31,7 +33,7 @@ pub(crate) struct Board {
 }
 
 impl Board {
-    /// Returns a board on which no job has begun and no answer has come, or `None` if memory is refused.
+    /// Returns counters that are all 0, or `None` if memory is refused.
     pub(crate) fn new(alloc: Global) -> Option<Arc<Board>> {
         let board = Board {
             alloc,
@@ -55,7 +57,8 @@ impl Board {
         }
     }
 
-    /// Notes the id of a job that is about to sleep. Then a moment passes, in which the job may be woken.
+    /// Records `id`, of a job that is about to sleep. Then waits some microseconds, in which another kernel thread may
+    /// wake the job.
     pub(crate) fn sleeps_as(&self, id: ThreadId) {
         self.context.store(u64::from(id.context), Ordering::SeqCst);
         self.generation.store(id.generation, Ordering::SeqCst);
@@ -65,7 +68,7 @@ impl Board {
         }
     }
 
-    /// Returns the id of the job that was last about to sleep.
+    /// Returns the id of the job that was about to sleep last.
     pub(crate) fn id(&self) -> ThreadId {
         ThreadId {
             context: u32::try_from(self.context.load(Ordering::SeqCst)).unwrap_or(u32::MAX),
@@ -73,22 +76,23 @@ impl Board {
         }
     }
 
-    /// Counts a return of a kernel thread from its work.
+    /// Counts that a kernel thread has returned from `work`.
     pub(crate) fn comes_back(&self) {
         self.returns.fetch_add(1, Ordering::SeqCst);
     }
 
-    /// Passes the turn to the kernel thread that waits for it.
+    /// Lets the kernel thread that waits in `await_turn` continue.
     pub(crate) fn pass_turn(&self) {
         self.turns.fetch_add(1, Ordering::SeqCst);
     }
 
-    /// Counts an answer.
+    /// Counts an answer: an event for which jobs sleep. It wakes none of them.
     pub(crate) fn answer(&self) {
         self.answers.fetch_add(1, Ordering::SeqCst);
     }
 
-    /// Waits until an answer has come. If no answer comes, counts 1,000 answers, with which no row agrees.
+    /// Waits until an answer (an event for which jobs sleep) was counted. After too many checks, counts 1,000 answers,
+    /// so that the test case fails.
     pub(crate) fn await_answer(&self) {
         for _ in 0..MOST_LOOKS {
             if self.answers() > 0 {
@@ -99,7 +103,7 @@ impl Board {
         self.answers.fetch_add(1_000, Ordering::SeqCst);
     }
 
-    /// Returns the number of answers that have come.
+    /// Returns the number of answers (events for which jobs sleep) that were counted.
     pub(crate) fn answers(&self) -> u64 {
         self.answers.load(Ordering::SeqCst)
     }

@@ -1,4 +1,4 @@
-//! The acts of one worker on a pool, one after another, and the checks of their results.
+//! Test cases for a pool: a list of calls that one worker makes, each with its expected result.
 ghost use Rattle.std.specs.Prelude.{◌≡◌, ◌<◌, ◌≤◌, IfSome};
 ghost use Rattle.arachne_core.specs.declared.layout.TheConstants.{CORES, SLOTS};
 ghost use Rattle.arachne_policy.specs.Orders.{AreInOrder};
@@ -17,10 +17,10 @@ use std::sync::atomic::Ordering;
 use std::sync::{Arc, Wait};
 use std::time::Clock;
 
-/// The number of bytes that are given back after memory was refused.
+/// The number of bytes that are freed after an allocation was refused.
 const FEW: usize = 40;
 
-/// The most attempts of `ends_in_need`, spawns and rounds together.
+/// The greatest number of attempts in `ends_in_need`: spawns and rounds together.
 const TRIES: u32 = 100_000;
 
 /// The number of slices after which a core is granted or released, and the core.
@@ -45,73 +45,74 @@ pub(crate) fn orders_of(alloc: Global, orders: &[Order], cores: u8) -> Option<Ve
 /// An act of a row. The row fails if the result of the act is not the one that the act states.
 #[derive(Clone, Copy)]
 pub(crate) enum Act {
-    /// A job is spawned.
+    /// Spawns a job of this sort.
     Spawns(Sort),
-    /// This number of jobs are spawned.
+    /// Spawns this number of jobs of this sort.
     SpawnsMany(u32, Sort),
     /// A spawn that keeps no job is tried, and refused for this reason, if there is one.
     Tries(Sort, Option<Refusal>),
-    /// The job of this context and generation is woken, with this result.
+    /// Wakes the job with this context and generation. The third field is the expected result.
     Wakes(u32, u64, Wakes),
-    /// An answer is counted for the jobs that sleep. The answer wakes none of these jobs.
+    /// Counts an answer (an event for which jobs sleep), without waking any job.
     Answers,
-    /// This number of answers were counted.
+    /// Checks that this number of answers (events for which jobs sleep) were counted.
     Answered(u64),
     /// This number of rounds on a core, each of which must find something, or one that must find nothing if it is 0.
     Turns(u8, u32),
-    /// A round on a core. The round must fail because memory is refused.
+    /// Makes one round (a pass of the worker's loop) on this core. The round must fail because memory is refused.
     TurnsInNeed(u8),
-    /// This number of a core's places are taken, and the core is in this state.
+    /// Checks that this number of a core's slots are occupied, and that the core is in this state. Fields: the core,
+    /// the number, and the state.
     Has(u8, u8, Is),
-    /// From now on the pool has these orders.
+    /// Gives these orders to open and close cores to the pool, from now on.
     Orders(&'static [Order]),
-    /// This number of jobs have not ended.
+    /// Checks that this number of jobs have not ended.
     Lives(u64),
-    /// The worker has counted this number of spawned jobs.
+    /// Checks that the worker has counted this number of spawned jobs.
     Counts(u64),
     /// The jobs have made this number of steps.
     Stepped(u64),
     /// Sleeps have timed out although there was something to do, at least and at most this number of times.
     Overslept(u64, u64),
-    /// The worker works on a core until no job is left, or it must stop.
+    /// Lets the worker work on this core until no job is left, or until the worker must stop.
     Works(u8),
-    /// A job and the jobs that it forks end while memory is used up.
+    /// Spawns a job while memory is used up. The job and the jobs that it forks must end.
     EndsInNeed(Sort),
-    /// From now on memory is used up.
+    /// Takes all memory of the process from now on.
     Hoards,
-    /// From now on memory is free again.
+    /// Frees the memory that `Hoards` has taken.
     Frees,
-    /// From now on the pool is open for more jobs, even if all have ended.
+    /// Keeps the pool open for more jobs from now on, even if all have ended.
     KeepsOpen,
-    /// The pool is stopped.
+    /// Stops the pool.
     Stops,
 }
 
-/// The state in which a test's wake must find a job: asleep, awake, or gone.
+/// The state in which a wake must find its job: asleep, awake, or gone.
 #[derive(Clone, Copy, PartialEq)]
 pub(crate) enum Wakes {
-    /// The job slept.
+    /// The job must have slept.
     It,
-    /// The job was awake.
+    /// The job must have been awake.
     Awake,
-    /// There is no such job.
+    /// There must be no such job.
     Nobody,
 }
 
-/// The state that a test expects of a core: open, closed, or exclusive to one job.
+/// The state that a core must have: open, closed, or exclusive to one job.
 #[derive(Clone, Copy, PartialEq)]
 pub(crate) enum Is {
     Open,
     Closed,
-    /// The core is exclusive to one job.
+    /// The core must be exclusive to one job.
     Alone,
 }
 
-/// A row: a pool, the acts and the work on it, and the numbers of jobs that must be left.
+/// A test case: a pool, what workers do with it, and the numbers of jobs that must be left.
 ///
 /// First one worker does `acts`. Then two kernel threads, for core 0 and core 1, do `spells`; at least `busy` of them
-/// must end a job. After that one worker does `then`. `left` is the number of jobs that are left with a place, and the
-/// number without one. `alive` also counts the jobs that run or wait in the places of these.
+/// must end a job. After that one worker does `then`. `left` is the number of jobs that are left in a slot, and the
+/// number of those that wait for one. `alive` also counts the jobs that run or wait inside these jobs.
 #[derive(Clone, Copy)]
 pub(crate) struct Row {
     pub(crate) shows: &'static str,
@@ -133,8 +134,8 @@ pub(crate) struct Share<S> {
     pub(crate) busy: usize,
 }
 
-/// Makes a row's pool and its worker, and does the row's first acts. Returns `None` if the pool can't be made, or if
-/// the result of an act is not the one that the act states.
+/// Makes the pool of a test case and its worker, and makes the first calls. Returns `None` if the pool can't be made,
+/// or if a result isn't the expected one.
 pub(crate) fn begin<C: Contexts<Spawned<Task>> + Drop, R: Wait + Clock>(
     rt: &R,
     alloc: Global,
@@ -156,8 +157,8 @@ pub(crate) fn begin<C: Contexts<Spawned<Task>> + Drop, R: Wait + Clock>(
     }
 }
 
-/// Does the row's last acts, once both kernel threads have worked, and closes the pool. Returns true if everything is
-/// as the row states: the result of each act, the kernel threads that were busy, and the jobs that are left.
+/// Makes the last calls of a test case, after both kernel threads have worked, and closes the pool. Returns true if all
+/// is as expected: the result of each call, the number of busy kernel threads, and the jobs that are left.
 pub(crate) fn end<C: Contexts<Spawned<Task>> + Drop, R: Wait + Clock>(
     rt: &R,
     alloc: Global,
@@ -179,7 +180,7 @@ pub(crate) fn end<C: Contexts<Spawned<Task>> + Drop, R: Wait + Clock>(
     busy >= row.busy && sizes == row.left && count_left(left) == row.alive
 }
 
-/// Returns the number of jobs that are left, with the jobs that run or wait in their places.
+/// Returns the number of jobs in `left`, including those that run or wait inside the slots of others.
 fn count_left(left: Left<Task>) -> usize {
     let Left { placed, near } = left;
     let mut count: usize = 0;
@@ -195,7 +196,7 @@ fn count_left(left: Left<Task>) -> usize {
     count
 }
 
-/// Returns the number of jobs in a job that is left: the job, and the jobs that run or wait in its place.
+/// Returns the number of jobs in `job`: the job itself, and those that run or wait inside its slot.
 fn count_in(job: Spawned<Task>) -> usize {
     let mut jobs = job.into_jobs();
     let mut count: usize = 0;
@@ -237,7 +238,7 @@ fn all_hold<C: Contexts<Spawned<Task>>, R: Wait + Clock>(
     true
 }
 
-/// Does an act with one worker. Returns true if the result is the one that the act states.
+/// Makes one call with this worker. Returns true if the result is the expected one.
 fn holds<C: Contexts<Spawned<Task>>, R: Wait + Clock>(
     rt: &R,
     alloc: Global,
@@ -310,7 +311,7 @@ fn turns<C: Contexts<Spawned<Task>>, R: Wait + Clock>(
     true
 }
 
-/// Does an act that needs no worker. Returns true if the result is the one that the act states.
+/// Makes a call or a check that needs no worker. Returns true if the result is the expected one.
 fn is_so<C: Contexts<Spawned<Task>>, R: Wait>(
     rt: &R,
     pool: &Pool<C>,
@@ -348,7 +349,7 @@ fn is_so<C: Contexts<Spawned<Task>>, R: Wait>(
     }
 }
 
-/// Spawns `jobs` jobs. Returns true if each job was spawned.
+/// Spawns `jobs` jobs. Returns true if none of them was refused.
 fn spawns<C: Contexts<Spawned<Task>>, R: Wait>(
     rt: &R,
     pool: &Pool<C>,
@@ -392,7 +393,8 @@ fn tries<C: Contexts<Spawned<Task>>, R: Wait>(
     }
 }
 
-/// Spawns a job while memory is used up, and makes rounds on core 0 until all jobs have ended, with a little more memory
+/// Spawns a job while memory is used up, and makes rounds on core 0 until all jobs have ended, with a little more
+/// memory
 /// after each refusal. Returns true if all have ended, and a spawn and more than 20 rounds were refused.
 fn ends_in_need<C: Contexts<Spawned<Task>>, R: Wait + Clock>(
     rt: &R,

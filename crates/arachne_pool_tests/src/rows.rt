@@ -1,4 +1,4 @@
-//! Test cases for a pool over the table on atomic words: what its workers do, and how many jobs must be left.
+//! Test cases for a pool over the table of atomic words: what its workers do, and how many jobs must be left.
 ghost use Rattle.std.specs.Prelude.{◌≡◌, ◌<◌, IfSome};
 ghost use Rattle.arachne_pool.specs.Workers.{IsWorkerOf};
 
@@ -17,45 +17,46 @@ use std::test::Fail;
 use std::thread::Threads;
 use std::time::Clock;
 
-/// The form of table that these pools use: the table on atomic words.
+/// The type of context table that these pools use: the table on atomic words.
 type Table = WordContexts<Spawned<Task>>;
 
-/// A job that has a core for itself, the first empty core.
+/// An exclusive job, which gets the first empty core for itself.
 pub(crate) const ALONE: Sort = Sort {
     is_exclusive: true,
     ..LEAF
 };
 
-/// An exclusive job that forks another exclusive job and joins it.
+/// An exclusive job (one with a core to itself) that forks another exclusive job and joins it.
 pub(crate) const ALONE_PARENT: Sort = Sort {
     is_exclusive: true,
     ..PARENT
 };
 
-/// A job that ends at its eleventh step.
+/// A job that makes ten steps and ends in its eleventh.
 pub(crate) const ELEVEN: Sort = Sort { steps: 10, ..LEAF };
 
-/// A tree of jobs with three children each, four generations deep: 121 jobs.
+/// A job that forks three children, each of which does the same, four generations deep: 121 jobs.
 pub(crate) const TREE: Sort = Sort {
     depth: 4,
     forks: 3,
     ..LEAF
 };
 
-/// A job that goes on for longer than any test.
+/// A job that runs longer than any test.
 const ENDLESS: Sort = Sort {
     steps: u32::MAX,
     ..LEAF
 };
 
-/// A job that goes on for so long that a kernel thread which has nothing to do meanwhile is parked before the job ends.
+/// A job that takes so long that the kernel thread of a core with nothing to do is parked before the job ends.
 const LONG: Sort = Sort {
     steps: 2_000_000,
     bound: 1_000,
     ..LEAF
 };
 
-/// Four trees are spawned, by a worker that has worked for core 0 and so keeps the jobs that find no place.
+/// Spawns four trees of jobs by a worker that has worked for core 0, and so keeps the jobs that find no slot in its own
+/// queue.
 const TREES: &[Act] = &[
     Act::Works(0),
     Act::Spawns(TREE),
@@ -68,10 +69,10 @@ const TREES: &[Act] = &[
     }),
 ];
 
-/// Two kernel threads work until no job is left.
+/// Both kernel threads work until no job is left.
 pub(crate) const TO_THE_END: (Spell, Spell) = (Spell::ToTheEnd, Spell::ToTheEnd);
 
-/// Core 1 is taken back and granted again.
+/// Orders that close core 1 and open it again.
 const ORDERS: &[Order] = &[
     (0, RELEASE, 1),
     (50, GRANT, 1),
@@ -81,7 +82,7 @@ const ORDERS: &[Order] = &[
     (1_000_000_000, GRANT, 1),
 ];
 
-/// A row in which nothing is done.
+/// A test case without calls, from which the other cases take the fields that they don't set.
 pub(crate) const NOTHING: Row = Row {
     shows: "nothing",
     cores: 1,
@@ -627,7 +628,7 @@ impl<'p, C: Contexts<Spawned<Task>>> Team<Share<C::Seat>> for Crew<'p, C> {
     }
 }
 
-/// Does a row, with two kernel threads. Returns true if each result is the one that the row states.
+/// Runs a test case, with two kernel threads. Returns true if each result is the expected one.
 fn holds<R: Threads + Wait + Clock + Sync>(rt: &R, alloc: Global, row: &Row) -> bool {
     let Some(board) = Board::new(alloc) else {
         return false;

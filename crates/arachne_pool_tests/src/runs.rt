@@ -1,4 +1,4 @@
-//! Jobs that are run to their end by one call (`Pool::run`), over the table on words.
+//! Tests of `Pool::run`, which runs a job to its end, over the table on atomic words.
 use crate::board::Board;
 use crate::rows::{ALONE_PARENT, TREE};
 use crate::tasks::{PARENT, Sort, Task};
@@ -10,20 +10,20 @@ use std::test::Fail;
 use std::thread::Threads;
 use std::time::Clock;
 
-/// How a test's run must end: with its result, with its job returned, or with a fault.
+/// The way in which a run must end: with the job's result, with the job returned to the caller, or with a fault.
 #[derive(Clone, Copy, PartialEq)]
 enum Comes {
     /// The job ends, and has counted this many jobs.
     Ends(u64),
-    /// The job, which was not spawned, is returned.
+    /// The job was not spawned, and is returned.
     NotSpawned(PoolFault),
-    /// All workers are stopped, and this number of jobs with a place are returned.
+    /// All workers are stopped, and this number of jobs that have a slot are returned.
     Stopped(PoolFault, usize),
-    /// All workers are stopped, and the jobs are dropped.
+    /// All workers were stopped because of this fault, and the jobs were dropped.
     Lost(PoolFault),
 }
 
-/// A job that is run on this many cores, while only this many bytes of memory are free, if there is a number.
+/// A test case of `Pool::run`: a job, the number of cores, and the number of bytes of free memory, if that is limited.
 #[derive(Clone, Copy)]
 struct Row {
     shows: &'static str,
@@ -68,13 +68,13 @@ const ROWS: &[Row] = &[
     },
 ];
 
-/// A job that has its core for itself, and forks more children on the core than memory has room for.
+/// A job that has its core for itself, and forks more children on that core than memory has room for.
 const PROLIFIC: Sort = Sort {
     forks: u32::MAX,
     ..ALONE_PARENT
 };
 
-/// Runs the job of a row. Returns the result, or `None` if there is no memory for the row itself.
+/// Runs the job of a test case. Returns how the run ended, or `None` if there is no memory for the test itself.
 fn run<R: Threads + Wait + Clock + Sync>(rt: &R, alloc: Global, row: &Row) -> Option<Comes> {
     let board = Board::new(alloc)?;
     let task = Task::new(row.sort, &board)?;

@@ -1,5 +1,5 @@
-//! Rows of what a server wants of a pool: sleeps and wakes, refusals, statistics, and kernel threads that are woken at
-//! once.
+//! Test cases for what a server needs of a pool: sleeps and wakes, refusals, statistics, and kernel threads that wake
+//! up at once.
 use crate::rounds::{Act, GRANT, Is, RELEASE, Row, Wakes};
 use crate::rows::{ALONE, ALONE_PARENT, ELEVEN, NOTHING, TO_THE_END};
 use crate::spells::Spell;
@@ -7,7 +7,7 @@ use crate::tasks::{Joins, LEAF, PARENT, Sort};
 use arachne_core::CORES;
 use arachne_pool::Refusal;
 
-/// A job that sleeps until an answer was counted.
+/// A job that sleeps until one answer (an event for which jobs sleep) was counted.
 const SLEEPER: Sort = Sort { answers: 1, ..LEAF };
 
 /// A job that forks another job and then sleeps. The forked job sleeps too.
@@ -17,27 +17,27 @@ const BESIDE: Sort = Sort {
     ..PARENT
 };
 
-/// A job that goes on for so long that a kernel thread which waits for it sleeps.
+/// A job that takes so long that another kernel thread, which waits for it, falls asleep.
 const LONG: Sort = Sort {
     steps: 50_000,
     bound: 1_000,
     ..LEAF
 };
 
-/// A job that goes on for as long as `LONG`, in one slice.
+/// A job that makes as many steps as `LONG`, all of them in one slice.
 const LONG_AT_ONCE: Sort = Sort {
     bound: LONG.steps,
     ..LONG
 };
 
-/// A job that goes on for far longer than `LONG_AT_ONCE`, in one slice.
+/// A job that takes far longer than `LONG_AT_ONCE`, in one slice.
 const LONGEST: Sort = Sort {
     steps: 2_000_000,
     bound: 2_000_000,
     ..LEAF
 };
 
-/// A job whose first step lasts until an answer was counted.
+/// A job whose first step lasts until an answer (an event for which jobs wait) was counted.
 const HELD: Sort = Sort {
     is_held: true,
     ..LEAF
@@ -49,11 +49,12 @@ const LADEN: Sort = Sort {
     ..LEAF
 };
 
-/// The number of times that a kernel thread is woken.
+/// The number of times that a test wakes a kernel thread.
 const OFTEN: u32 = 100;
 
-/// The most sleeps of kernel threads that may time out in a [`Row`], although there was something for them to do. If
-/// all signals of one kind are lost, sleeps time out nearly as often as such a signal is sent.
+/// The greatest number of sleeps of kernel threads that may time out in a [`Row`] although there was something to do.
+///
+/// If all wakes of one kind were lost, sleeps would time out nearly as often as such a wake is made.
 const FEW: u64 = OFTEN as u64 / 4;
 
 pub(crate) const ROWS: &[Row] = &[

@@ -1,4 +1,5 @@
-//! The acts of a test case's two kernel threads: each works, makes rounds, or waits for the other.
+//! The part of a test case that each of its two kernel threads does: it works, makes single rounds (passes of its
+//! loop), or waits for the other.
 ghost use Rattle.std.specs.Prelude.{◌≡◌, ◌<◌, IfSome};
 ghost use Rattle.arachne_pool.specs.Workers.{IsWorkerOf};
 
@@ -13,13 +14,13 @@ use std::sync::{Arc, Wait};
 use std::thread::{sleep, yield_now};
 use std::time::{Clock, Duration};
 
-/// How often a kernel thread checks for something in a row before it yields its processor.
+/// The number of checks in a row that a kernel thread makes before it yields its processor.
 const LOOKS: u32 = 1_000;
 
-/// How often a kernel thread checks, every 5 ms, for something that happens soon or never.
+/// The number of checks, one every 5 ms, that a kernel thread makes for an event that happens soon or never.
 const GLANCES: u32 = 2000;
 
-/// What one of a test case's kernel threads does.
+/// The part of a test case that one of its two kernel threads does.
 #[derive(Clone, Copy)]
 pub(crate) enum Spell {
     /// Does nothing.
@@ -46,7 +47,8 @@ pub(crate) enum Spell {
     /// This number of times counts an answer once the job that wants it is about to sleep, and wakes the job. If the
     /// second value is true, it waits first until the kernel thread of core 1 sleeps too.
     Wakes(u32, bool),
-    /// This number of times spawns a job and passes the turn. Once that job has begun on core 1, works to the end if the
+    /// This number of times spawns a job and passes the turn. Once that job has begun on core 1, works to the end if
+    /// the
     /// last value is true, or looks until all jobs have ended. Then polls the handle, and counts an answer if it gives
     /// the result. At last stops the pool.
     Polls(u32, Sort, bool),
@@ -103,7 +105,7 @@ pub(crate) fn work<C: Contexts<Spawned<Task>>, R: Wait + Clock>(
     }
 }
 
-/// Does `Spell::ToTheStop`, and waits for the turn before each time.
+/// Does what `Spell::ToTheStop` says, and waits for the other kernel thread before each time.
 fn to_the_stop<C: Contexts<Spawned<Task>>, R: Wait + Clock>(
     rt: &R,
     pool: &Pool<C>,
@@ -150,7 +152,8 @@ fn turns<C: Contexts<Spawned<Task>>, R: Wait + Clock>(
     pool.stop();
 }
 
-/// Does `Spell::TurnsUntilOpen`, with rounds on `core` until `own` is open.
+/// Does what `Spell::TurnsUntilOpen` says, with rounds (passes of the worker's loop) on `core` until core `own` is
+/// open.
 fn turns_until_open<C: Contexts<Spawned<Task>>, R: Wait + Clock>(
     rt: &R,
     pool: &Pool<C>,
@@ -175,7 +178,7 @@ fn turns_until_open<C: Contexts<Spawned<Task>>, R: Wait + Clock>(
     pool.stop();
 }
 
-/// Does `Spell::InNeed`.
+/// Does what `Spell::InNeed` says.
 fn in_need<C: Contexts<Spawned<Task>>, R: Wait + Clock>(
     rt: &R,
     pool: &Pool<C>,
@@ -196,7 +199,7 @@ fn in_need<C: Contexts<Spawned<Task>>, R: Wait + Clock>(
     }
 }
 
-/// Does `Spell::Feeds`. Spawns the leaves by the two calls in turn.
+/// Does what `Spell::Feeds` says. Spawns the leaves by the two calls in turn.
 fn feeds<C: Contexts<Spawned<Task>>, R: Wait + Clock>(
     rt: &R,
     pool: &Pool<C>,
@@ -226,7 +229,7 @@ fn feeds<C: Contexts<Spawned<Task>>, R: Wait + Clock>(
     let _ = pool.work(rt, worker, 0);
 }
 
-/// Does `Spell::Finishes`.
+/// Does what `Spell::Finishes` says.
 fn finishes<C: Seats, R: Wait>(rt: &R, pool: &Pool<C>, board: &Board, times: u32) {
     for time in 0..times {
         pool.keep_open();
@@ -239,7 +242,7 @@ fn finishes<C: Seats, R: Wait>(rt: &R, pool: &Pool<C>, board: &Board, times: u32
     board.pass_turn();
 }
 
-/// Does `Spell::Wakes`.
+/// Does what `Spell::Wakes` says.
 fn wakes<C: Contexts<Spawned<Task>>, R: Wait + Clock>(
     rt: &R,
     pool: &Pool<C>,
@@ -261,7 +264,7 @@ fn wakes<C: Contexts<Spawned<Task>>, R: Wait + Clock>(
     }
 }
 
-/// Does `Spell::Polls`.
+/// Does what `Spell::Polls` says.
 fn polls<C: Contexts<Spawned<Task>>, R: Wait + Clock>(
     rt: &R,
     pool: &Pool<C>,
@@ -297,7 +300,7 @@ fn polls<C: Contexts<Spawned<Task>>, R: Wait + Clock>(
     board.pass_turn();
 }
 
-/// Does `Spell::Fetches`.
+/// Does what `Spell::Fetches` says.
 fn fetches<C: Contexts<Spawned<Task>>, R: Wait + Clock>(
     rt: &R,
     pool: &Pool<C>,

@@ -1,4 +1,5 @@
-//! The jobs of all tests: each job counts itself and the jobs that it has joined.
+//! The jobs of all tests. Each job's result counts the job itself and all jobs that it has joined, directly or through
+//! others.
 use crate::board::Board;
 use arachne_contexts::Tagged;
 use arachne_core::ThreadId;
@@ -7,42 +8,43 @@ use std::alloc::Global;
 use std::mem::replace;
 use std::sync::Arc;
 
-/// A kind of job: it forks children, joins them, sleeps until answers were counted, goes on for some steps and ends.
+/// A kind of job: it forks children, joins them, sleeps until some answers (events for which jobs sleep) were counted,
+/// makes some more steps and ends.
 #[derive(Clone, Copy)]
 pub(crate) struct Sort {
-    /// The number of generations below the job.
+    /// The number of generations of descendants that the job has.
     pub(crate) depth: u32,
     /// The number of children that the job forks.
     pub(crate) forks: u32,
-    /// The number of answers for which the job sleeps once it has forked and joined its children. A child sleeps for
-    /// one answer fewer than its parent.
+    /// The number of answers (events) for which the job sleeps, after it has forked and joined its children. A child
+    /// sleeps for one answer fewer than its parent.
     pub(crate) answers: u64,
-    /// The number of steps that the job makes before each fork, and before it ends.
+    /// The number of steps that the job makes before each fork, and again before it ends.
     pub(crate) steps: u32,
-    /// The most steps of a slice.
+    /// The greatest number of steps that the job makes in one slice.
     pub(crate) bound: u32,
-    /// The number of values that the job carries, which take time to be dropped.
+    /// The number of values that the job has only because they take time to be dropped.
     pub(crate) luggage: usize,
     pub(crate) joins: Joins,
     pub(crate) is_exclusive: bool,
-    /// True if the job's first child is exclusive, even if the job itself is not.
+    /// True if the job's first child wants a core for itself, even if the job doesn't.
     pub(crate) is_first_exclusive: bool,
     /// True if the job's first step lasts until an answer was counted.
     pub(crate) is_held: bool,
 }
 
-/// The children that a job joins, and the time of the join.
+/// Which of its children a job joins, and when.
 #[derive(Clone, Copy)]
 pub(crate) enum Joins {
     /// The job joins each child before it forks the next one.
     InTurn,
-    /// The job joins all children once it has forked the last one.
+    /// The job joins all children after it has forked the last one.
     AtLast,
-    /// The job joins no child.
+    /// The job joins none of its children.
     Never,
 }
 
-/// A job that forks no child and ends at its first step.
+/// A job that forks no child and ends in its first step.
 pub(crate) const LEAF: Sort = Sort {
     depth: 0,
     forks: 0,
@@ -56,15 +58,15 @@ pub(crate) const LEAF: Sort = Sort {
     is_held: false,
 };
 
-/// A job that forks a leaf and joins it.
+/// A job that forks one child, a `LEAF`, and joins it.
 pub(crate) const PARENT: Sort = Sort {
     depth: 1,
     forks: 1,
     ..LEAF
 };
 
-/// A job in a pool, with the numbers of children that it has forked and not joined, of steps that it has gone on, and
-/// of jobs that it has counted.
+/// A job in a pool. It counts the children that it has forked and not joined, the further steps that it has made, and
+/// itself with the jobs that it has joined.
 #[derive(Drop)]
 pub(crate) struct Task {
     board: Arc<Board>,
@@ -78,7 +80,8 @@ pub(crate) struct Task {
 }
 
 impl Task {
-    /// Returns a job of this sort, or `None` if memory is refused, or the board has too many owners.
+    /// Returns a job of this sort that counts on `board`. Returns `None` if memory is refused, or the board has too
+    /// many owners.
     pub(crate) fn new(sort: Sort, board: &Arc<Board>) -> Option<Task> {
         Some(Task {
             board: board.clone().ok()?,
@@ -92,7 +95,7 @@ impl Task {
         })
     }
 
-    /// Returns the child that the job forks next.
+    /// Returns the child that the job forks next, if there is one.
     fn child(&mut self) -> Option<Task> {
         if self.sort.depth == 0 || self.forked >= self.sort.forks {
             return None;
@@ -111,7 +114,7 @@ impl Task {
         Some(child)
     }
 
-    /// Returns whether the job joins a child before it goes on.
+    /// Returns whether the job must join a child before it makes further steps.
     fn is_to_join(&self) -> bool {
         match self.sort.joins {
             Joins::InTurn => self.awaited > 0,
@@ -121,7 +124,7 @@ impl Task {
     }
 }
 
-/// Returns `count` values, each of which has memory of its own.
+/// Returns `count` values, each of which has an allocation of its own.
 fn luggage(alloc: Global, count: usize) -> Option<Vec<Vec<u64>>> {
     let mut luggage = Vec::new(alloc);
     for _ in 0..count {

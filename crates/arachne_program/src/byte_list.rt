@@ -4,7 +4,7 @@ ghost use Rattle.std.specs.Prelude.{◌≡◌, ◌<◌, [], ◌∷◌, ◌++◌,
 use std::alloc::{AllocError, Global};
 use std::marker::Model;
 
-/// The greatest length of a list.
+/// The greatest length of a `ByteList`.
 const ROOM: usize = 30;
 
 /// A list of at most 30 numbers below 256, stored in its own 31 bytes without an allocation.

@@ -2,7 +2,8 @@
 use crate::name::Name;
 use crate::sequence::Sequence;
 
-/// The report line of a thread: its name, and for each lock the number of times that it held the lock, modulo 2^64.
+/// A thread's line in the report of a run: its name and, for each lock, the number of times that the thread held the
+/// lock, modulo 2^64.
 #[derive(Debug, PartialEq, Eq, Drop)]
 pub struct Line {
     pub name: Name,

@@ -43,7 +43,7 @@ impl Model for Name {
 }
 
 impl Name {
-    /// Returns the name of the root thread. Takes no memory.
+    /// Returns the name of the root thread. Allocates no memory.
     pub fn root(_alloc: Global) -> Name
         ensures { result ≡ [] }
     {
@@ -54,7 +54,7 @@ impl Name {
 
     /// Returns the name of this thread's child of number `number`, counted from 0.
     ///
-    /// Allocates only if that name doesn't fit its own 32 bytes. Returns `Err` if memory is refused.
+    /// Allocates only if that name doesn't fit the 32 bytes of a `Name`. Returns `Err` if memory is refused.
     pub fn child(&self, alloc: Global, number: u64) -> Result<Name, AllocError>
         ensures named { IfOk result (λ name. name ≡ self.now ++ number ∷ []) }
         ensures inline { FitsInline (self.now ++ number ∷ []) → IsOk result }
@@ -86,7 +86,8 @@ impl Name {
         }
     }
 
-    /// Allocates the name of this thread's child of number `number`, which must fit neither kind of short list.
+    /// Allocates the name of this thread's child of number `number`. That name must fit neither a `ByteList` nor a
+    /// `WordList`.
     #[inline(never)]
     fn long_child(&self, alloc: Global, number: u64) -> Result<Name, AllocError>
         requires bytes { ¬ FitsBytes (self.now ++ number ∷ []) }

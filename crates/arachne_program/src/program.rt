@@ -33,7 +33,7 @@ pub enum Operation {
 }
 
 impl Operation {
-    /// Returns the result of this operation for `x` and `y`.
+    /// Returns the result of this operation for the operands `x` and `y`.
     #[inline(always)]
     pub fn apply(self, x: u64, y: u64) -> u64
         ensures { result ≡ apply self x y }
@@ -101,10 +101,10 @@ pub enum Expr {
     Num(u64),
     /// A variable. The number is its index among the bound variables, with the oldest at 0.
     Var(u64),
-    /// The number of items of the array of this number.
+    /// The number of items of an array. The field is the number of the array.
     Len(u64),
-    /// An item of the array of this number, at the index (from 0) that the expression yields. The value is 0 if there
-    /// is no such item.
+    /// An item of an array. Fields: the number of the array, and the expression of the index, counted from 0. The value
+    /// is 0 if there is no such item.
     Item(u64, Box<Expr>),
     /// A binary operation on the values of two expressions.
     Binary(Operation, Box<Expr>, Box<Expr>),
@@ -114,8 +114,8 @@ pub enum Expr {
     /// A binding: the value of the first expression becomes the newest variable in the second, whose value is the
     /// result.
     Let(Box<Expr>, Box<Expr>),
-    /// Adds the value of the first expression to the ledger (a shared sum) of this number. The second expression yields
-    /// the result.
+    /// Adds the value of the first expression to the ledger (a shared sum) of this number. The value is that of the
+    /// second expression.
     Tally(u64, Box<Expr>, Box<Expr>),
     /// Evaluates the expression while the thread holds the lock of this number.
     Hold(u64, Box<Expr>),
@@ -125,7 +125,7 @@ pub enum Expr {
     Fork(Class, Box<Expr>, Box<Expr>, Box<Expr>),
     /// A sequential loop. The first two expressions yield the range: the lower end, and the upper end, which is
     /// excluded. The third yields the initial value. The fourth is the body, in which the two newest variables are the
-    /// current number and then the value so far.
+    /// current number and then the value so far, at first the initial value.
     Fold(Box<Expr>, Box<Expr>, Box<Expr>, Box<Expr>),
     /// A reduction over a range. The number is the grain; the expressions are the lower end, the upper end, which is
     /// excluded, and the body, in which the newest variable is the current number. A range that is longer than the

@@ -4,10 +4,10 @@ ghost use Rattle.std.specs.Prelude.{◌≡◌, ◌<◌, ◌≤◌, ◌^◌, [], 
 use std::alloc::{AllocError, Global};
 use std::marker::Model;
 
-/// The greatest length of a list.
+/// The greatest length of a `WordList`.
 const ROOM: usize = 6;
 
-/// The least number that is too large for a list.
+/// The least number that is too large for a `WordList`.
 const TOO_LARGE: u64 = 1 << 32;
 
 /// A list of at most 6 numbers below 2^32, stored in its own 28 bytes without an allocation.

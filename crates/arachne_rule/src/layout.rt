@@ -5,11 +5,12 @@ use arachne_core::SLOTS;
 /// The number of words in two cache lines, which processors fetch together.
 pub const SPACING: usize = 16;
 
-/// The offset of the occupancy word in a core's block of words. The two cache lines before this word, and the two after
-/// it, have no other word.
+/// The offset, counted in words, of the occupancy word in a core's block of words. No other word is in the two cache
+/// lines before this word or in the two after it.
 pub const OCCUPANCY: usize = SPACING;
 
-/// The offset of the place words in a core's block of words.
+/// The offset, counted in words, of the place words (the numbers of the contexts at the core's thread slots) in a
+/// core's block of words.
 pub const NAMES: usize = OCCUPANCY + SPACING;
 
 /// The number of words in the block of each core.

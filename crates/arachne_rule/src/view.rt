@@ -1,24 +1,25 @@
-//! The parts of a seat and of a table about which the invariant speaks. These types exist only for proofs.
+//! The parts of a seat and of a table to which the table's invariant refers. These types exist only for proofs.
 
 use arachne_core::{Place, ThreadId};
 use arachne_weights::Token;
 use std::collections::LinkedList;
 
-/// A context that a seat has claimed (reserved for a thread), or whose thread the seat holds.
+/// A context (the record of a user thread) that a seat (a kernel thread's right to call the table) has claimed for a
+/// thread, or whose thread the seat holds.
 pub struct Carried {
     pub context: u32,
     /// The context's place, which is one of a core's thread slots.
     pub place: Place,
-    /// The place that the context's mark word shows. During a move, it differs from `place`.
+    /// The place in the context's mark word. During a move, it differs from `place`.
     pub shown: Place,
     pub generation: u64,
     /// True if the seat holds the context's thread, false if it has claimed the context.
     pub held: bool,
-    /// The tag of the thread (a number that came with it), if the seat holds one.
+    /// The tag of the thread (the number with which it came into the table), if the seat holds one.
     pub tag: u64,
     /// True if the context's thread has its core for itself.
     pub alone: bool,
-    /// True if the word of the context's place has the context's number.
+    /// True if the word of the context's place stores the context's number.
     pub named: bool,
     /// True if the seat has taken the context's value field out of the table.
     pub away: bool,
@@ -26,7 +27,9 @@ pub struct Carried {
 
 /// The kinds of atomic operation on a word of the table.
 ///
-/// Each context has a field for its thread's value. This value field is in the table, unless a seat has taken it out.
+/// An occupancy word has a bit for each occupied thread slot of a core, a mark word the state of a context (the record
+/// of a user thread), and a place word the number of the context at a thread slot. Each context has a field for its
+/// thread's value. The value field is in the table, unless a seat (a right to call the table) has taken it out.
 pub enum Kind {
     /// A load of an occupancy word or of a mark word.
     Look,
@@ -41,7 +44,7 @@ pub enum Kind {
     Post,
     /// A compare-exchange of a mark word, which takes a ready thread, and its value out of the table.
     Take,
-    /// A store of a place word: it gets the number of a taken context at that place, whose empty value field goes into
+    /// A store of a taken context's number to the word of its place. With it, the context's empty value field goes into
     /// the table.
     KeepName,
     /// A swap of a mark word, which ends a thread that the seat holds.
@@ -63,12 +66,12 @@ pub enum Kind {
     /// A compare-exchange of a mark word (the atomic with a thread's state and place), which gives another place to a
     /// thread that no worker holds.
     Move,
-    /// A compare-exchange of a place word: the new place of a moved thread gets the number of that thread's context.
+    /// A compare-exchange of a place word: it stores the number of a moved thread's context in the word of its new
+    /// place.
     NameTarget,
-    /// A store of a mark word: it gets the new place of the free context that changed places with a moved thread's
-    /// context.
+    /// A store of a mark word: the free context that changed places with a moved thread's context gets its new place.
     Replace,
-    /// A store of a place word: the old place of a moved thread gets the number of the context that is there now.
+    /// A store of a place word: it stores the number of the context that is now at a moved thread's old place.
     NameSource,
 }
 
@@ -80,7 +83,8 @@ pub struct Record {
     pub after: u64,
 }
 
-/// The record of a seat: the contexts that it has claimed, the threads that it holds, and its past operations.
+/// The record of a seat (a right to call the table): the contexts that it has claimed, the threads that it holds, and
+/// its past operations.
 pub struct Known {
     /// The contexts that the seat has claimed, and those whose threads it holds.
     pub carried: LinkedList<Carried>,
@@ -94,8 +98,8 @@ pub struct Known {
 
 pub type View = Token<Known>;
 
-/// The constant sizes of a table: its number of cores, the number of places of each, and the first and the last
-/// generation.
+/// The constant sizes of a table: its number of cores, the number of thread slots of each core, and the first and the
+/// last generation of each context.
 pub struct Shape {
     pub cores: u8,
     pub places_per_core: u8,

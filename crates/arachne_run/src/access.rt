@@ -1,5 +1,5 @@
-//! A worker's calls on the locks and the ledgers. A call on a lock is repeated while another kernel thread is at the
-//! lock.
+//! A worker's calls on the locks and the ledgers (shared counters). The worker repeats a call on a lock while another
+//! kernel thread is in a call on the same lock.
 ghost use Rattle.std.specs.Prelude.{◌≡◌, ◌<◌, ◌≤◌, false, Err, None, Ok, MatchOption, IfErr, IfOk, IfSome, IsOk, OnOk, length};
 ghost use Rattle.arachne_ledger.specs.Sums.{raised};
 ghost use Rattle.arachne_ledger.specs.Views.{IsShareOf};
@@ -25,33 +25,33 @@ use std::marker::Model;
 use std::sync::Wait;
 use std::time::Clock;
 
-/// A thread's request to a lock or a ledger: to get the lock, to free it, or to add to the ledger.
+/// A thread's request: to get or free a lock, or to add to a ledger (a shared counter).
 #[derive(Clone, Copy)]
 pub(crate) enum Want {
-    /// The thread asks for this lock.
+    /// The thread asks for the lock of this number.
     Asks(u64),
-    /// The thread has asked for this lock before, and was not answered yet.
+    /// The thread has asked for the lock of this number before, and still waits for it.
     Awaits(u64),
-    /// The thread frees this lock.
+    /// The thread frees the lock of this number.
     Frees(u64),
-    /// The thread adds this amount to this ledger.
+    /// The thread adds the second number to the ledger whose number is the first.
     Tallies(u64, u64),
 }
 
-/// The answer of the lock or the ledger to a thread's request.
+/// The result of a thread's request to a lock or a ledger.
 pub(crate) enum Served {
-    /// The thread waits for this lock.
+    /// The thread must wait for the lock of this number.
     Waits(u64),
-    /// The thread holds the lock that it asked for.
+    /// The thread holds the lock that it asked for. The field is the evidence.
     Holds(Granted),
-    /// The lock that the thread had is free, or another thread holds it now.
+    /// The thread has freed its lock. The field says whether another thread holds the lock now.
     Freed(Freed),
-    /// The amount was added.
+    /// The amount was added to the ledger.
     Added,
 }
 
-/// A worker's access to the locks and the ledgers. Contracts see the locks, the ledgers, and what the worker's share
-/// has added to each ledger.
+/// A worker's access to the locks and the ledgers. The model, which contracts see, has the locks, the ledgers, and what
+/// the worker's share has added to each ledger.
 #[derive(Drop)]
 pub(crate) struct Access<'a> {
     resources: &'a Resources,
@@ -59,7 +59,7 @@ pub(crate) struct Access<'a> {
 }
 
 impl Served {
-    /// Returns whether a thread has a lock after this result, given whether it `had` one before.
+    /// Returns whether the thread holds a lock after this result; `had` says whether it held one before.
     #[inline(always)]
     fn has_lock(&self, had: bool) -> bool
         ensures { result ≡ has_lock_by self.now had }
@@ -83,7 +83,8 @@ impl<'a> Model for Access<'a> {
 }
 
 impl<'a> Access<'a> {
-    /// Creates a worker's access to these locks and ledgers, with the worker's share and seats of them.
+    /// Creates a worker's access to the locks and ledgers in `resources`; `holdings` are the worker's rights to use
+    /// them.
     pub(crate) fn new(resources: &'a Resources, holdings: Holdings) -> Access<'a>
         requires { AreHoldingsOf resources.now holdings }
         ensures { result ≡ record { resources = resources.now; sums = holdings.share.sums } }
@@ -100,8 +101,10 @@ impl<'a> Access<'a> {
         self.holdings
     }
 
-    /// Does what the thread of this id asks for, and replies to its pause unless it must wait. Sets `has_lock`. The
-    /// locks know the thread by the tag of the thread that runs in its place.
+    /// Carries out the request of `thread`, whose id is `id`, and then lets it continue unless it must wait.
+    ///
+    /// Updates `has_lock` if the thread got or freed a lock. The locks identify the thread by its id and by the tag
+    /// (the number in this run) of the thread that currently runs inside its slot.
     pub(crate) fn serve<H: Wait + Clock, T: RunThread>(
         &mut self,
         rt: &H,
@@ -131,7 +134,7 @@ impl<'a> Access<'a> {
         }
     }
 
-    /// Does what a thread asks for. `who` is the thread's name for the locks.
+    /// Carries out the request `want` of a thread. `who` identifies the thread to the locks.
     fn do_for<H: Wait + Clock>(
         &mut self,
         rt: &H,
@@ -160,7 +163,8 @@ impl<'a> Access<'a> {
         }
     }
 
-    /// Repeats this call for a lock until the lock answers. Returns `None` if the thread waits for the lock.
+    /// Makes a call on a lock to get it, and repeats the call while another kernel thread is in a call on that lock.
+    /// Returns `None` if the thread must wait for the lock.
     #[inline(always)]
     pub(crate) fn get<H: Wait + Clock>(
         &mut self,
@@ -187,7 +191,8 @@ impl<'a> Access<'a> {
         unreachable!()
     }
 
-    /// Frees a lock. Returns the lock's answer.
+    /// Frees a lock, and tries again while another kernel thread is in a call on it. Returns whether another thread
+    /// holds the lock now.
     pub(crate) fn free<H: Wait + Clock>(
         &mut self,
         rt: &H,
@@ -210,7 +215,8 @@ impl<'a> Access<'a> {
         unreachable!()
     }
 
-    /// Makes one attempt to get a lock by this call. In a checked program a pause names a lock that exists.
+    /// Tries once to get a lock by `call`, a first request or a later check. The error is `Foreign` if there is no such
+    /// lock, which a checked program never causes.
     fn try_get(&mut self, call: LockCall, lock: u64, who: Who) -> Result<Got, WorkerFault>
         ensures same { self.new ≡ self.old }
         ensures pass { (granted : Granted) → result ≡ Ok (got.Granted granted) → IsGrantBy call lock who granted }
@@ -224,7 +230,7 @@ impl<'a> Access<'a> {
         }
     }
 
-    /// Tries once to free a lock; another kernel thread at the lock makes the attempt fail.
+    /// Tries once to free a lock. Returns `Contended` if another kernel thread is in a call on that lock.
     fn try_free(
         &mut self,
         lock: u64,
@@ -240,7 +246,7 @@ impl<'a> Access<'a> {
         )
     }
 
-    /// Adds the due amount to its ledger. Afterwards nothing is due.
+    /// Adds the amount in `due`, which threads of this worker have tallied, to its ledger. Then sets that amount to 0.
     #[inline(always)]
     pub(crate) fn settle(&mut self, due: &mut Due) -> Result<(), WorkerFault>
         ensures same { self.new.resources ≡ self.old.resources }
@@ -250,7 +256,8 @@ impl<'a> Access<'a> {
         settle_at(&self.resources.ledgers, &mut self.holdings.share, due)
     }
 
-    /// Adds to a ledger. In a checked program a pause names a ledger that exists.
+    /// Adds `amount` to the ledger (counter) of number `ledger`. The error is `Foreign` if there is no such ledger,
+    /// which a checked program never causes.
     pub(crate) fn add(&mut self, ledger: u64, amount: u64) -> Result<(), WorkerFault>
         ensures same { self.new.resources ≡ self.old.resources }
         ensures raised { OnOk result (self.new.sums ≡ raised self.old.sums ledger amount) }
@@ -260,7 +267,8 @@ impl<'a> Access<'a> {
     }
 }
 
-/// Returns how a thread that has freed a lock stops: it goes on, and the lock's next holder is woken.
+/// Returns how the worker continues after a thread has freed a lock: if another thread holds the lock now, the worker
+/// must wake that thread.
 #[inline(always)]
 fn stop_after(freed: Freed) -> ThreadStop
     ensures next { MatchOption freed.next (result ≡ stopped.Goes) (λ next. result ≡ stopped.Wakes next.id) }
@@ -272,7 +280,7 @@ fn stop_after(freed: Freed) -> ThreadStop
     }
 }
 
-/// Makes one attempt to free the lock of this number, if it exists.
+/// Tries once to free the lock of number `lock`. The error is `Foreign` if there is no such lock.
 fn free_at(
     locks: &SleepLocks,
     seats: &mut LockSeats,
@@ -288,7 +296,8 @@ fn free_at(
     Ok(locks.free(seats, lock, who))
 }
 
-/// Adds to the share's sum for a ledger, if that ledger exists.
+/// Adds `amount` to the sum that `share` has for the ledger of number `ledger`. The error is `Foreign` if there is no
+/// such ledger.
 fn add_to(ledgers: &Ledgers, share: &mut Share, ledger: u64, amount: u64) -> Result<(), WorkerFault>
     requires { IsShareOf ledgers.now share.old }
     ensures own { IsShareOf ledgers.now share.new }
@@ -303,7 +312,8 @@ fn add_to(ledgers: &Ledgers, share: &mut Share, ledger: u64, amount: u64) -> Res
     Ok(())
 }
 
-/// Adds the due amount, if there is one, to the share's sum for its ledger. Afterwards nothing is due.
+/// Adds the amount in `due`, which threads have tallied, to the sum in `share` for its ledger. Then sets that amount to
+/// 0.
 #[inline(always)]
 fn settle_at(ledgers: &Ledgers, share: &mut Share, due: &mut Due) -> Result<(), WorkerFault>
     requires { IsShareOf ledgers.now share.old }
@@ -319,7 +329,7 @@ fn settle_at(ledgers: &Ledgers, share: &mut Share, due: &mut Due) -> Result<(), 
     Ok(())
 }
 
-/// Returns `lock` as the number of a lock; the error is `Foreign` if there is no such lock.
+/// Returns `lock` as a `u8`, if there is a lock of this number. Otherwise the error is `Foreign`.
 fn number_of(locks: &SleepLocks, lock: u64) -> Result<u8, WorkerFault>
     ensures there { IfOk result (λ number. number < length locks.now) }
     ensures same { IfOk result (λ number. number ≡ lock) }

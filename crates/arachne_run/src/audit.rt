@@ -1,4 +1,5 @@
-//! Checks, at the end of a run, that no two threads have one tag, and that each lock's grants are those of its threads.
+//! Checks at the end of a run that all threads have different tags (numbers in the run), and that the locks' histories
+//! match the threads' lines in the report.
 ghost use Rattle.std.specs.Prelude.{◌≡◌, ◌⊎◌, ℕ, ◌<◌, ◌≤◌, false, true, Contains, IfErr, IfNone, IfOk, IfSome, Ok, OnOk, List, length, map, slice_index, slice_index_or};
 ghost use Rattle.arachne_sleep.specs.declared.event.LockEvent.TheVariants.{Grant};
 ghost use Rattle.arachne_sleep.specs.declared.who.Who.{Who};
@@ -11,7 +12,8 @@ use arachne_machine::{LineView, ThreadLines};
 use arachne_sleep::{History, LockEvent};
 use std::alloc::{AllocError, Global};
 
-/// Checks that no two threads have one tag, and that each lock was granted to each thread as often as it held the lock.
+/// Checks that no two threads have the same tag (number in the run), and that each lock was granted to each thread as
+/// often as the thread's line in the report says.
 pub(crate) fn audit(
     alloc: Global,
     threads: &ThreadLines,
@@ -31,8 +33,8 @@ pub(crate) fn audit(
     }
 }
 
-/// Returns marks for the tags of the threads, if no two tags are equal and none is 2^64 - 1. The marks are a byte for
-/// each tag up to the greatest, and at least one for each thread.
+/// Returns a list that is true at the index of each thread's tag. Returns `None` if two tags are equal or a tag is 2^64
+/// - 1.
 fn marks_of(alloc: Global, threads: &ThreadLines) -> Result<Option<Vec<bool>>, AllocError>
     ensures distinct { IfOk result (λ found. IfSome found (λ marks. AreDistinct (map (λ line. line.tag) threads.now))) }
     ensures marks { IfOk result (λ found. IfSome found (λ marks. AreMarksOf (map (λ line. line.tag) threads.now) marks.items)) }
@@ -56,7 +58,7 @@ fn marks_of(alloc: Global, threads: &ThreadLines) -> Result<Option<Vec<bool>>, A
     Ok(Some(marks))
 }
 
-/// Returns the index of a thread's mark: the thread's tag.
+/// Returns the index of the thread's tag in the list that `marks_of` returns.
 #[inline(always)]
 fn place_of(line: &LineView<'_>) -> usize
     ensures { result ≡ line.now.tag }
@@ -64,8 +66,8 @@ fn place_of(line: &LineView<'_>) -> usize
     line.tag() as usize
 }
 
-/// Returns whether each lock was granted to each thread as often as it held the lock, and to no other thread. `marks`
-/// has a mark for the tag of each thread.
+/// Returns whether each lock was granted to each thread as often as the thread's line in the report says, and to no
+/// other thread. `marks` is true at the index of each thread's tag.
 fn are_grants_holds(
     alloc: Global,
     threads: &ThreadLines,
@@ -83,8 +85,8 @@ fn are_grants_holds(
     Ok(true)
 }
 
-/// Returns whether this lock was granted to each thread as often as the thread held it, and to no other thread. The
-/// time grows with the lock's events and the threads.
+/// Returns whether the lock of number `lock` was granted to each thread as often as the thread's line in the report
+/// says, and to no other thread. The time is linear in the number of the lock's events and of the threads.
 fn is_granted_as_held(
     alloc: Global,
     threads: &ThreadLines,
@@ -107,8 +109,8 @@ fn is_granted_as_held(
     Ok(true)
 }
 
-/// Returns how often the lock was granted to the thread of each tag. Returns `None` if the tag of a thread that got the
-/// lock isn't marked.
+/// Returns a list that has, at the index of each thread's tag, the number of the lock's grants to that thread. Returns
+/// `None` if the lock was granted to a thread at whose tag `marks` isn't true.
 fn grants_by_tag(
     alloc: Global,
     marks: &[bool],
@@ -131,7 +133,7 @@ fn grants_by_tag(
     Ok(Some(grants))
 }
 
-/// Returns the number at an index, or 0 past the end.
+/// Returns `numbers[place]`, or 0 if the list is shorter.
 fn number_at(numbers: &[u64], place: usize) -> u64
     ensures { result ≡ slice_index numbers.now place }
 {

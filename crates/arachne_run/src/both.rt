@@ -1,11 +1,11 @@
-//! Decides which of two faults a run reports at its end.
+//! Combines two results at the end of a run, and decides which of two faults the run reports.
 ghost use Rattle.std.specs.Prelude.{◌≡◌, ◌⊎◌, Err, IfErr, IfOk, IfSome, None, Ok, Some};
 ghost use Rattle.arachne_run.specs.declared.fault.WorkerFault.TheVariants.{Token};
 
 use crate::fault::WorkerFault;
 
-/// Returns both values, if neither is a fault. If a token (a seat, pass or share) was not returned, reports that
-/// instead of any other fault.
+/// Returns both values, if neither result is a fault. If one of the faults is that a token (a seat, pass or share) was
+/// not returned, that fault comes first.
 pub(crate) fn both<A: Drop, B: Drop>(
     one: Result<A, WorkerFault>,
     other: Result<B, WorkerFault>,
@@ -22,7 +22,8 @@ pub(crate) fn both<A: Drop, B: Drop>(
     }
 }
 
-/// Returns the tokens, if there was no fault. The first fault is reported instead of missing tokens.
+/// Returns the tokens (seats, passes and shares) if no worker has failed and all tokens were returned. Otherwise
+/// returns `first`, the first fault of a worker, or `Token` if there is none.
 pub(crate) fn first_of<T: Drop>(
     first: Option<WorkerFault>,
     tokens: Option<T>,

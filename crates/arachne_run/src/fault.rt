@@ -1,4 +1,4 @@
-//! The reasons why a run ends without a report, made from the faults of its workers.
+//! The reasons why a run ends without a report, and conversions from the errors of other crates.
 use arachne_jobs::JobFault;
 use arachne_policy::OrderFault;
 use arachne_sleep::{AskFault, NotHolder};
@@ -7,7 +7,7 @@ use arachne_workers::Halt;
 use std::alloc::AllocError;
 use thiserror::Error;
 
-/// The reason why a run has no report. If several workers meet a fault, the first that was recorded is returned.
+/// The reason why a run has no report. If several workers fail, this is the first fault that one of them recorded.
 #[derive(Clone, Copy, Debug, PartialEq, Eq, Error)]
 pub enum RunFault {
     /// The setup has no core, or more than 64.
@@ -16,13 +16,13 @@ pub enum RunFault {
     /// The setup's quantum is 0, or more than 10,000.
     #[error("the quantum is not 1 to 10,000")]
     Quantum,
-    /// The setup's cores have no place, or more than 56 each.
+    /// The setup's cores have no slot, or more than 56 slots each.
     #[error("the number of places a core is not 1 to 56")]
     Slots,
-    /// The caller gave fewer choosers than the setup has cores, or more.
+    /// The number of choosers (the random generators by which forks choose cores) differs from the number of cores.
     #[error("there is not one chooser for each core")]
     Choosers,
-    /// The first core order at fault.
+    /// This order to close or open a core isn't valid for the run's cores.
     #[error("{0}")]
     Orders(OrderFault),
     /// The fault that a worker met, or that was found after all workers had ended.
@@ -30,28 +30,28 @@ pub enum RunFault {
     Worker(WorkerFault),
 }
 
-/// A fault that a worker met, or that was found after all workers had ended: each fault of a run but those of its
-/// setup.
+/// A fault that a worker met, or that was found after all workers had ended, as opposed to a fault of the setup.
 #[derive(Clone, Copy, Debug, PartialEq, Eq, Error)]
 pub enum WorkerFault {
-    /// Memory was refused.
+    /// The allocator refused memory.
     #[error("out of memory")]
     Memory,
-    /// A thread got an outcome that isn't of the awaited child or isn't one of its program, or the thread named a
-    /// ledger or a lock that doesn't exist.
+    /// A thread got an outcome (the result of a child) that isn't the awaited child's or that its program can't have,
+    /// or it named a ledger or a lock that doesn't exist.
     #[error("the outcome of another thread")]
     Foreign,
-    /// Two threads have the same tag, a thread asked for a lock that it had or freed a lock that it didn't have, or the
-    /// grants of a lock don't match the threads' holds.
+    /// Two threads have the same tag (number in the run), a thread asked for a lock that it had or freed a lock that it
+    /// didn't have, or the grants of a lock don't match the threads' lines in the report.
     #[error("two threads have one tag, or a lock's grants are not the holds")]
     Threads,
-    /// The word of a ledger differs from the sum in the root's outcome.
+    /// The word of a ledger differs from the sum that the root thread's outcome has for it.
     #[error("a ledger's word is not the root's sum")]
     Ledgers,
-    /// The table didn't know a worker's place or thread, or in the end not all seats and shares had been returned.
+    /// The table rejected a slot or a thread that it had given to a worker, or not all seats and shares (rights to use
+    /// the shared objects) were returned at the end.
     #[error("the table knows no such token, or not all of a table came back")]
     Token,
-    /// A kernel thread was refused, or had no chooser.
+    /// The system refused to start a kernel thread.
     #[error("a kernel thread was refused")]
     KernelThread,
 }
@@ -67,7 +67,7 @@ impl From<WorkerFault> for RunFault {
     }
 }
 
-/// The loop of a worker knows a fault by its number.
+/// Converts a fault to the number that `Halt` has for it, so that the worker's loop (`CoreWorker`) can return it.
 impl From<WorkerFault> for Halt {
     ghost use Rattle.std.specs.Prelude.{◌≡◌};
     ghost use Rattle.arachne_run.specs.Setups.{number_of};

@@ -1,6 +1,7 @@
-//! Gives threads their places: the child of a fork gets a place, waits for one, or runs in its parent's place.
+//! Gives slots to threads: the child of a fork gets a slot, waits for one, or runs inside its parent's slot.
 //!
-//! This module may use the table, by the seat that it is given, and the queue of tickets.
+//! The caller passes the seat (the right to access the table) by which this module uses the table, and the queue of
+//! tickets (entries of waiting children).
 ghost use Rattle.std.specs.Prelude.{◌≡◌, ◌↔◌, ◌<◌, ◌≤◌, [], ◌∷◌, false, IfOk, IfSome, IsOk, IsSome, IsTrue, OnOk, map};
 ghost use Rattle.rand_core.specs.Stream.{next_u64};
 ghost use Rattle.arachne_arbiter.specs.Placed.{GetsPlace, IsAtStartOfSome};
@@ -24,18 +25,18 @@ use std::alloc::{AllocError, Global};
 use std::sync::Wait;
 use std::time::Clock;
 
-/// The data that a worker needs for the forks of threads.
+/// The values that a worker needs for forks: its random generator, the tags (numbers) of new threads, and spare memory.
 #[derive(Drop)]
 pub(crate) struct ForkSupplies<R, P> {
-    /// The core's chooser, a random generator.
+    /// The core's chooser: the random generator by which a fork chooses a core for its child.
     pub(crate) chooser: R,
     pub(crate) openings: Openings,
-    /// The memory of ended threads, for those that begin.
+    /// Memory of ended threads, which the worker uses for new threads.
     pub(crate) spares: P,
 }
 
-/// Runs the thread in hand for at most `left` steps, adds what the thread has tallied to the ledgers, and does what the
-/// thread asks for.
+/// Runs `held`, the thread that the worker has taken, for at most `left` steps, adds to the ledgers what it has
+/// tallied, and carries out what it asks for.
 #[inline(always)]
 pub(crate) fn go_on<H: Wait + Clock, T: RunJob, C: Contexts<T>, R: Rng>(
     rt: &H,
@@ -65,7 +66,8 @@ pub(crate) fn go_on<H: Wait + Clock, T: RunJob, C: Contexts<T>, R: Rng>(
     let slice = held
         .value
         .slice(left, &mut forks.spares, room, &mut forks.openings)?;
-    // Forks without a pause drew no word: the chooser must go on as if they had.
+    // Forks that didn't pause the thread drew no random number; the draws are made up for here, so that the chooser's
+    // later numbers are the same.
     draw(&mut forks.chooser, forks.openings.draws);
     forks.openings.draws = 0;
     access.settle(&mut forks.openings.due)?;
@@ -87,16 +89,19 @@ pub(crate) fn go_on<H: Wait + Clock, T: RunJob, C: Contexts<T>, R: Rng>(
     access.serve(rt, pace, want, id, &mut held.value, has_lock)
 }
 
-/// Draws `words` numbers from the chooser, a random generator.
+/// Draws `words` random numbers from `chooser` and drops them.
 fn draw<R: Rng>(chooser: &mut R, words: u64) {
     for _ in 0..words {
         let _ = chooser.next_u64();
     }
 }
 
-/// Answers a fork of the thread in hand: a normal child gets a place on the core that `claim_normal` of
-/// `arachne_arbiter` chooses, an exclusive one on an empty core. If there is no place, a normal child waits if there is
-/// room in the queue, and any other child runs in its parent's place.
+/// Handles a fork of `held`, the thread that runs now.
+///
+/// A normal child gets a slot on the less loaded of two random cores, or else on the first other core with a free slot
+/// (`claim_normal` of `arachne_arbiter`); an exclusive child, which wants a core for itself, gets an empty core. If
+/// there is no slot, a normal child waits if the queue of waiting children has room, and any other child runs inside
+/// its parent's slot.
 fn answer_fork<H: Wait, T: RunJob, C: Contexts<T>, R: Rng>(
     rt: &H,
     alloc: Global,
@@ -136,7 +141,8 @@ fn answer_fork<H: Wait, T: RunJob, C: Contexts<T>, R: Rng>(
     make_room(rt, tickets, room, pass, wants_room);
     let waits = may_wait(class, !tickets.is_full(rt, pass));
     if let Some(ticket) = held.value.put_aside(alloc, me, child, tag, waits)? {
-        // If others have filled the queue meanwhile, the child waits without a ticket, for its parent.
+        // If other workers have filled the queue meanwhile, the child waits without a ticket (an entry there), so only
+        // its parent can run it.
         if put_ticket(rt, tickets, room, pass, ticket).is_ok() {
             return Ok(ThreadStop::Spilled);
         }
@@ -144,8 +150,10 @@ fn answer_fork<H: Wait, T: RunJob, C: Contexts<T>, R: Rng>(
     Ok(ThreadStop::Goes)
 }
 
-/// Claims a place for a child of this class: on a core that is chosen by a word of the chooser if the child is normal,
-/// on an empty core if it is exclusive.
+/// Claims a slot for a child of this class.
+///
+/// For a normal child the slot is on a core chosen by a random number, for an exclusive child (which wants a core for
+/// itself) on an empty core.
 #[inline(always)]
 fn claim_for<H: Wait, T: RunJob, C: Contexts<T>, R: Rng>(
     cores: &Cores<'_, H, T, C>,
@@ -166,22 +174,22 @@ fn claim_for<H: Wait, T: RunJob, C: Contexts<T>, R: Rng>(
     }
 }
 
-/// Returns whether a child for which no place was found waits for one. A normal child (which may share a core) waits if
-/// the queue has room.
+/// Returns whether a child for which no slot was found waits for one. A normal child, which may share a core, waits if
+/// the queue has room; an exclusive one never waits.
 fn may_wait(class: Class, has_room: bool) -> bool
     ensures { IsTrue result ↔ (class ≡ Class.Normal) × IsTrue has_room }
 {
     class == Class::Normal && has_room
 }
 
-/// Returns whether room is made in the queue for a child: the child must be large, and may wait.
+/// Returns whether it pays to make room in the queue of waiting children for this child: it is large, and may wait.
 fn is_worth_room(class: Class, is_large: bool) -> bool
     ensures { IsTrue result ↔ (class ≡ Class.Normal) × IsTrue is_large }
 {
     class == Class::Normal && is_large
 }
 
-/// Gives back a place at which no thread was put. The caller must count the place as free.
+/// Frees a claimed slot into which no thread was put. The caller must then count the slot as free.
 pub(crate) fn give_place_back<H: Wait, T: RunJob, C: Contexts<T>>(
     rt: &H,
     machine: &Machine<C, T::Ticket>,
@@ -199,7 +207,8 @@ pub(crate) fn give_place_back<H: Wait, T: RunJob, C: Contexts<T>>(
     }
 }
 
-/// Returns a place of the core: the newest that the worker keeps for later children, otherwise one that is free.
+/// Returns a claimed slot of the core: the newest of those that the worker keeps for later children, or else one that
+/// this call claims. Returns `None` if the core is full.
 pub(crate) fn free_place<H: Wait, T: RunJob, C: Contexts<T>>(
     rt: &H,
     machine: &Machine<C, T::Ticket>,
@@ -224,7 +233,7 @@ pub(crate) fn free_place<H: Wait, T: RunJob, C: Contexts<T>>(
     Ok(claim)
 }
 
-/// Posts a job: puts it at a claimed place, ready to run. Returns the job's id, and the place.
+/// Puts a job into a claimed slot, ready to run. Returns the job's id and its slot.
 #[inline(always)]
 fn post_at<H: Wait, T: RunJob, C: Contexts<T>>(
     rt: &H,
@@ -246,8 +255,8 @@ fn post_at<H: Wait, T: RunJob, C: Contexts<T>>(
     }
 }
 
-/// Puts the root, or a child that has waited, at a place. If there is no job, gives the place back. Returns the job's
-/// id and place, if there was a job.
+/// Puts `job`, the root or a child that has waited, into a claimed slot. If `job` is `None`, frees the slot. Returns
+/// the job's id and slot, if there was a job.
 pub(crate) fn post_waiting<H: Wait, T: RunJob, C: Contexts<T>>(
     rt: &H,
     machine: &Machine<C, T::Ticket>,

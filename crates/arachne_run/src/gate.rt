@@ -1,25 +1,25 @@
-//! The observer of a run: methods that a run's workers call before each slice and at each event of their cores.
+//! A trait by which tests observe and delay a run: each worker calls it before each slice and at each event of its
+//! core.
 use arachne_core::ThreadId;
 use arachne_program::Name;
 use arachne_workers::WorkerEvent;
 
-/// A hook that is called before each slice and at each event of a run's cores, each time by the core's kernel thread.
-/// It is for tests that watch or delay cores.
+/// A hook that each core's kernel thread calls before each slice and at each event of its core. Tests use it to watch
+/// or delay cores.
 pub trait Gate {
-    /// The slice number `nth` of the core, counted from 0, is about to begin. The number stays at 2^64 - 1 once
-    /// reached.
+    /// Called before the slice number `nth` of `core`, counted from 0, begins. The number saturates at 2^64 - 1.
     fn slice(&self, core: u8, nth: u64);
 
-    /// The core's worker has taken the thread with this id in hand. The slices that follow are this thread's, until
-    /// another thread is taken.
+    /// Called after the worker of the core has taken the thread with this id. The following slices of this core belong
+    /// to this thread, until the worker takes another one.
     fn turn(&self, _core: u8, _id: ThreadId, _name: &Name) {}
 
-    /// The core has just done what the event says, or is about to do it. If a thread awaits a number, this is a lock's
-    /// number; if a thread is served, it has got its lock.
+    /// Called just before or after the core's worker does what the event says. The number in `SliceEnd::Awaits` is that
+    /// of a lock, and `Cause::IsServed` means that the thread was granted its lock.
     fn told(&self, _core: u8, _event: WorkerEvent) {}
 }
 
-/// The observer (`Gate`) that does nothing.
+/// A `Gate` that does nothing.
 #[derive(Clone, Copy, Debug, PartialEq, Eq)]
 pub struct OpenGate;
 

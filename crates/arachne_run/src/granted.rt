@@ -1,4 +1,4 @@
-//! Attempts to get a lock, and the type by which a thread holds one.
+//! Attempts to get a lock, and the evidence that a thread holds a lock.
 ghost use Rattle.std.specs.Prelude.{◌≡◌, ◌<◌, ℕ, Err, None, Ok, Some, length};
 ghost use Rattle.arachne_sleep.specs.SleepLocks.{AreSeatsOf};
 ghost use Rattle.arachne_sleep.specs.declared.answer.AskFault.{AskFault};
@@ -11,19 +11,19 @@ ghost use Rattle.arachne_run.specs.declared.granted.Granted.{Granted};
 use arachne_sleep::{AskFault, Asked, LockSeats, Pass, SleepLocks, Tried, Who};
 use std::snapshot::Snapshot;
 
-/// The kind of a request for a lock: the thread asks for it now, or checks for the lock that it asked for before.
+/// The kind of a call to get a lock: a first request, or a check after an earlier one.
 #[derive(Clone, Copy)]
 pub(crate) enum LockCall {
-    /// The thread asks for the lock.
+    /// The thread asks for the lock for the first time.
     Ask,
-    /// The thread has asked before, and checks whether it holds the lock now.
+    /// The thread has asked for the lock before, and checks whether it holds the lock now.
     Check,
 }
 
-/// Shows that the thread in hand holds the lock that it asked for, by the pass in this value. The value has no bytes.
+/// Zero-sized evidence that the thread that runs now holds the lock that it asked for.
 ///
-/// Only [`ask`] and [`check`] return such a value, for a pass that the lock gave in that call. After asking for a lock,
-/// a thread goes on only if its worker has such a value.
+/// Only [`ask`] and [`check`] return such a value, if the lock says in that call that the thread holds it. A worker
+/// lets a thread that has asked for a lock continue only if the worker has such a value.
 #[derive(Drop)]
 pub(crate) struct Granted {
     pass: Snapshot<Pass>,
@@ -47,14 +47,14 @@ impl Granted {
 #[derive(Drop)]
 pub(crate) enum Got {
     Granted(Granted),
-    /// The thread waits for the lock.
+    /// The thread must wait for the lock.
     Waits,
     Refused(AskFault),
-    /// Another kernel thread was at the lock. Nothing has changed.
+    /// Another kernel thread was in a call on the lock. The attempt has changed nothing.
     Contended,
 }
 
-/// Tries once to ask for a lock; another kernel thread at the lock makes the attempt fail.
+/// Tries once to ask for a lock. Returns `Got::Contended` if another kernel thread is in a call on it.
 #[inline(always)]
 pub(crate) fn ask(locks: &SleepLocks, seats: &mut LockSeats, lock: u8, who: Who) -> Got
     requires own { AreSeatsOf locks.now seats.old }
@@ -75,7 +75,8 @@ pub(crate) fn ask(locks: &SleepLocks, seats: &mut LockSeats, lock: u8, who: Who)
     }
 }
 
-/// Makes one attempt to check whether a thread that has asked for a lock holds it now.
+/// Tries once to check whether a thread that has asked for a lock holds it now. Returns `Got::Contended` if another
+/// kernel thread is in a call on the lock.
 #[inline(always)]
 pub(crate) fn check(locks: &SleepLocks, seats: &mut LockSeats, lock: u8, who: Who) -> Got
     requires own { AreSeatsOf locks.now seats.old }

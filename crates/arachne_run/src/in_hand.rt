@@ -1,19 +1,19 @@
-//! The thread that a worker has taken to run, and whether a lock was granted to it since.
+//! The thread that a worker runs now, and whether the thread was granted a lock since the worker took it.
 ghost use Rattle.std.specs.Prelude.{◌≡◌, false, MatchOption};
 
 use arachne_contexts::{Held, Rested};
 use arachne_core::Rest;
 
-/// The thread that a worker has taken to run, and whether it was granted a lock since.
+/// The thread that a worker has taken to run, and whether it was granted a lock since then.
 #[derive(Drop)]
 pub(crate) struct InHand<T, H> {
     pub(crate) held: Held<T, H>,
-    /// True if the thread was granted a lock since it was taken, and has freed none since.
+    /// True if the thread was granted a lock since the worker took it, and has freed none since.
     pub(crate) has_lock: bool,
 }
 
 impl<T, H> InHand<T, H> {
-    /// Returns a thread that was taken just now, and so has no lock.
+    /// Returns `held`, which the worker has just taken, as a thread that was granted no lock since then.
     #[inline(always)]
     pub(crate) fn taken(held: Held<T, H>) -> InHand<T, H>
         ensures { result ≡ record { held = held; has_lock = false } }
@@ -25,7 +25,7 @@ impl<T, H> InHand<T, H> {
     }
 }
 
-/// Returns whether there is a thread in hand that has a lock.
+/// Returns whether the worker runs a thread that was granted a lock since the worker took it, and has freed none since.
 #[inline(always)]
 pub(crate) fn has_lock<T, H>(in_hand: &Option<InHand<T, H>>) -> bool
     ensures { MatchOption in_hand.now (result ≡ false) (λ thread. result ≡ thread.has_lock) }
@@ -36,7 +36,8 @@ pub(crate) fn has_lock<T, H>(in_hand: &Option<InHand<T, H>>) -> bool
     }
 }
 
-/// Returns the state of a thread that was put back as `asked`: ready if the thread was woken meanwhile, else `asked`.
+/// Returns the state in which the worker has put back a thread: ready if another worker woke the thread meanwhile,
+/// otherwise `asked`, as the worker requested.
 #[inline(always)]
 pub(crate) fn rests_so(rested: Rested, asked: Rest) -> Rest
     ensures as_asked { rested ≡ Rested.AsAsked → result ≡ asked }

@@ -1,4 +1,11 @@
-//! The parallel run: a task program's threads on one kernel thread for each core, over any context table.
+//! Runs a task program on several cores: one kernel thread (*worker*) for each core runs the program's threads, over
+//! any context table.
+//!
+//! A *ticket* is the entry of a forked child in the queue of those that wait for a free slot. A worker's *chooser* is
+//! the random generator by which a fork chooses a core for its child. An *order* closes a core, which then takes no
+//! more threads, or opens it again, while the program runs. A worker's *tokens* are its rights to use the shared
+//! objects: its seat at the table, its pass of the ticket queue, its share of the ledgers and its seats at the locks.
+//! Each worker returns its tokens when it ends; the objects are closed when all tokens were returned.
 #![tactic(auto)]
 
 mod access;

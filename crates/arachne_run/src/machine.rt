@@ -1,4 +1,5 @@
-//! The objects that the workers of a run share (table, ledgers, locks, ticket queue), and their end.
+//! The objects that the workers of a run share (table, ledgers, locks, queue of waiting children), with the calls that
+//! make and close them.
 ghost use Rattle.std.specs.Prelude.{◌≡◌, ◌≢◌, ◌≤◌, ◌⊎◌, ◌↔◌, ◌%◌, ◌^◌, [], false, true, All, Err, IfErr, IfOk, IfSome, IsOk, IsSome, IsTrue, None, OnOk, length, map};
 ghost use Rattle.arachne_program.specs.Program.{tree_of};
 ghost use Rattle.arachne_core.specs.Occupancy.{count_of};
@@ -32,30 +33,33 @@ use std::alloc::{AllocError, Global};
 use std::marker::PhantomData;
 use std::sync::Wait;
 
-/// The table of contexts, the ledgers, the locks, the queue of tickets, and the words that all workers share.
+/// The objects that all workers of a run share.
+///
+/// These are the context table, the ledgers, the locks, the queue of tickets (entries of waiting children), and the
+/// words by which workers wake one another.
 #[derive(Drop)]
 pub(crate) struct Machine<C, K: Tagged + Drop> {
     pub(crate) shared: SharedState,
     pub(crate) resources: Resources,
-    /// The tickets of children that wait for a place.
+    /// The queue of tickets, the entries of children that wait for a slot.
     pub(crate) tickets: SpillQueue<K>,
     pub(crate) table: C,
     pub(crate) cores: u8,
-    /// The number of places of each core.
+    /// The number of slots of each core.
     pub(crate) slots: u8,
     pub(crate) quantum: u32,
     /// The number of orders to open or close cores that the run was given.
     pub(crate) orders: usize,
-    /// True if workers may keep places for later children.
+    /// True if workers may keep the slots of ended threads for later children.
     pub(crate) may_keep: bool,
-    /// True if workers may move threads to their own cores. Workers may not move threads if a thread may want a whole
-    /// core, since a move takes a place on the worker's core while it is made.
+    /// True if workers may move threads to their own cores. They may not if a thread may want a core for itself, since
+    /// a move takes a slot on the worker's core while it is made.
     pub(crate) may_pull: bool,
 }
 
 impl<C: Seats, K: Tagged + Drop> Machine<C, K> {
-    /// Returns whether a worker keeps the place that a thread leaves, for a later child. This requires that workers of
-    /// this run may keep places, and that the core was full before (`before` is the core's occupancy word then).
+    /// Returns whether a worker keeps the slot that a thread leaves, for a later child. It does if workers of this run
+    /// may keep slots, and the core was full before (`before` is the core's occupancy word at that time).
     #[inline(always)]
     pub(crate) fn keeps_place(&self, before: OccWord) -> bool
         ensures { IsTrue result ↔ (self.now.may_keep ≡ true) × (self.now.slots ≤ count_of before.occupied)
@@ -64,7 +68,7 @@ impl<C: Seats, K: Tagged + Drop> Machine<C, K> {
         self.may_keep && keeps_place(before, self.slots)
     }
 
-    /// Returns the cores of the machine's table.
+    /// Returns the table's cores, together with the host `rt`, in the form that calls of `arachne_arbiter` need.
     pub(crate) fn cores<'a, H, T>(&'a self, rt: &'a H) -> Cores<'a, H, T, C>
         requires { IsSetUp C.core_count C.slot_count self.now }
         ensures table { result.table.now ≡ self.now.table }
@@ -81,7 +85,8 @@ impl<C: Seats, K: Tagged + Drop> Machine<C, K> {
 }
 
 impl<C: Seats + Drop, K: Tagged + Drop> Machine<C, K> {
-    /// Returns a machine on which nothing runs, and all of the machine's tokens (its seats, passes and shares).
+    /// Creates the shared objects of a run, and all tokens (rights to use them: seats, passes and shares). Called
+    /// before any worker begins.
     pub(crate) fn new(
         alloc: Global,
         cores: u8,
@@ -127,8 +132,8 @@ impl<C: Seats + Drop, K: Tagged + Drop> Machine<C, K> {
         Ok((machine, tokens))
     }
 
-    /// Returns what is left once all workers have ended, and how many orders the arbiter has carried out. The error is
-    /// the first fault, if there was one.
+    /// Closes the shared objects after all workers have ended. Returns the ledgers' sums, the locks' histories, and the
+    /// number of orders carried out. If a worker has failed, returns the first fault as the error.
     pub(crate) fn close<H: Wait, T>(
         self,
         rt: &H,
@@ -166,8 +171,8 @@ impl<C: Seats + Drop, K: Tagged + Drop> Machine<C, K> {
     }
 }
 
-/// Returns what is left once all workers have ended without a fault. If any seat, pass or share was not returned, the
-/// error is `Token`, even if memory was also refused.
+/// Closes the shared objects after all workers have ended without a fault. Returns the ledgers' sums and the locks'
+/// histories. If any seat, pass or share was not returned, the error is `Token`, even if memory was also refused.
 fn close_all<H: Wait, T: Tagged + Drop, C: Contexts<T> + Drop, K: Tagged + Drop>(
     rt: &H,
     alloc: Global,
@@ -198,8 +203,8 @@ fn close_all<H: Wait, T: Tagged + Drop, C: Contexts<T> + Drop, K: Tagged + Drop>
     Ok(remains)
 }
 
-/// Closes the table and the queue of tickets. The error is `Token` if some seat or pass was not returned, if a place is
-/// still claimed, or if a thread is left.
+/// Closes the table and the queue of tickets. The error is `Token` if a seat of the table or a pass of the queue was
+/// not returned, if a slot is still claimed, or if a thread is left in the table.
 fn close_table<H: Wait, T: Tagged + Drop, C: Contexts<T> + Drop, K: Tagged + Drop>(
     rt: &H,
     alloc: Global,
@@ -224,8 +229,8 @@ fn close_table<H: Wait, T: Tagged + Drop, C: Contexts<T> + Drop, K: Tagged + Dro
     end_table(rt, alloc, table, seat)
 }
 
-/// Closes the table with a seat that has the whole weight (no other seat is in use). The error is `Token` if a thread
-/// is left in the table.
+/// Closes the table by `seat`, into which all other seats must have been joined. The error is `Token` if a thread is
+/// left in the table.
 fn end_table<H: Wait, T: Tagged + Drop, C: Contexts<T> + Drop>(
     rt: &H,
     alloc: Global,
@@ -249,7 +254,8 @@ fn end_table<H: Wait, T: Tagged + Drop, C: Contexts<T> + Drop>(
     }
 }
 
-/// Empties the queue of tickets. The error is `Token` if not all of the queue's passes were returned.
+/// Empties the queue of tickets (entries of waiting children). The error is `Token` if not all passes (rights to use
+/// the queue) were returned.
 fn close_queue<H: Wait, K: Tagged + Drop>(
     rt: &H,
     tickets: &SpillQueue<K>,

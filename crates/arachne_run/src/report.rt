@@ -1,4 +1,4 @@
-//! The report of a run: the program's value, ledgers and threads, and all that has happened at its locks.
+//! The report of a run: the program's value, ledgers and threads, and the history of its locks.
 ghost use Rattle.std.specs.Prelude.{◌≡◌, ◌≢◌, [], All, Err, IfOk, length, map};
 ghost use Rattle.arachne_program.specs.Program.{source_of};
 ghost use Rattle.arachne_program.specs.Meaning.{meaning_of};
@@ -15,24 +15,26 @@ use arachne_program::Sequence;
 use arachne_sleep::History;
 use std::alloc::Global;
 
-/// The report of a program that has ended: its value, the sums of its ledgers, and its threads.
+/// The report of a program that has ended: its value, the sums of its ledgers, its threads, and the histories of its
+/// locks.
 #[derive(Debug, Drop)]
 pub struct Report {
-    /// The value of the program.
+    /// The value of the program's root thread.
     pub value: u64,
-    /// For each ledger the sum of what was tallied to it, modulo 2^64.
+    /// For each ledger, the sum of the amounts that were added to it, modulo 2^64.
     pub totals: Sequence<u64>,
-    /// The program's threads, the root first.
+    /// One line for each of the program's threads, the root's first.
     pub threads: ThreadLines,
-    /// For each lock the history of its asks, grants and frees, oldest first.
+    /// For each lock, the history of its requests, grants and releases, the oldest first.
     pub histories: Vec<History>,
     /// The number of orders to open or close a core that the run has carried out.
     pub applied: usize,
 }
 
 impl Report {
-    /// Returns the report of the root's outcome. The sums of the outcome must be equal to the words of the ledgers, no
-    /// two threads may have the same tag, and the grants of the locks must match the threads' holds.
+    /// Makes the report from the root thread's outcome and from the values that the closed ledgers and locks have
+    /// returned. Returns an error unless the outcome's sums are the words of the ledgers, all threads have different
+    /// tags, and the grants of the locks match the threads' lines.
     pub(crate) fn of(
         alloc: Global,
         outcome: DetachedOutcome,

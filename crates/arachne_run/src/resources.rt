@@ -1,4 +1,4 @@
-//! The ledgers and the locks of a run, and a worker's share and seats of them.
+//! The ledgers (shared counters) and the locks of a run, and a worker's rights to use them.
 ghost use Rattle.std.specs.Prelude.{◌≡◌, ◌%◌, ◌^◌, All, Err, IfErr, IfOk, IsOk, length, map};
 ghost use Rattle.arachne_ledger.specs.Views.{IsShareOf, IsWhole as IsWholeShare};
 ghost use Rattle.arachne_sleep.specs.History.{IsSound};
@@ -14,32 +14,32 @@ use arachne_ledger::{Ledgers, Share};
 use arachne_sleep::{History, LockSeats, SleepLocks};
 use std::alloc::{AllocError, Global};
 
-/// The ledgers and the locks of a run.
+/// The ledgers (shared counters) and the locks of a run.
 #[derive(Drop)]
 pub(crate) struct Resources {
     pub(crate) ledgers: Ledgers,
     pub(crate) locks: SleepLocks,
 }
 
-/// A share of the ledgers, and a seat of each lock.
+/// A worker's rights to use ledgers and locks: its share of the ledgers, and its seat at each lock.
 #[derive(Drop)]
 pub(crate) struct Holdings {
     pub(crate) share: Share,
     pub(crate) lock_seats: LockSeats,
 }
 
-/// The numbers in the words of the ledgers, and the histories of the locks, once all workers have ended.
+/// The values that are left when ledgers and locks are closed: the ledgers' final sums, and the locks' histories.
 #[derive(Drop)]
 pub(crate) struct Remains {
-    /// The numbers in the words of the ledgers.
+    /// The final sum of each ledger.
     pub(crate) words: Vec<u64>,
-    /// The history of each lock.
+    /// The history of each lock: its requests, grants and releases.
     pub(crate) histories: Vec<History>,
 }
 
 impl Resources {
-    /// Returns `ledgers` ledgers and `locks` locks, and the first share of the ledgers with the first seat of each
-    /// lock.
+    /// Creates `ledgers` ledgers and `locks` locks. Also returns the rights to use them, which `split` divides: a share
+    /// of the ledgers and a seat at each lock.
     pub(crate) fn new(
         alloc: Global,
         ledgers: u8,
@@ -54,7 +54,8 @@ impl Resources {
         Ok((Resources { ledgers, locks }, Holdings { share, lock_seats }))
     }
 
-    /// Splits the holdings in two. Returns the holdings whole if memory is refused.
+    /// Splits a worker's rights (its share and seats) in two, for two workers. If memory is refused, returns them
+    /// unsplit.
     pub(crate) fn split(
         &self,
         alloc: Global,
@@ -79,7 +80,7 @@ impl Resources {
         Ok((own, others))
     }
 
-    /// Joins two holdings into one.
+    /// Joins the rights (shares and seats) of two workers into those of one.
     pub(crate) fn join(&self, holdings: Holdings, other: Holdings) -> Holdings
         requires own { AreHoldingsOf self.now holdings }
         requires others { AreHoldingsOf self.now other }
@@ -91,7 +92,8 @@ impl Resources {
         }
     }
 
-    /// Returns what is left once all holdings are joined into `holdings`. The error is `Token` if some were not joined.
+    /// Closes the ledgers and the locks. The caller must have joined all shares and seats into `holdings`; the error is
+    /// `Token` if some of them are missing.
     pub(crate) fn close(self, alloc: Global, holdings: Holdings) -> Result<Remains, WorkerFault>
         requires { AreHoldingsOf self holdings }
         ensures count { IfOk result (λ remains. length remains.histories.items ≡ length self.locks) }
@@ -110,7 +112,7 @@ impl Resources {
     }
 }
 
-/// Returns the history of each lock, in the order of the locks. The error is `Token` if not all seats of the locks were
+/// Returns the history of each lock, in the order of the locks. The error is `Token` if not all seats at the locks were
 /// returned.
 fn closed_locks(
     alloc: Global,
@@ -134,8 +136,8 @@ fn closed_locks(
     }
 }
 
-/// Returns the numbers in the words of the ledgers, which are equal to the sums of `share`. The error is `Token` if not
-/// all other shares were joined into `share`.
+/// Returns the final sum of each ledger, which is also its sum in `share`. The error is `Token` if not all other shares
+/// were joined into `share`.
 fn closed_words(alloc: Global, ledgers: Ledgers, share: Share) -> Result<Vec<u64>, WorkerFault>
     requires { IsShareOf ledgers share }
     ensures missing { (IsWholeShare share → ⊥) → result ≡ Err Token }

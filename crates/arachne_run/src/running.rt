@@ -1,4 +1,4 @@
-//! The function `run`: it starts the workers of a program's run, waits for their end, and makes the report.
+//! The function `run`: it starts the workers of a program's run, waits until they have ended, and makes the report.
 ghost use Rattle.std.specs.Prelude.{◌≡◌, true, IfErr, IfOk, IsOk, None, Some, Err, length, vec_len};
 ghost use Rattle.arachne_program.specs.Program.{source_of};
 ghost use Rattle.arachne_program.specs.Checked.{IsChecked};
@@ -24,11 +24,11 @@ use std::sync::Wait;
 use std::thread::Threads;
 use std::time::Clock;
 
-/// Runs a program on one kernel thread for each core, over a table of the type `C`. Each core draws from its own
-/// chooser (random generator). The orders take cores back and grant them again while the program runs. Orders that are
-/// not reached before the program's end are not applied.
+/// Runs a program on one kernel thread for each core, over a table of the type `C`.
 ///
-/// The program is unchanged. After an error nothing of the run is left in memory.
+/// Each core draws from its own chooser (the random generator by which forks choose cores). The setup's orders close
+/// cores and open them again while the program runs; orders that aren't due before the program's end aren't carried
+/// out. The call doesn't change `program`. After an error nothing of the run is left in memory.
 pub fn run<
     'p,
     H: Threads + Wait + Clock + Sync,
@@ -81,7 +81,7 @@ where
 /// Runs `program` as `run` does, with a table of atomic words.
 ///
 /// A call of `run` that fixes both the type of the table and that of the jobs is too much for the prover. So this
-/// function fixes the first, and its caller the second.
+/// function fixes the type of the table, and its caller fixes that of the jobs.
 pub fn run_on_words<
     'p,
     H: Threads + Wait + Clock + Sync,

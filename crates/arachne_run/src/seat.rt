@@ -1,7 +1,9 @@
-//! A worker's two seats at the table, and the thread and the places that the worker has through them.
+//! A worker's access to the table, by two seats: it takes, runs and puts back threads, and keeps slots for later
+//! children.
 //!
-//! Only this module and `forking` call the table while threads run. Between two calls, one seat has the thread in hand,
-//! the other has the places that the worker keeps for later children, and neither has anything else.
+//! Only this module and `forking` call the table while threads run. Between two calls, one seat holds the thread that
+//! the worker runs, if there is one, the other holds the slots that the worker keeps for later children, and neither
+//! seat holds anything else.
 ghost use Rattle.std.specs.Prelude.{ℕ, ◌≡◌, ◌≢◌, ◌↔◌, ◌==◌, ◌<◌, ◌≤◌, if◌then◌else◌, false, true, IfOk, IsSome, IsTrue, MatchOption, None, OnOk, Some, map};
 ghost use Rattle.arachne_arbiter.specs.KernelThreads.{parked_cores};
 ghost use Rattle.arachne_arbiter.specs.Orders.{HasAppliedDue};
@@ -31,8 +33,8 @@ use std::marker::Model;
 use std::sync::Wait;
 use std::time::Clock;
 
-/// A worker's seats at the table. Contracts see the machine that they belong to; the invariant says what the seats have
-/// in hand.
+/// A worker's two seats at the table (its rights to use it). The model has the machine to which the seats belong; the
+/// invariant says which thread and slots they hold.
 #[derive(Drop)]
 pub(crate) struct RunSeat<'a, H, T: RunJob, C: Contexts<T>, R, G> {
     pub(crate) rt: &'a H,
@@ -40,13 +42,13 @@ pub(crate) struct RunSeat<'a, H, T: RunJob, C: Contexts<T>, R, G> {
     pub(crate) alloc: Global,
     pub(crate) machine: &'a Machine<C, T::Ticket>,
     pub(crate) core: u8,
-    /// Set if the table did not know a place or a thread of the worker. Then the record here of what the seats have
-    /// claimed and taken (`held`, `kept`) may be wrong, so the worker ends.
+    /// True if the table has rejected a slot or a thread that it had given to the worker. Then `held` and `kept`
+    /// perhaps differ from what the seats really hold, so the worker ends.
     pub(crate) is_broken: bool,
-    /// The seat by which the worker took the thread in hand.
+    /// The seat that holds the thread that the worker runs now.
     pub(crate) seat: C::Seat,
     pub(crate) held: Option<InHand<T, C::Hold>>,
-    /// The seat by which the worker claimed the places that it keeps for later children.
+    /// The seat that holds the slots that the worker keeps for later children.
     pub(crate) spare: C::Seat,
     pub(crate) kept: Stack<C::Claim>,
     pub(crate) pass: SpillPass<T::Ticket>,
@@ -73,8 +75,7 @@ impl<'a, H, T: RunJob, C: Contexts<T>, R, G> Model for RunSeat<'a, H, T, C, R, G
 }
 
 impl<'a, H: Wait, T: RunJob, C: Contexts<T>, R: Rng + Drop, G: Gate> RunSeat<'a, H, T, C, R, G> {
-    /// Creates a worker's two seats, with no place and no thread in hand, and what else the worker needs of the
-    /// machine.
+    /// Creates a worker's access to `machine`, by two seats that hold no slot and no thread.
     pub(crate) fn open(
         rt: &'a H,
         alloc: Global,
@@ -118,8 +119,8 @@ impl<'a, H: Wait, T: RunJob, C: Contexts<T>, R: Rng + Drop, G: Gate> RunSeat<'a,
         }
     }
 
-    /// Puts the root thread at a place, if the root begins at this worker. Returns the index of the root's place: an
-    /// empty table has a free place.
+    /// Puts the thread `root`, if it is given, into a slot of this worker's core, and returns the index of that slot.
+    /// The core has a free slot, since the table is empty when a run begins.
     pub(crate) fn post_root(&mut self, root: Option<T>) -> Result<Option<u8>, WorkerFault>
         ensures same { self.new ≡ self.old }
         ensures index { IfOk result (λ index. IsSome index ↔ IsSome root) }
@@ -142,8 +143,8 @@ impl<'a, H: Wait, T: RunJob, C: Contexts<T>, R: Rng + Drop, G: Gate> RunSeat<'a,
         Ok(Some(index))
     }
 
-    /// Claims a place to keep for a later child, in return for the place that a thread has left, if the core was full
-    /// before (`before` is its occupancy word then). If no place is claimed, counts the place that was left as free.
+    /// If the core was full before a thread left its slot (`before` is its occupancy word at that time), claims a slot
+    /// to keep for a later child. If no slot is claimed, counts the slot that was left as free.
     fn keep_or_count(&mut self, before: OccWord) -> Result<(), Halt>
         ensures { self.new ≡ self.old }
     {
@@ -268,9 +269,9 @@ impl<'a, H: Wait + Clock, T: RunJob, C: Contexts<T>, R: Rng + Drop, G: Gate> Des
         let table = &self.machine.table;
         match table.finish(self.rt, &mut self.seat, held) {
             Ok(job) => {
-                // The place is freed before the outcome is left in the cell, as only `finish` returns the job. The
-                // place is kept or counted before the parent is woken: otherwise other workers could claim the place
-                // first.
+                // The slot is freed before the outcome is put into its cell, since only `finish` returns the job. The
+                // slot is kept or counted as free before the parent is woken: otherwise other workers could claim the
+                // slot first.
                 let parent = job.leave(&mut self.forks.spares);
                 self.keep_or_count(before)?;
                 match parent {
@@ -427,8 +428,11 @@ impl<'a, H: Wait + Clock, T: RunJob, C: Contexts<T>, R: Rng + Drop, G: Gate> Des
     }
 }
 
-/// Carries out the orders to open or close cores that are due, and moves threads away ([`Arbiter::tend`]). Returns the
-/// number of orders carried out so far, if this call has carried out one, and the cores to which it has moved threads.
+/// Carries out the orders that are due to open or close cores, and moves threads away from closed ones
+/// ([`Arbiter::tend`]).
+///
+/// Returns the number of all orders carried out so far, if this call has carried out an order, and the cores to which
+/// it has moved threads, one bit for each.
 #[inline(always)]
 fn tend_by<H: Wait, T: Tagged, C: Contexts<T>>(
     arbiter: &mut Arbiter,
@@ -455,7 +459,8 @@ fn tend_by<H: Wait, T: Tagged, C: Contexts<T>>(
     }
 }
 
-/// Returns whether there is an arbiter that has not carried out all orders.
+/// Returns whether this worker has `arbiter`, and with it has carried out fewer than `orders` orders to open or close
+/// cores.
 fn has_orders_left(arbiter: &Option<Arbiter>, orders: usize) -> bool
     ensures { MatchOption arbiter.now (result ≡ false) (λ progress. IsTrue result ↔ (progress.applied < orders)) }
 {
@@ -465,7 +470,8 @@ fn has_orders_left(arbiter: &Option<Arbiter>, orders: usize) -> bool
     }
 }
 
-/// Puts the child of a ticket at a place, if the child still waits and the core has a place.
+/// Puts the child of a ticket (the entry of a waiting child) into a slot, if the child still waits and the core has a
+/// free slot.
 fn post_child<H: Wait, T: RunJob, C: Contexts<T>>(
     rt: &H,
     alloc: Global,
@@ -491,7 +497,7 @@ fn post_child<H: Wait, T: RunJob, C: Contexts<T>>(
     Ok(of_ticket(posted))
 }
 
-/// Returns the result of taking a ticket whose child was put at a place, or no longer waited.
+/// Returns the result of a ticket: `Posted` if its child was put into a slot, `Gone` if the child no longer waited.
 #[inline(always)]
 fn of_ticket(posted: Option<PostedThread>) -> TicketResult
     ensures { MatchOption posted (result ≡ TicketResult.Gone) (λ post. result ≡ TicketResult.Posted post) }

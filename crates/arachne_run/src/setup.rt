@@ -1,4 +1,4 @@
-//! The numbers with which a run begins (its cores, places and steps per slice) and its orders, and their check.
+//! The settings of a run, and their validation.
 ghost use Rattle.std.specs.Prelude.{◌≡◌, None, Some, Err, IfErr, IsOk, vec_len};
 ghost use Rattle.arachne_policy.specs.Orders.{AreInOrder};
 ghost use Rattle.arachne_run.specs.declared.fault.RunFault.{RunFault};
@@ -10,21 +10,22 @@ use arachne_policy::{CoreOrder, check_orders};
 
 const MAX_QUANTUM: u64 = 10_000;
 
-/// The machine of a run, and the orders about its cores.
+/// The settings of a run: its cores, slots and steps per slice, and the orders to close and open cores.
 #[derive(Debug, Drop)]
 pub struct Setup {
     /// The number of cores, 1 to 64.
     pub cores: u64,
-    /// The number of places of each core, 1 to 56.
+    /// The number of slots of each core, 1 to 56.
     pub slots: u64,
-    /// The most steps of a slice, 1 to 10,000.
+    /// The greatest number of steps of a slice, 1 to 10,000.
     pub quantum: u64,
-    /// The orders by which cores are taken back and granted again.
+    /// The orders that close cores and open them again while the program runs.
     pub orders: Vec<CoreOrder>,
 }
 
 impl Setup {
-    /// Validates the setup for this number of choosers. Returns the first fault.
+    /// Checks these settings, and that there are as many `choosers` (random generators) as cores. Returns the first
+    /// fault that it finds.
     pub(crate) fn check(&self, choosers: usize) -> Result<(), RunFault>
         ensures refused { (fault : RunFault) → refusal_of self.now.cores self.now.quantum self.now.slots choosers ≡ Some fault → result ≡ Err fault }
         ensures accepted { IsOk result → refusal_of self.now.cores self.now.quantum self.now.slots choosers ≡ None }

@@ -1,4 +1,4 @@
-//! The words by which the workers of a run wake and stop one another, and the first fault that one of them met.
+//! The atomic words by which the workers of a run wake and stop one another, and the first fault of any worker.
 ghost use Rattle.std.specs.Prelude.{◌≡◌, IfOk, MatchOption, Some};
 ghost use Rattle.arachne_run.specs.Setups.{numbered};
 
@@ -11,7 +11,8 @@ use std::marker::Model;
 use std::snapshot::Snapshot;
 use std::sync::{Mutex, Wait};
 
-/// The words by which workers signal one another, the words that are read before each fork, and the first fault.
+/// The words by which workers wake one another, the words that are read before each fork, and the first fault of any
+/// worker.
 #[derive(Drop)]
 pub(crate) struct SharedState {
     room: Room,
@@ -19,14 +20,14 @@ pub(crate) struct SharedState {
     workers: SharedWords,
 }
 
-/// Evidence that [`SharedState::fail`] has stopped all workers for a fault. A worker that ends without returning its
-/// tokens returns this value, which has no bytes.
+/// Zero-sized evidence that [`SharedState::fail`] has stopped all workers for a fault. A worker that fails returns this
+/// value instead of its tokens.
 #[derive(Drop)]
 pub(crate) struct Failed {
     fault: Snapshot<WorkerFault>,
 }
 
-// Contracts see the number of cores.
+// The model, which contracts see, is the number of cores.
 impl Model for SharedState {
     ghost use Rattle.std.specs.Prelude.{ℕ};
 
@@ -36,7 +37,7 @@ impl Model for SharedState {
 }
 
 impl SharedState {
-    /// Returns the words for `cores` cores with `slots` places each.
+    /// Creates the words for `cores` cores with `slots` slots each.
     pub(crate) fn new(alloc: Global, cores: u8, slots: u8) -> Result<SharedState, AllocError>
         ensures { IfOk result (λ shared. shared ≡ cores) }
     {
@@ -48,19 +49,19 @@ impl SharedState {
         })
     }
 
-    /// Returns the words by which workers signal one another.
+    /// Returns the words by which workers wake one another.
     pub(crate) fn workers(&self) -> &SharedWords
         ensures { result.now ≡ self.now }
     {
         &self.workers
     }
 
-    /// Returns the words that are read before each fork.
+    /// Returns the words that say whether slots are free and children wait; workers read them before each fork.
     pub(crate) fn room(&self) -> &Room {
         &self.room
     }
 
-    /// Stops all workers for a fault, and records it if it is the first.
+    /// Stops all workers because of `fault`, and records it if no fault was recorded before.
     pub(crate) fn fail<H: Wait>(&self, rt: &H, fault: WorkerFault) -> Failed
         ensures { result.fault.value ≡ fault }
     {
@@ -72,20 +73,20 @@ impl SharedState {
         }
     }
 
-    /// Stops all workers for the error that ended the loop of one worker.
+    /// Stops all workers because of the error that has ended the loop of one worker.
     pub(crate) fn halt<H: Wait>(&self, rt: &H, halt: Halt) -> Failed
         ensures { result.fault.value ≡ numbered halt.why }
     {
         self.fail(rt, WorkerFault::from(halt))
     }
 
-    /// Returns the fault that was recorded first.
+    /// Returns the fault that was recorded, if there is one.
     pub(crate) fn into_first_fault(self) -> Option<WorkerFault> {
         self.first_fault.into_inner()
     }
 }
 
-/// Records a fault, if it is the first.
+/// Stores `fault` in `first`, unless a fault is there already.
 fn keep_first(first: &mut Option<WorkerFault>, fault: WorkerFault)
     ensures { MatchOption first.old (first.new ≡ Some fault) (λ before. first.new ≡ Some before) }
 {

@@ -1,10 +1,10 @@
-//! A stack of values: a worker takes the newest first.
+//! A stack of values, the newest of which is removed first.
 ghost use Rattle.std.specs.Prelude.{◌≡◌, [], ◌∷◌, IfErr, MatchOption, OnErr, OnOk, length};
 
 use std::alloc::Global;
 use std::marker::Model;
 
-/// A stack of values. Contracts see the values in the order in which they are taken.
+/// A stack of values. The model, which contracts see, is the list of the values in the order in which they are removed.
 #[derive(Drop)]
 pub(crate) struct Stack<T> {
     items: Vec<T>,
@@ -19,7 +19,7 @@ impl<T> Model for Stack<T> {
 }
 
 impl<T> Stack<T> {
-    /// Returns an empty stack. Takes no memory.
+    /// Returns an empty stack. Allocates no memory.
     pub(crate) fn new(alloc: Global) -> Stack<T>
         ensures { result ≡ [] }
     {
@@ -28,7 +28,7 @@ impl<T> Stack<T> {
         }
     }
 
-    /// Returns a stack from which `items` are taken in their order.
+    /// Returns a stack from which the values in `items` are removed in their order.
     pub(crate) fn of(items: Vec<T>) -> Stack<T>
         ensures { result ≡ items.items }
     {
@@ -37,14 +37,14 @@ impl<T> Stack<T> {
         Stack { items }
     }
 
-    /// Returns how many values there are.
+    /// Returns the number of values on the stack.
     pub(crate) fn len(&self) -> usize
         ensures { result ≡ length self.now }
     {
         self.items.len()
     }
 
-    /// Adds a value. Returns the value if memory is refused.
+    /// Pushes a value onto the stack. Returns the value as the error if memory is refused.
     pub(crate) fn push(&mut self, item: T) -> Result<(), T>
         ensures pushed { OnOk result (self.new ≡ item ∷ self.old) }
         ensures refused { OnErr result (self.new ≡ self.old) }

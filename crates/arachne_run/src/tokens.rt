@@ -1,5 +1,7 @@
-//! What a worker needs to work in a run: its seat at the table, its pass of the ticket queue, its shares of ledgers and
-//! locks. It returns all of it at the end.
+//! The rights of a worker to use the objects of a run.
+//!
+//! These are its seat at the table, its pass of the ticket queue, its shares of ledgers and its seats at locks. The
+//! worker returns all of them at its end.
 ghost use Rattle.std.specs.Prelude.{◌≡◌, ◌≤◌, None, IfOk, IfErr};
 ghost use Rattle.arachne_run.specs.Tokens.{AreIdle};
 
@@ -11,8 +13,10 @@ use arachne_spill::SpillPass;
 use std::alloc::Global;
 use std::sync::Wait;
 
-/// The tokens of a worker: its seat at the table, its pass (right to use) of the ticket queue, its shares of ledgers
-/// and locks, and for one of the workers the arbiter.
+/// The rights (tokens) of a worker to use the objects of a run.
+///
+/// These are its seat at the table, its pass of the ticket queue, its holdings of ledgers and locks, and for one of the
+/// workers the arbiter, which opens and closes cores.
 #[derive(Drop)]
 pub(crate) struct Tokens<S, K> {
     pub(crate) seat: S,
@@ -22,8 +26,8 @@ pub(crate) struct Tokens<S, K> {
 }
 
 impl<S, K: Tagged + Drop> Tokens<S, K> {
-    /// Splits the tokens into two halves. The first half keeps the arbiter. If memory is refused, returns the tokens
-    /// unsplit.
+    /// Splits the tokens in two, for two workers. The first half keeps the arbiter. If memory is refused, returns the
+    /// tokens unsplit.
     pub(crate) fn split<H: Wait, C: Seats<Seat = S>>(
         self,
         rt: &H,
@@ -57,7 +61,7 @@ impl<S, K: Tagged + Drop> Tokens<S, K> {
         Ok((own, others))
     }
 
-    /// Joins these tokens with `other`. Keeps the arbiter of these tokens only.
+    /// Joins the tokens of another worker to these. The result has the arbiter of these tokens, not that of `other`.
     pub(crate) fn join<H: Wait, C: Seats<Seat = S>>(
         self,
         rt: &H,

@@ -1,4 +1,4 @@
-//! Starts one kernel thread for each core of a run, and gives each the seats with which it works.
+//! Starts one kernel thread for each core of a run, and gives each of them its rights to use the shared objects.
 ghost use Rattle.std.specs.Prelude.{◌≡◌, ◌<◌, None, IfErr, IfOk, IfSome, IsErr, IsNone};
 ghost use Rattle.arachne_run.specs.Choosers.{IsFirstOf};
 ghost use Rattle.arachne_run.specs.Tokens.{AreIdle, IsSetUp, ground_of};
@@ -22,7 +22,7 @@ use std::sync::Wait;
 use std::thread::Threads;
 use std::time::Clock;
 
-/// The references that the workers of a run have in common.
+/// The references to shared objects that all workers of a run have.
 #[derive(Drop)]
 struct Workers<'a, C, K: Tagged + Drop, G> {
     alloc: Global,
@@ -30,14 +30,14 @@ struct Workers<'a, C, K: Tagged + Drop, G> {
     gate: &'a G,
 }
 
-/// The values with which a worker begins, and which it returns.
+/// The values that a worker gets at its start and returns at its end.
 #[derive(Drop)]
 struct WorkerShare<S, T: RunJob, R> {
     tokens: Tokens<S, T::Ticket>,
-    /// The root thread, if it begins at this worker.
+    /// The root thread, if it begins on this worker's core.
     root: Option<T>,
     chooser: Option<R>,
-    /// The choosers (random generators) of the workers that are split off from this share.
+    /// The choosers (random generators), each for one of the workers that are split off from this share.
     choosers: Stack<R>,
 }
 
@@ -143,7 +143,7 @@ impl<'a, T: RunJob, C: Contexts<T>, R: Rng + Drop, G: Gate> Team<WorkerShare<C::
     }
 }
 
-/// Runs the workers of all cores until they are stopped, each with its chooser (random generator).
+/// Runs the workers of all cores, each with its chooser (random generator), and returns after all of them have stopped.
 pub(crate) fn work_all<
     H: Threads + Wait + Clock + Sync,
     T: RunJob + Send,
@@ -186,9 +186,11 @@ where
     Some(tokens)
 }
 
-/// Runs the worker of a core until all workers stop, beginning with the root thread if there is one. Returns the
-/// worker's tokens. After a fault the worker stops all others and returns no tokens, since its seats may still have a
-/// thread or places. A missing chooser (random generator) is a fault.
+/// Runs the worker of a core until all workers stop. If there is a root thread, it runs first.
+///
+/// Returns the worker's tokens (its rights to use the shared objects). After a fault, stops all workers and returns no
+/// tokens, since this worker's seats perhaps still hold a thread or slots. A missing chooser (random generator) is a
+/// fault.
 fn work_on<H: Wait + Clock, T: RunJob, C: Contexts<T>, R: Rng + Drop, G: Gate>(
     rt: &H,
     alloc: Global,
@@ -221,7 +223,7 @@ fn work_on<H: Wait + Clock, T: RunJob, C: Contexts<T>, R: Rng + Drop, G: Gate>(
     into_tokens(machine, desk)
 }
 
-/// Returns the worker of a core, which has run no slice yet.
+/// Creates the worker of `core`, which has run no slice yet.
 #[inline(always)]
 fn worker_on<'a, H, D, C, K: Tagged + Drop>(
     rt: &'a H,
@@ -247,8 +249,8 @@ fn worker_on<'a, H, D, C, K: Tagged + Drop>(
     }
 }
 
-/// Returns the tokens of a worker that has ended. The result is a fault if the worker's seats still have a thread or
-/// places.
+/// Returns the tokens (rights to use the shared objects) of a worker that has ended. Returns an error if the worker's
+/// seats still hold a thread or slots.
 fn into_tokens<'a, H: Wait, T: RunJob, C: Contexts<T>, R: Rng + Drop, G: Gate>(
     machine: &Machine<C, T::Ticket>,
     desk: RunSeat<'a, H, T, C, R, G>,

@@ -1,4 +1,4 @@
-//! A context table behind a lock that answers some calls by itself, so that a run meets rare or wrong answers.
+//! A context table that gives rare or wrong results for some calls, so that tests see how a run copes with them.
 ghost use Rattle.std.specs.Prelude.{◌≡◌, ◌<◌, IfOk, IfErr};
 ghost use Rattle.arachne_contexts.specs.Answers.{RestsAs};
 ghost use Rattle.arachne_contexts.specs.Out.{Thread as a_thread, Spends};
@@ -13,67 +13,68 @@ use std::sync::Wait;
 use std::sync::atomic::{AtomicU64, Ordering};
 use std::thread::yield_now;
 
-/// The occupancy word of a core that is open and full.
+/// The occupancy word of a core that is open and has no free slot.
 const FULL: u64 = 0x38FF_FFFF_FFFF_FFFF;
 
-/// The bits of a core's first three places in its occupancy word.
+/// The bits of a core's first three slots in its occupancy word.
 const THREE: u64 = 0b111;
 
-/// The calls that a table answers by itself instead of passing them on.
+/// The calls to which an `Altered` table gives its own results.
 #[derive(Clone, Copy)]
 enum Alteration {
-    /// The table answers every call as the table behind the lock does.
+    /// None of them: each call goes to the table behind the lock.
     None,
-    /// `finish` hands the thread back instead of ending it.
+    /// `finish` returns the thread as an error instead of ending it.
     HandsBack,
-    /// `claim` fails with `AllocError` if the core is in use.
+    /// If the core is in use, `claim` fails with `AllocError`, as if memory were refused.
     RefusesMemory,
-    /// `claim` finds every core but 0 full.
+    /// `claim` returns that every core except core 0 is full.
     IsFull,
-    /// `out` returns 1 for every seat, as if the seat still had a place or a thread.
+    /// `out` returns 1 for every seat, as if the seat (right to use the table) still held a slot or a thread.
     HasOut,
-    /// A claim on a core in use is refused memory. `finish` hands threads back, but only after such a refusal.
+    /// A claim on a core in use fails with `AllocError`. After such a failure, `finish` returns threads as errors.
     RefusesMemoryFirst,
-    /// `finish` hands threads back. A claim on a core in use is refused memory, but only after a thread was handed
-    /// back.
+    /// `finish` returns threads as errors. After that, a claim on a core in use fails with `AllocError`.
     HandsBackFirst,
-    /// The first two of every three calls of `claim` return `Lost`.
+    /// The first two of every three calls of `claim` return `Lost`, as if another thread had changed the core.
     Loses,
-    /// `glance` and `claim` on core 1 wait until a place of core 1 is free, and `move_one` moves no thread.
+    /// `glance` and `claim` on core 1 wait until a slot of core 1 is free, and `move_one` moves no thread.
     AwaitsPlace,
-    /// The first two of every three calls of `claim_alone` return `Lost`.
+    /// The first two of every three calls of `claim_alone` return `Lost`, as if another thread had changed the core.
     LosesAlone,
-    /// The first two of every three calls of `wake` return `Lost`.
+    /// The first two of every three calls of `wake` return `Lost`, as if another thread had called at the same time.
     LosesWakes,
-    /// `open_core` opens the core only after a pause.
+    /// `open_core` first pauses, and then opens the core.
     OpensLate,
 }
 
-/// The number of polls after which the second of two calls stops waiting for the first.
+/// The number of polls after which the second of two calls no longer waits for the first.
 const POLLS: u32 = 100_000_000;
 
-/// The spins and then the yields of a pause, in which an earlier call takes effect on the other cores.
+/// The number of spins in a pause, in which an earlier call takes effect on the other cores. After the spins, the pause
+/// has `YIELDS` yields.
 ///
-/// If each yield gives a turn to another process, the yields take about half a second.
+/// If each yield gives a time slice to another process, the yields take about half a second.
 const SPINS: u32 = 1_000_000;
 
 const YIELDS: u32 = 100;
 
-/// The number of looks at core 1, while the core is full, after which a call gives up.
+/// The number of times that a call reads the word of core 1 while that core is full, before it no longer waits.
 const GLANCES: u32 = 2_000_000;
 
-/// A table behind a lock that passes on all calls except for those that its alteration names.
+/// A table behind a lock that forwards all calls except for those that its `alteration` names.
 ///
-/// A run makes its table itself, so `new` selects the alteration by the numbers of cores and of places per core.
+/// A run creates its table itself, so `new` selects the alteration by the numbers of cores and of slots per core.
 #[derive(Drop)]
 pub struct Altered<T: Tagged> {
     inner: LockedContexts<T>,
     alteration: Alteration,
-    /// The number of calls that the alteration has counted, or 1 once the first of its two calls was answered.
+    /// The number of calls that the alteration has counted. If the alteration orders two calls, 1 after the first has
+    /// returned.
     answered: AtomicU64,
 }
 
-/// Waits until the first of two calls was answered, for at most `POLLS` polls, and then pauses.
+/// Waits until the first of two calls has returned, for at most `POLLS` polls, and then pauses.
 fn wait(answered: &AtomicU64) {
     for _ in 0..POLLS {
         if answered.load(Ordering::SeqCst) > 0 {
@@ -84,7 +85,7 @@ fn wait(answered: &AtomicU64) {
     give_time();
 }
 
-/// Pauses, so that other kernel threads make progress.
+/// Pauses, so that other kernel threads can make progress.
 fn give_time() {
     for _ in 0..SPINS {
         spin_loop();
@@ -95,8 +96,8 @@ fn give_time() {
 }
 
 impl<T: Tagged + Drop> Altered<T> {
-    /// Looks at the core until one of its first three places is free, at most `GLANCES` times. Returns the occupancy
-    /// word of the last look.
+    /// Reads the occupancy word of `core` until one of the core's first three slots is free, at most `GLANCES` times.
+    /// Returns the last word.
     fn glance_at_place<R: Wait>(&self, rt: &R, core: u8) -> u64
         requires { core < self.now.inner.cores }
     {

@@ -1,4 +1,5 @@
-//! A chooser, the random generator of a core, that draws the words that a test sets.
+//! A replacement for a core's *chooser*, the random generator by which its forks choose cores. It returns the numbers
+//! that a test sets.
 ghost use Rattle.std.specs.Prelude.{◌≡◌, ◌+◌, ◌%◌, ◌^◌};
 ghost use Rattle.rand_core.specs.Steps.{stream_of, steps_u64_high};
 
@@ -17,7 +18,7 @@ pub struct Draws(pub u64, pub u64, pub u64);
 /// Added to a word, it adds 1 to both choices.
 pub const ONE_EACH: u64 = 0x0000_0001_0000_0001;
 
-/// All choosers always draw 0.
+/// All choosers (the random generators by which forks choose cores) always return 0.
 pub const ZEROS: Draws = Draws(0, 0, 0);
 
 /// Both choices of each fork are core 1.
@@ -29,7 +30,7 @@ pub const CORE_THREE: Draws = Draws(3 * ONE_EACH, 0, 0);
 /// The choices of a core's successive forks are cores 1, 2, 3 and so on.
 pub const IN_TURN: Draws = Draws(ONE_EACH, ONE_EACH, 0);
 
-/// The choosers spread forks over the cores.
+/// The choosers (the random generators by which forks choose cores) return numbers that spread forks over the cores.
 pub const SPREAD: Draws = Draws(
     0x9E37_79B9_7F4A_7C15,
     0xBF58_476D_1CE4_E5B9,
@@ -37,7 +38,7 @@ pub const SPREAD: Draws = Draws(
 );
 
 impl Draws {
-    /// Returns the chooser of a core.
+    /// Returns the chooser (the random generator for forks) of `core`.
     pub fn of(self, core: u64) -> Progression {
         Progression {
             word: self.0.wrapping_add(self.2.wrapping_mul(core)),
@@ -46,7 +47,7 @@ impl Draws {
     }
 }
 
-/// A chooser whose words grow by `step`, modulo 2^64.
+/// A chooser (a replacement for a random generator) whose numbers grow by `step`, modulo 2^64.
 #[derive(Clone, Copy, Drop)]
 pub struct Progression {
     pub word: u64,

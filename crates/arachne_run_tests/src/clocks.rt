@@ -1,19 +1,19 @@
-//! A clock that makes each yield look as if other work had used a whole time slice, or that cannot be read.
+//! A clock for tests. It can't be read, or it makes each yield look as if other work had used a whole time slice.
 use std::io::{self, ErrorKind};
 use std::sync::Wait;
 use std::sync::atomic::{AtomicU64, Ordering};
 use std::thread::Threads;
 use std::time::{Clock, Duration};
 
-/// The milliseconds between two looks at the clock.
+/// The time, in milliseconds, by which the clock advances at each read.
 const PASS: u64 = 10;
 
-/// Forwards to the handles of a test, except that the clock advances by 10 ms at each look.
+/// A host for tests that forwards to another one, except that its clock advances by 10 ms at each read.
 #[derive(Drop)]
 pub struct SlowClock<'a, R> {
     rt: &'a R,
     looks: AtomicU64,
-    /// Each look whose number, from 1, is a multiple of this number fails. If this number is 0, no look fails.
+    /// Every read whose number, counted from 1, is a multiple of this number fails. If it is 0, no read fails.
     fails: u64,
 }
 
@@ -26,7 +26,7 @@ impl<'a, R> SlowClock<'a, R> {
         }
     }
 
-    /// Returns the number of looks at the clock so far.
+    /// Returns how often the clock has been read.
     pub fn looks(&self) -> u64 {
         self.looks.load(Ordering::SeqCst)
     }

@@ -1,4 +1,4 @@
-//! An observer of a run (`Gate`) that records which cores run, or delays cores until an event.
+//! An observer of a run (`Gate`) that records which cores run, or delays cores until some event.
 use arachne_core::{CORES, ThreadId};
 use arachne_judge::Log;
 use arachne_lang::Name;
@@ -7,94 +7,96 @@ use std::hint::spin_loop;
 use std::sync::atomic::{AtomicU64, Ordering};
 use std::thread::yield_now;
 
-/// The number of polls for an event of another core after which the observer gives up.
+/// The number of polls for an event of another core after which the observer gives up waiting.
 const POLLS: u32 = 5_000_000;
 
-/// The number of polls for which a core waits, so that an event which must not happen could happen.
+/// The number of polls for which a core waits, so that an event that must not happen would have time to happen.
 const PAUSE: u32 = 500;
 
-/// The number of looks, without a pause, that show that a slice does not begin.
+/// The number of checks, without a pause between them, after which the observer assumes that a slice doesn't begin.
 const SPINS: u32 = 50_000;
 
-/// Spins, some milliseconds, in which a core with nothing to run falls asleep.
+/// The number of spins, which take some milliseconds, in which the worker of a core with nothing to run falls asleep.
 const REST: u32 = 1_000_000;
 
-/// The number of yields after which `is_still` looks whether a slice has begun.
+/// The number of yields after which `is_still` checks whether a slice has begun.
 const LOOKS: u32 = 100;
 
 /// The behaviour of an observer (`Gate`).
 ///
-/// A core that *waits* in a slice has entered the slice, and has not made the slice's first step. If an event occurs
-/// that must not, `is_over` is false.
+/// A core that *waits* in a slice has entered the slice, but has not made the slice's first step. If an event occurs
+/// that must not, `is_over` returns false.
 #[derive(Clone, Copy)]
 pub enum Watching {
-    /// Does nothing.
+    /// Records and delays nothing.
     Nothing,
-    /// Records which cores have entered a slice, and the number of slices entered.
+    /// Records which cores have entered a slice, and how many slices all cores have entered.
     Cores,
-    /// `(a, b)`: core 1 waits in its first slice until core 0 has entered slice a, and core 0 waits in slice a until
-    /// core 1 has entered slice b.
+    /// `(a, b)`: core 1 waits in its first slice until core 0 has entered its slice a, and core 0 waits in its slice a
+    /// until core 1 has entered its slice b.
     Meeting(u64, u64),
-    /// `(n)`: core 0 waits in slice n - 1 until core 1 has entered slice 0. Core 1 waits at the end of slice 0 until
-    /// core 0 has entered slice n. No order to open or close a core may be carried out before core 0 has entered slice
-    /// n; otherwise `is_over` is false.
+    /// `(n)`: core 0 waits in its slice n - 1 until core 1 has entered its slice 0. Core 1 waits at the end of its
+    /// slice 0 until core 0 has entered slice n. If an order to open or close a core is carried out before core 0 has
+    /// entered slice n, `is_over` returns false.
     Holding(u64),
-    /// `(n)`: core 1 waits in slice 0 until core 0 has entered n slices.
+    /// `(n)`: core 1 waits in its slice 0 until core 0 has entered n slices.
     Lead(u64),
-    /// Core 0 waits in slice 0 for a while, in which core 1 must not enter a slice.
+    /// Core 0 waits in its slice 0 for some time. If core 1 enters a slice in this time, `is_over` returns false.
     First,
-    /// `(n)`: core 1 waits in slice n until the run has carried out orders to open or close cores.
+    /// `(n)`: core 1 waits in its slice n until the run has carried out some orders to open or close cores.
     Applying(u64),
-    /// `(a, b)`: core 0 waits in slice a until core 1 is about to park, and in slice b until core 1 has entered slice
-    /// 0.
+    /// `(a, b)`: core 0 waits in its slice a until core 1 is about to park, and in its slice b until core 1 has entered
+    /// its slice 0.
     Granting(u64, u64),
-    /// `(n)`: core 0 waits in slice n until core 1 has ended a slice and had time to fall asleep. Then core 0 waits in
-    /// slice n + 4 until core 1 is about to park.
+    /// `(n)`: core 0 waits in its slice n until core 1 has ended a slice and had time to fall asleep. Then core 0 waits
+    /// in its slice n + 4 until core 1 is about to park.
     ///
     /// A sleep that times out is counted only if core 0 already waited when core 1 parked. Before core 1 is notified of
-    /// the order, its worker may also notice at the end of a sleep that the core was taken back.
+    /// the order, its worker may also notice at the end of a sleep that the core was closed.
     Parking(u64),
-    /// `(core, n)`: core 0 waits in slice n until `core` is about to park.
+    /// `(core, n)`: core 0 waits in its slice n until `core` is about to park.
     Parked(u8, u64),
-    /// Counts the children that wait for a place with a ticket.
+    /// Counts the children that wait for a slot with a ticket (an entry in the queue of waiting children).
     Spills,
-    /// Records whether a thread was woken because its child had ended, and whether a thread was woken because it got
-    /// its lock.
+    /// Records whether a thread was woken because its child had ended, and whether a thread was woken because it was
+    /// granted its lock.
     Wakes,
-    /// `(n)`: core 0 waits in slice n until core 1 has entered slice 0, and core 1 waits in that slice until an order
-    /// is applied. Core 1 must take a thread before each of its later slices.
+    /// `(n)`: core 0 waits in its slice n until core 1 has entered its slice 0, and core 1 waits in that slice until an
+    /// order is carried out. Core 1 must take a thread before each of its later slices.
     Anew(u64),
-    /// `(a, b)`: core 0 waits in slice a until a thread of core 1 awaits a child. In slice b core 1 gets time to park,
-    /// but must not park before a thread has ended on core 1.
+    /// `(a, b)`: core 0 waits in its slice a until a thread of core 1 waits for a child. In its slice b, core 0 pauses,
+    /// so that core 1 has time to park; but core 1 must not park before a thread has ended there.
     ParksLast(u64, u64),
-    /// Core 1 waits in slice 0 until threads were moved away. Records the cores to which they were moved.
+    /// Core 1 waits in its slice 0 until threads were moved away. Records the cores to which the threads were moved.
     Moving,
-    /// `(core, n)`: core 0 waits in slice n until a thread of `core` has ended, waits or was moved away. If the thread
-    /// waits, core 0 yields in each slice until the thread was moved. Then core 0 waits until `core` is about to park.
+    /// `(core, n)`: core 0 waits in its slice n until a thread of `core` has ended, waits or was moved away. If the
+    /// thread waits, core 0 yields in each slice until the thread was moved. Then core 0 waits until `core` is about to
+    /// park.
     Emptied(u8, u64),
-    /// `(n)`: core 0 waits in slice 0 until a core is about to park, and core 2 in slice 0 until core 1 has entered
-    /// slice n. Core 1 waits in slice n until the parked core is unparked, which shows that the run was stopped. In
-    /// earlier slices core 1 waits until core 0's slice 0 has ended. Core 1 must not enter a slice after slice n.
+    /// `(n)`: core 0 waits in its slice 0 until a core is about to park, and core 2 in its slice 0 until core 1 has
+    /// entered slice n. Core 1 waits in slice n until the parked core is unparked, which shows that the run was
+    /// stopped. In earlier slices core 1 waits until core 0's slice 0 has ended. Core 1 must not enter a slice after
+    /// slice n.
     Stopping(u64),
 }
 
-/// An observer (`Gate`) that behaves as its `Watching` says.
+/// An observer (`Gate`) that records and delays what its `Watching` value says.
 #[derive(Drop)]
 pub struct Watch {
     watching: Watching,
-    /// The events reported to the observer, if they are judged.
+    /// The events reported to this observer, if the test checks them against the rules of a run.
     pub log: Option<Log>,
-    /// The number of the root's only exclusive fork, if the log is judged.
+    /// The only exclusive one of the root's forks, counted from 0, if the test checks the log.
     pub exclusive: Option<u64>,
-    /// Bit k is set if core k has entered a slice.
+    /// The cores that have entered a slice: bit k is set for core k.
     pub entered: AtomicU64,
-    /// The number of slices entered.
+    /// The number of slices that all cores together have entered.
     pub slices: AtomicU64,
-    /// The number of sleeps that timed out before something was found.
+    /// The number of sleeps that timed out before their worker found something to run.
     pub oversleeps: AtomicU64,
     zero: AtomicU64,
     one: AtomicU64,
-    /// Set by the first event for which a core waits, such as the end of a slice or a park.
+    /// Set to 1 by the first event for which a core waits, such as the end of a slice or a park.
     ended: AtomicU64,
     failed: AtomicU64,
 }
@@ -111,7 +113,7 @@ fn count(word: &AtomicU64) {
     word.fetch_add(1, Ordering::SeqCst);
 }
 
-/// Returns whether the word is at least `wanted` after at most `polls` polls.
+/// Polls `word` at most `polls` times. Returns whether it became at least `wanted`.
 fn comes(word: &AtomicU64, wanted: u64, polls: u32) -> bool {
     for _ in 0..polls {
         if get(word) >= wanted {
@@ -138,7 +140,7 @@ impl Watch {
         }
     }
 
-    /// Returns whether all events for which a core waited have occurred, and no event that must not occur has.
+    /// Returns whether all events for which a core waited have occurred, and none of the events that must not occur.
     pub fn is_over(&self) -> bool {
         let (zero, one) = match self.watching {
             Watching::Nothing | Watching::Cores | Watching::Spills => (0, 0),
@@ -152,7 +154,7 @@ impl Watch {
         get(&self.zero) >= zero && get(&self.one) >= one && get(&self.failed) == 0
     }
 
-    /// Returns whether no recorded slice begins during `LOOKS` yields.
+    /// Returns whether no slice that this observer records begins during `LOOKS` yields.
     pub fn is_still(&self) -> bool {
         let before = get(&self.slices);
         for _ in 0..LOOKS {
@@ -161,7 +163,7 @@ impl Watch {
         get(&self.slices) == before
     }
 
-    /// Records that a core has entered a slice.
+    /// Records that `core` has entered a slice.
     fn note(&self, core: u8) {
         if core < CORES {
             self.entered
@@ -170,14 +172,15 @@ impl Watch {
         count(&self.slices);
     }
 
-    /// Waits until the other core's word is at least `wanted`. Records a failure after `POLLS` polls.
+    /// Waits until the word `other`, which another core sets, is at least `wanted`. After `POLLS` polls, records a
+    /// failure.
     fn wait(&self, other: &AtomicU64, wanted: u64) {
         if !comes(other, wanted, POLLS) {
             set(&self.failed);
         }
     }
 
-    /// Handles the start of core 0's slice `nth`.
+    /// Called when core 0 enters its slice `nth`. Does there what `watching` says.
     fn enter_zero(&self, nth: u64) {
         match self.watching {
             Watching::Meeting(own, _) if nth == own => {
@@ -223,7 +226,7 @@ impl Watch {
         }
     }
 
-    /// Lets core 0 wait until another core is empty and parks. `is_first` is true in the first slice in which core 0
+    /// Makes core 0 wait until another core is empty and parks. `is_first` is true in the first slice in which core 0
     /// waits.
     fn empties(&self, is_first: bool) {
         if is_first {
@@ -237,7 +240,7 @@ impl Watch {
         }
     }
 
-    /// Handles the start of core 1's slice `nth`.
+    /// Called when core 1 enters its slice `nth`. Does there what `watching` says.
     fn enter_one(&self, nth: u64) {
         match self.watching {
             Watching::Meeting(_, theirs) => {

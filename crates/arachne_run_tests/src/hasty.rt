@@ -1,4 +1,4 @@
-//! A job that ends without awaiting the child that it has forked, so that the table has a thread left at the end.
+//! A job that ends without waiting for the child that it has forked, so that the table still has a thread at the end.
 ghost use Rattle.std.specs.Prelude.{◌≡◌, Some};
 ghost use Rattle.arachne_machine.specs.declared.pause.Pending.TheVariants as pause;
 
@@ -12,19 +12,20 @@ use arachne_lang::{Class, Name, Program};
 use arachne_machine::Pending;
 use std::alloc::{AllocError, Global};
 
-/// A thread that forks a child and then ends. The thread makes no step of the program.
+/// A thread that forks a child and then ends, without any step of a program.
 #[derive(Drop)]
 pub struct Hasty {
-    /// The root's name, which all `Hasty` threads have.
+    /// The name of the root thread, which all `Hasty` threads return as theirs.
     name: Name,
     tag: u64,
     parent: Option<ThreadId>,
     pending: Option<Pending>,
-    /// True if the thread ends in its next slice. For a child it is true from the start.
+    /// True if the thread ends in its next slice. For a child it is true from the beginning.
     has_forked: bool,
 }
 
-/// Stands for a child, a ticket, and the memory of ended threads. The type is empty, as no child waits for a place.
+/// A type that stands for a child, for a ticket (an entry of a waiting child), and for the memory of ended threads. It
+/// has no data, since no child waits for a slot.
 #[derive(Drop)]
 pub struct Nothing;
 

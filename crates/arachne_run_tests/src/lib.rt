@@ -1,5 +1,9 @@
-//! Tests of whole runs: the report of a program, and that a run uses the table, the choosers and the observer (`Gate`)
-//! that it is given. No proof depends on these tests. Terms are in `docs/glossary.md`.
+//! Tests of whole runs: of the report of a program, and of how a run uses its table, its random generators (*choosers*)
+//! and its observer (`Gate`). No proof depends on these tests.
+//!
+//! A test case is a `Row`: a program, the machines (numbers of cores, steps per slice and choosers) on which it runs,
+//! and what its report must show. A *ticket* is the entry of a child in the queue of those that wait for a free slot.
+//! Other terms are in `docs/glossary.md`.
 #![tactic(auto)]
 
 #[cfg(test)]

@@ -1,4 +1,4 @@
-//! Runs of programs over the forms of context table.
+//! Runs programs over each type of context table.
 ghost use Rattle.std.specs.Prelude.{◌≡◌, IfOk};
 ghost use Rattle.arachne_lang.specs.Program.{source_of};
 ghost use Rattle.arachne_lang.specs.Checked.{IsChecked};
@@ -32,17 +32,17 @@ mod tables;
 mod tickets;
 mod waiting;
 
-/// A form of context table, and the jobs that run over the table.
+/// The type of context table, and the type of jobs, over which a test runs a program.
 #[derive(Clone, Copy, Debug)]
 enum Form {
-    /// The table behind a lock, `Altered`, which answers some calls by itself on some machines.
+    /// The table behind a lock, `Altered`, which on some machines gives its own results to some calls.
     Locked,
     Words,
-    /// The table on words, with jobs that end without awaiting the child that they have forked.
+    /// Over the table of atomic words, with jobs that end without waiting for the child that they have forked.
     Hasty,
 }
 
-/// Runs a program over the table on words.
+/// Runs a program over the table of atomic words.
 fn run_on_words<'p, R: Threads + Wait + Clock + Sync>(
     rt: &R,
     alloc: Global,
@@ -58,7 +58,7 @@ fn run_on_words<'p, R: Threads + Wait + Clock + Sync>(
     )
 }
 
-/// Runs a program over the table behind a lock.
+/// Runs a program over the table that a lock protects.
 fn run_on_lock<'p, R: Threads + Wait + Clock + Sync>(
     rt: &R,
     alloc: Global,
@@ -74,7 +74,8 @@ fn run_on_lock<'p, R: Threads + Wait + Clock + Sync>(
     )
 }
 
-/// Runs a program over the table on words, with jobs that end without awaiting the child that they have forked.
+/// Runs a program over the table of atomic words, with jobs that end without waiting for the child that they have
+/// forked.
 fn run_hastily<'p, R: Threads + Wait + Clock + Sync>(
     rt: &R,
     alloc: Global,

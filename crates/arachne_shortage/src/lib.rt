@@ -1,5 +1,5 @@
-//! For tests: takes all memory that a process can get, and gives back a little at a time, so that each growth is
-//! refused in turn.
+//! For tests: takes all memory that a process can get, and gives back a little at a time, so that one allocation after
+//! another is refused.
 #![tactic(auto)]
 
 ghost use Rattle.std.specs.Prelude.{◌≡◌, ◌≤◌, ◌<◌, ◌-◌, ◌/◌};
@@ -7,12 +7,12 @@ ghost use Rattle.arachne_shortage.specs.declared.TheConstants.{APART, KEPT};
 
 use std::alloc::{AllocError, Global};
 
-/// The size of the first block that is tried, in bytes. If a block is refused, the next block that is tried has half
+/// The size, in bytes, of the first block that is tried. After a block is refused, the next one that is tried has half
 /// its size.
 const LARGEST: usize = 1 << 46;
 
-/// Up to this size the C library keeps freed blocks of each size, and uses them only for blocks of that size. So from
-/// here on each next size is only `APART` bytes smaller.
+/// The size, in bytes, up to which the C library keeps freed blocks and uses them again only for blocks of the same
+/// size. So below it, the next size that is tried is only `APART` bytes smaller.
 const KEPT: usize = 1024;
 
 const APART: usize = 16;
@@ -20,19 +20,19 @@ const APART: usize = 16;
 /// The size, in bytes, of the smallest blocks that a [`Hoard`] takes.
 const SMALLEST: usize = 16;
 
-/// The maximum number of blocks that a hoard takes.
+/// The maximum number of blocks that a [`Hoard`] takes.
 const BLOCKS: usize = 150_000;
 
-/// The number of small blocks, which lie next to each other and can be given back. Each has `SMALL_SIZE` bytes.
+/// The number of small blocks, of `SMALL_SIZE` bytes each, which lie next to each other and can be given back.
 const SMALL: usize = 20_000;
 
 const SMALL_SIZE: usize = 40;
 
-/// The size, in bytes, of the largest blocks that `take_again` takes.
+/// The size, in bytes, of the largest blocks that [`Hoard::take_again`] takes.
 const PIECE: usize = 1 << 20;
 
-/// All memory that a process can get, except for what was given back. The blocks are not written to, so they use little
-/// of the machine's memory.
+/// All memory that a process can get, except for what was given back. Nothing is written to the blocks, so they use
+/// little of the machine's memory.
 #[derive(Drop)]
 pub struct Hoard {
     alloc: Global,
@@ -40,7 +40,7 @@ pub struct Hoard {
     small: Vec<Vec<u8>>,
 }
 
-/// Takes all blocks of at most `largest` bytes that can be got, until `blocks` is full.
+/// Takes all blocks of at most `largest` bytes that the allocator grants, until `blocks` has no room.
 fn take_all(alloc: Global, blocks: &mut Vec<Vec<u8>>, largest: usize) -> Result<(), AllocError> {
     let mut size = largest;
     for _ in 0..BLOCKS {
@@ -55,7 +55,7 @@ fn take_all(alloc: Global, blocks: &mut Vec<Vec<u8>>, largest: usize) -> Result<
     Ok(())
 }
 
-/// Returns the size that is tried after a block of this size was refused.
+/// Returns the size, in bytes, that is tried after a block of `size` bytes was refused.
 fn next_size(size: usize) -> usize
     requires { APART ≤ size }
     ensures half { KEPT < size → result ≡ size / 2 }
@@ -65,8 +65,8 @@ fn next_size(size: usize) -> usize
 }
 
 impl Hoard {
-    /// Takes all memory that can be got. After that a kernel thread can begin only on the stack of a thread that has
-    /// ended before.
+    /// Takes all memory that the process can get. After that, a kernel thread can start only on the stack of a kernel
+    /// thread that has ended.
     pub fn take(alloc: Global) -> Result<Hoard, AllocError> {
         let mut small = Vec::with_capacity(alloc, BLOCKS)?;
         let mut large = Vec::with_capacity(alloc, BLOCKS)?;
@@ -81,7 +81,7 @@ impl Hoard {
         })
     }
 
-    /// Gives back small blocks of at least `bytes` bytes together, or all small blocks if they have fewer bytes.
+    /// Gives back small blocks of at least `bytes` bytes in sum, or all small blocks if they have fewer bytes.
     pub fn give_back(&mut self, bytes: usize) {
         let mut left = bytes;
         for _ in 0..BLOCKS {
@@ -95,7 +95,7 @@ impl Hoard {
         }
     }
 
-    /// Takes the part of the given-back memory that is left.
+    /// Takes the memory that `give_back` has freed and that nobody has allocated since.
     pub fn take_again(&mut self) -> Result<(), AllocError> {
         take_all(self.alloc, &mut self.small, PIECE)
     }

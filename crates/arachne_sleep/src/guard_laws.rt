@@ -1,8 +1,8 @@
 //! One law for each kind of atomic operation (*step*) on a lock's guard word, which is 1 while a seat has the lock's
-//! state, else 0. Each law is the contract of a function with an empty body.
+//! state, otherwise 0. Each law is the contract of a function with an empty body.
 //!
 //! A law says which entries the step adds to the seat's log, and that the step keeps the invariant of the lock's table,
-//! whatever state the table is in.
+//! in whichever state the table is.
 ghost use Rattle.std.specs.Prelude.{◌≡◌, ℕ, ◌==◌, List, [], ◌∷◌, slice_get, Some};
 ghost use mathlib.Core.Option.{some};
 ghost use lib.ListN.{get_elem?};
@@ -27,8 +27,8 @@ pub fn the_rule_holds_at_first()
 
 /// A compare-exchange of a lock's guard word from 0 to 1 keeps the invariant of the lock's table.
 ///
-/// If the exchange succeeds, the seat has the lock's state, whose history extends each history in the seat's log. If
-/// the exchange fails, the log says that another seat had the lock's state.
+/// If the exchange succeeds, the seat (a kernel thread's right to call the lock) has the lock's state, whose history
+/// extends each history in the seat's log. If the exchange fails, the log says that another seat had the lock's state.
 pub fn a_try_keeps_the_rule()
     ensures { (number slots id weight : ℕ) (log : SeatLog)
         → Allows (IsKept number) slots id (idle weight log) guard_word (λ n. either (n == 0) 1 n) (Takes (idle weight log)) }
@@ -36,21 +36,22 @@ pub fn a_try_keeps_the_rule()
 
 /// A store of 0 to a lock's guard word keeps the invariant of the lock's table.
 ///
-/// With this step, the seat puts the lock's state back into the table. Its history extends the one that the seat took.
+/// With this step, the seat (a kernel thread's right to call the lock) puts the lock's state back into the table. The
+/// history in that state extends the history that the seat took.
 pub fn giving_back_keeps_the_rule()
     ensures { (number slots id : ℕ) (me : Mine) (guarded : Guarded) (before : List LockEvent) → slots ≡ 1 → IsReturnable me guarded before
         → Allows (IsKept number) slots id me guard_word (λ _. 0) (λ _ after. GivesBack me after) }
 {}
 
-/// A split of a seat keeps the invariant of the lock's table. The new seat's log has the histories that the first seat
-/// has read, and no events.
+/// A split of a seat (a kernel thread's right to call the lock) keeps the invariant of the lock's table. The new seat's
+/// log has the histories that the first seat has read, but no events.
 pub fn a_split_keeps_the_rule()
     ensures { (number id weight : ℕ) (log : SeatLog)
         → Splits (IsKept number) id (held weight (idle_known log)) (first_seat (held weight (idle_known log))) (second_seat (held weight (idle_known log))) }
 {}
 
-/// A join of another seat into a seat keeps the invariant of the lock's table. The seat's log then also has all entries
-/// of the other's log.
+/// A join of another seat (a kernel thread's right to call the lock) into a seat keeps the invariant of the lock's
+/// table. The seat's log then also has all entries of the other's log.
 pub fn a_join_keeps_the_rule()
     ensures { (number id weight : ℕ) (log : SeatLog) (other added : ℕ) (theirs : SeatLog)
         → Joins (IsKept number) id (held weight (idle_known log)) other (held added (idle_known theirs))

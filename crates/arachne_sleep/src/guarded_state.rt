@@ -12,10 +12,11 @@ use crossbeam_utils::CachePadded;
 use std::alloc::Global;
 use std::marker::Model;
 
-/// A lock's state, on cache lines of its own, and the index (in the lock's history) of the grant that the last call
+/// A lock's state, on cache lines of its own, and the index in the lock's history of the grant that the last call
 /// returned.
 ///
-/// The index exists only for proofs: it says which grant is logged for the seat that puts the state back.
+/// The index exists only for proofs: it selects the grant that is logged for the seat (a kernel thread's right to call
+/// the lock) that puts the state back.
 #[derive(Drop)]
 pub struct GuardedState {
     state: CachePadded<LockState>,

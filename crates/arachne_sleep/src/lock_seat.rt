@@ -11,8 +11,8 @@ use std::marker::Model;
 /// One kernel thread's right to call one sleep lock. Contracts keep with it a log of the calls that were made through
 /// it.
 ///
-/// A seat must be used, split and joined with the lock that it came from. If a seat is dropped, its weight (its part of
-/// one whole) is lost, and no seat can have the whole weight any more.
+/// The caller must use, split and join a seat only with the lock that created it. If a seat is dropped, its weight (its
+/// part of one whole) is lost, and no seat can have the whole weight any more.
 #[derive(Drop)]
 pub struct LockSeat {
     pub(crate) seat: Seat<GuardedState, View>,
@@ -33,7 +33,8 @@ impl Model for LockSeat {
 }
 
 impl LockSeat {
-    /// Returns whether this seat has the whole weight: all other seats of the lock were joined into it.
+    /// Returns whether this seat has the whole weight, which means that all other seats of the lock were joined into
+    /// it.
     pub fn is_whole(&self) -> bool
         ensures { IsTrue result ↔ IsWhole self.now }
     {

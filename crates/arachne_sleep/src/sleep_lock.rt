@@ -1,4 +1,5 @@
-//! A sleep lock that kernel threads share. If another kernel thread is in a call on the lock, a call returns at once.
+//! A sleep lock that kernel threads share. If a call finds another kernel thread in a call on the lock, it returns at
+//! once.
 ghost use Rattle.std.specs.Prelude.{◌≡◌, ◌↔◌, List, MatchBool, IsTrue, IsOk, IfOk, None, [], ◌∷◌};
 ghost use Rattle.arachne_sleep.specs.declared.event.LockEvent.{LockEvent};
 ghost use Rattle.arachne_sleep.specs.History.{IsSound};
@@ -28,17 +29,17 @@ const WORDS: usize = 32;
 /// The index of the guard word.
 const GUARD: usize = 16;
 
-/// The value of the guard word (the lock's atomic word) while no seat has the lock's state.
+/// The value of the guard word (the lock's atomic word) while no call has the lock's state.
 const HOME: u64 = 0;
 
-/// The value of the guard word while a seat has the lock's state.
+/// The value of the guard word (the lock's atomic word) while a call has the lock's state.
 const TAKEN: u64 = 1;
 
 /// A sleep lock with a guard word: an atomic word that is 1 while a seat has the lock's state, and otherwise 0.
 ///
-/// Each kernel thread calls the lock through a seat of its own. `ask`, `free` and `check` try once to set the guard
-/// word. If it is already set, a call returns `Contended`, and changes nothing. If not, the call does its work on the
-/// lock's state, and then clears the guard word, whatever its result is.
+/// Each kernel thread calls the lock through a seat (a right to call) of its own. `ask`, `free` and `check` try once to
+/// set the guard word. If the word is already set, the call returns `Contended`, and changes nothing. If not, the call
+/// does its work on the lock's state, and then clears the guard word, whatever its result is.
 #[derive(Drop)]
 pub struct SleepLock {
     number: u8,
@@ -66,8 +67,8 @@ fn first_slots(alloc: Global, number: u8) -> Result<Vec<GuardedState>, AllocErro
 }
 
 impl SleepLock {
-    /// Creates a lock with the number `lock`, for which nobody has asked yet, and its first seat, which has the whole
-    /// weight.
+    /// Creates a lock with the number `lock`, for which nobody has asked yet. Returns the lock and its first seat,
+    /// which has the whole weight.
     ///
     /// A split halves a seat's weight and a join adds two, so a seat with the whole weight is the only one.
     pub fn new(alloc: Global, lock: u8) -> Result<(SleepLock, LockSeat), AllocError>
@@ -95,7 +96,8 @@ impl SleepLock {
         self.number
     }
 
-    /// Asks for the lock. If nobody holds it, `who` gets it at once, and otherwise waits.
+    /// Asks for the lock for the user thread `who`. If nobody holds the lock, `who` gets it at once, and otherwise
+    /// waits.
     ///
     /// Returns `AlreadyIn` if `who` already holds the lock or waits for it. If memory is refused, nothing changes.
     pub fn ask(&self, seat: &mut LockSeat, who: Who) -> Tried<Result<Asked, AskFault>>
@@ -127,7 +129,7 @@ impl SleepLock {
         Tried::Answered(answer)
     }
 
-    /// Returns evidence that `who` holds the lock, or `None` if it doesn't.
+    /// Returns a `Pass`, the proof that the user thread `who` holds the lock, or `None` if `who` doesn't hold it.
     pub fn check(&self, seat: &mut LockSeat, who: Who) -> Tried<Option<Pass>>
         requires { IsSeatOf self.now seat.old }
         ensures seat { IsSeatOf self.now seat.new × (seat.new.weight ≡ seat.old.weight) }
@@ -143,8 +145,8 @@ impl SleepLock {
 
     /// Splits a seat into two, each with half of its weight, rounded up for the first.
     ///
-    /// The first seat keeps the log of `seat`; the second keeps only the histories that `seat` has read. If the weight
-    /// is 1 or 0, both seats get weight 0.
+    /// The first seat keeps the log of `seat`; the log of the second has only the histories that `seat` has read. If
+    /// the weight is 1 or 0, both seats get weight 0.
     pub fn split(&self, seat: LockSeat) -> (LockSeat, LockSeat)
         requires { IsSeatOf self.now seat }
         ensures first { result.0 ≡ first_half seat }
@@ -195,16 +197,16 @@ impl SleepLock {
         seat.weight = seat.weight.join(added);
     }
 
-    /// Returns whether `seat` has the whole weight: all other seats of the lock were joined into it.
+    /// Returns whether `seat` has the whole weight, which means that all other seats of the lock were joined into it.
     pub fn is_whole(&self, seat: &LockSeat) -> bool
         ensures { IsTrue result ↔ IsWhole seat.now }
     {
         seat.is_whole()
     }
 
-    /// Closes the lock. Returns all of its asks, grants and frees, oldest first. Does not allocate.
+    /// Closes the lock. Returns all asks, grants and frees of the lock, oldest first. Does not allocate.
     ///
-    /// `seat` must have the whole weight: no other seat is in use.
+    /// The caller must pass a seat that has the whole weight, so that no other seat is in use.
     pub fn close(self, seat: LockSeat) -> Result<History, (SleepLock, LockSeat)>
         requires own { IsSeatOf self seat }
         requires whole { IsWhole seat }
@@ -232,7 +234,7 @@ impl SleepLock {
         guarded.into_history()
     }
 
-    /// Tries once to set the guard word, and with it to take the lock's state out of the table. Returns whether it did.
+    /// Tries once to set the guard word and so to take the lock's state out of the table. Returns whether it succeeded.
     fn take(&self, seat: &mut Seat<GuardedState, View>) -> bool
         requires own { seat.old.table_id ≡ self.now.table }
         requires idle { seat.old.me ≡ idle seat.old.me.0.weight seat.old.me.0.known.log }

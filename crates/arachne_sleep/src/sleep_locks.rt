@@ -49,7 +49,7 @@ impl Model for LockSeats {
 }
 
 impl SleepLocks {
-    /// Creates `count` locks (`count` may be 0), and for each its first seat, which has the whole weight.
+    /// Creates `count` locks (0 is allowed), and for each its first seat (a right to call), which has the whole weight.
     pub fn new(alloc: Global, count: u8) -> Result<(SleepLocks, LockSeats), AllocError>
         ensures count { IfOk result (λ made. length made.0 ≡ count) }
         ensures own { IfOk result (λ made. AreSeatsOf made.0 made.1) }
@@ -95,7 +95,7 @@ impl SleepLocks {
         self.locks[k].free(&mut seats.seats[k], who)
     }
 
-    /// Returns evidence that `who` holds the lock with the number `lock`, as [`SleepLock::check`] does.
+    /// Returns the proof that `who` holds the lock with the number `lock`, as [`SleepLock::check`] does.
     pub fn check(&self, seats: &mut LockSeats, lock: u8, who: Who) -> Tried<Option<Pass>>
         requires own { AreSeatsOf self.now seats.old }
         requires lock { lock < length self.now }
@@ -106,7 +106,7 @@ impl SleepLocks {
         self.locks[k].check(&mut seats.seats[k], who)
     }
 
-    /// Splits each of the seats into two.
+    /// Splits each seat into two, one for the caller's kernel thread and one for another.
     ///
     /// If memory for the list of the second seats is refused, returns the unchanged seats as an error.
     pub fn split(
@@ -155,8 +155,8 @@ impl SleepLocks {
 
     /// Closes all locks. Returns the history of each lock, in the order of the locks.
     ///
-    /// Each of the seats must have the whole weight. If memory for the list is refused, returns the locks and the seats
-    /// as an error.
+    /// The caller must pass seats that each have the whole weight. If memory for the list is refused, returns the locks
+    /// and the seats as an error.
     pub fn close(
         self,
         alloc: Global,

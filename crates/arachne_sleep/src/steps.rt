@@ -3,8 +3,8 @@ use crate::guarded_state::GuardedState;
 use crate::view::View;
 use atomic_table::{Join, Play, Split, TableRule};
 
-/// The invariant of a lock's table: there is one history, which is part of the lock's state, and one trace of all
-/// operations on the guard word.
+/// The invariant of a lock's table: there is one history (of asks, grants and frees), which is part of the lock's
+/// state, and one trace of all operations on the guard word.
 ///
 /// The table's constant key is the lock's number.
 pub struct GuardRule;

@@ -1,17 +1,19 @@
-//! The log that proofs keep for each seat of a lock. These types exist only for proofs.
+//! The log that proofs keep for each seat (a right to call) of a lock. These types exist only for proofs.
 use crate::{LockEvent, Pass};
 use arachne_weights::Token;
 use std::collections::LinkedList;
 
-/// An event that a call through a seat caused, and its index in the lock's history.
+/// An event that a call through a seat (a kernel thread's right to call the lock) caused, and its index in the lock's
+/// history.
 pub struct PlacedEvent {
     pub at: usize,
     pub event: LockEvent,
 }
 
-/// The kinds of atomic operation on the guard word.
+/// The kinds of atomic operation on the guard word, which is 1 while a seat (a kernel thread's right to call the lock)
+/// has the lock's state.
 pub enum Kind {
-    /// A compare-exchange from 0 to 1. If it succeeds, the seat has the lock's state.
+    /// A compare-exchange from 0 to 1. If it succeeds, the caller's seat has the lock's state.
     Take,
     /// A store of 0, with which the seat puts the lock's state back.
     GiveBack,
@@ -25,13 +27,14 @@ pub struct Record {
     pub after: u64,
 }
 
-/// The log of a seat: the events that its calls caused, and the histories that its calls read.
+/// The log of a seat (a right to call): the events that its calls caused, and the histories of the lock that its calls
+/// read.
 pub struct SeatLog {
     /// The lock's number.
     pub number: u8,
     /// The events that calls through the seat caused.
     pub made: LinkedList<PlacedEvent>,
-    /// The evidence of grants that the seat's calls have returned.
+    /// The proofs of grants (each a `Pass`) that the seat's calls have returned.
     pub passes: LinkedList<Pass>,
     /// The history that the seat's last call read, and those of the seats that were joined into it since that call.
     pub seen: LinkedList<LinkedList<LockEvent>>,
@@ -39,7 +42,8 @@ pub struct SeatLog {
     pub records: LinkedList<Record>,
 }
 
-/// A seat's log, and whether the seat has the lock's state at present.
+/// The log of a seat (a kernel thread's right to call the lock), with a flag that says if the seat has the lock's state
+/// at present.
 pub struct Known {
     pub taken: bool,
     pub log: SeatLog,

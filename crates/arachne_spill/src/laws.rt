@@ -9,7 +9,7 @@ ghost use Rattle.arachne_spill.specs.declared.pass.Known.{Known};
 ghost use Rattle.arachne_spill.specs.Balance.{IsBalanced, opening_pass, after_push, after_pop, after_split, after_join};
 
 /// For each tag, the pushes equal the pops plus the items with that tag in the queue. This holds at the start, and
-/// after each atomic operation that a pass makes.
+/// after each atomic operation made by a pass (a right to use the queue).
 pub fn tags_stay_balanced<T>()
     ensures at_first { (tag_of : T → ℕ) → IsBalanced tag_of [] (opening_pass ∷ []) }
     ensures after_a_push { (tag_of : T → ℕ) (items : List T) (passes : List (Token Known)) → IsBalanced tag_of items passes

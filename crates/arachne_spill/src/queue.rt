@@ -1,4 +1,5 @@
-//! A queue of tagged items without locks, to which each thread pushes, and from which it pops, by a pass of its own.
+//! A queue of tagged items without locks. Each user pushes and pops with a pass of its own, which is its right to use
+//! the queue.
 ghost use Rattle.std.specs.Prelude.{◌≡◌, ◌↔◌, ◌++◌, [], ◌∷◌, ℕ, IfOk, IfErr, OnOk, OnErr, IfSome, IfNone, IsTrue};
 ghost use Rattle.arachne_weights.specs.Weight.{whole, first_part, second_part, joined};
 ghost use Rattle.arachne_spill.specs.Views.{IsPassOf, IsWhole, IsAheadBy, WasSeen, HasCounted, AllCameOut, capacity};
@@ -15,7 +16,7 @@ use std::sync::Wait;
 /// The greatest number of items in a queue.
 pub const CAPACITY: usize = 256;
 
-/// A first-in, first-out queue of at most 256 items.
+/// A first-in, first-out queue of at most 256 items, for many threads at once.
 #[derive(Drop)]
 pub struct SpillQueue<T: Tagged + Drop> {
     ring: RuledArrayQueue<T, View, Balanced, Global>,
@@ -33,7 +34,8 @@ impl<T: Tagged + Drop> Model for SpillQueue<T> {
 }
 
 impl<T: Tagged + Drop> SpillQueue<T> {
-    /// Returns an empty queue, and its first pass, which has the whole weight: it is the only right to use the queue.
+    /// Returns an empty queue, and its first pass (the right to use the queue), which has the whole weight, since it is
+    /// the only one.
     pub fn new(alloc: Global) -> Result<(SpillQueue<T>, SpillPass<T>), AllocError>
         ensures { IfOk result (λ made. made.1 ≡ record { table = made.0.table; weight = whole; pushed = []; popped = [] }) }
     {
@@ -89,7 +91,7 @@ impl<T: Tagged + Drop> SpillQueue<T> {
         self.ring.len_as::<Push, R>(rt, &mut pass.pass)
     }
 
-    /// Returns whether the queue was full at some moment of the call, by means of [`SpillQueue::len`].
+    /// Returns whether the queue was full at some moment of the call. Calls [`SpillQueue::len`].
     pub fn is_full<R: Wait>(&self, rt: &R, pass: &mut SpillPass<T>) -> bool
         requires own { IsPassOf self.now pass.old }
         ensures same { pass.new ≡ pass.old }
@@ -98,7 +100,7 @@ impl<T: Tagged + Drop> SpillQueue<T> {
         self.len(rt, pass) == CAPACITY
     }
 
-    /// Returns whether the queue was empty at some moment of the call, by means of [`SpillQueue::len`].
+    /// Returns whether the queue was empty at some moment of the call. Calls [`SpillQueue::len`].
     pub fn is_empty<R: Wait>(&self, rt: &R, pass: &mut SpillPass<T>) -> bool
         requires own { IsPassOf self.now pass.old }
         ensures same { pass.new ≡ pass.old }
@@ -108,10 +110,10 @@ impl<T: Tagged + Drop> SpillQueue<T> {
         self.len(rt, pass) == 0
     }
 
-    /// Splits a pass in two, so that another thread can use the queue too. The first one keeps the record of tags.
+    /// Splits `pass` in two, so that another user can use the queue too. The first of the two keeps the record of tags.
     ///
-    /// Each gets half of the weight, rounded up for the first and down for the second. But a pass of weight 1 or 0
-    /// gives two of weight 0.
+    /// Each gets half of the weight of `pass`, rounded up for the first and down for the second. But if the weight is 1
+    /// or 0, both get weight 0.
     pub fn split<R: Wait>(&self, _rt: &R, pass: SpillPass<T>) -> (SpillPass<T>, SpillPass<T>)
         requires own { IsPassOf self.now pass }
         ensures first { result.0 ≡ record pass { weight = first_part pass.weight } }
@@ -132,8 +134,8 @@ impl<T: Tagged + Drop> SpillQueue<T> {
         )
     }
 
-    /// Joins two passes into one, with the tags of both. Its weight is the sum of their weights, at most the whole
-    /// weight.
+    /// Joins two passes into one, with the recorded tags of both. The new weight is the sum of the two weights, at most
+    /// the whole weight.
     pub fn join_passes<R: Wait>(
         &self,
         _rt: &R,
@@ -156,7 +158,7 @@ impl<T: Tagged + Drop> SpillQueue<T> {
         }
     }
 
-    /// Returns whether `pass` has the whole weight, because all other passes were joined into it.
+    /// Returns whether `pass` has the whole weight. If it has, all other passes were joined into it.
     pub fn is_whole(&self, pass: &SpillPass<T>) -> bool
         ensures { IsTrue result ↔ IsWhole pass.now }
     {

@@ -1,8 +1,8 @@
-//! Context tables: the trait of all of them, the table on atomic words, and the table behind a lock.
+//! Context tables, which have slots for user threads, and by which workers create, take, wake and move them.
 //!
-//! This crate has no code of its own. The crate re-exports four others: the trait `Contexts` with its seats and answers
-//! (`arachne_contexts`), the form behind a lock (`arachne_locked`), the form on atomic words (`arachne_words`), and a
-//! law for each kind of atomic step of that form (`arachne_rule`).
+//! This crate has no code of its own. It re-exports the trait `Contexts` (`arachne_contexts`), the table behind a lock
+//! (`arachne_locked`), the table on atomic words (`arachne_words`), and a law for each kind of atomic operation of the
+//! latter (`arachne_rule`).
 #![tactic(auto)]
 
 #[cfg(test)]

@@ -1,4 +1,4 @@
-//! Tests of the tables by public calls. Each form of table must give the results of each row.
+//! Tests of the context tables by public calls. Each type of table must give the same results in each test case.
 ghost use Rattle.std.specs.Prelude.{ℕ};
 
 mod carriers;
@@ -12,7 +12,7 @@ use std::alloc::Global;
 use std::sync::Wait;
 use std::test::Fail;
 
-/// A thread that consists only of its tag.
+/// A value for the table that consists only of its tag (its number).
 #[derive(Debug, Drop)]
 struct TagOnly(u64);
 

@@ -1,5 +1,5 @@
-//! Starts a team of kernel threads and joins them. A value of the caller's, the *share*, is split among them, and each
-//! returns its part when it ends.
+//! Starts a team of kernel threads and joins them. A value of the caller's, the *share*, is split among the kernel
+//! threads, and each returns its part when it ends.
 #![tactic(auto)]
 
 mod start;

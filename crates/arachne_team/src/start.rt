@@ -9,7 +9,7 @@ use std::sync::Wait;
 use std::thread::{self, Promise, PromisedHandle, Threads};
 use std::time::Clock;
 
-/// The promise for each kernel thread's result: the share that it returns belongs to this team. Only contracts use it.
+/// The contract of each kernel thread's result: the share that it returns belongs to this team. Only contracts use it.
 #[derive(Drop)]
 struct Returns<W> {
     team: Snapshot<W>,
@@ -31,11 +31,11 @@ impl<S, W: Team<S>> Promise<Option<S>> for Returns<W> {
 
 /// Runs all kernel threads of a team, each with a part of `share`, and returns all parts joined.
 ///
-/// The calling kernel thread has number 0, and new kernel threads have the other numbers. The call returns after all
-/// have ended. Returns `None` if a part of the share is lost.
+/// The calling kernel thread has number 0, and new kernel threads have the other numbers. The call returns after all of
+/// them have ended. Returns `None` if a part of the share is lost.
 ///
-/// If memory or a kernel thread is refused, `Team::fail` is called, and the kernel threads that have already begun go
-/// on without the others. The idea is that of a team of threads in OpenMP.
+/// If memory or a kernel thread is refused, calls `Team::fail`, and the kernel threads that have already begun do their
+/// work without the others. The idea is that of a team of threads in OpenMP.
 pub fn work_together<H: Threads + Wait + Clock + Sync, S: Drop + Send, W: Team<S> + Sync>(
     rt: &H,
     alloc: Global,
@@ -81,9 +81,10 @@ pub fn work_together<H: Threads + Wait + Clock + Sync, S: Drop + Send, W: Team<S
     )
 }
 
-/// Splits off a share for one more kernel thread, and reserves room for that thread in `others`.
+/// Splits off a part of `share` for one more kernel thread, and reserves room for that thread's handle in `others`.
 ///
-/// Returns what is left of `share`, and the new share, or `None` in place of the new share if memory is refused.
+/// Returns the remaining part of `share`, and the new part. If memory is refused, returns `None` instead of the new
+/// part.
 fn part_off<H: Wait, S, W: Team<S>, O>(
     rt: &H,
     team: &W,

@@ -1,5 +1,5 @@
-//! The trait by which a caller says what each kernel thread of a team does, and how the team's share is split and
-//! joined.
+//! The trait by which a caller says what each kernel thread of a team does, and how the team's share (a value of the
+//! caller's) is split and joined.
 ghost use Rattle.std.specs.Prelude.{ℕ, ◌≡◌, ◌<◌, IfSome};
 
 use std::sync::Wait;
@@ -14,9 +14,10 @@ pub enum TeamFault {
     KernelThread,
 }
 
-/// The work of a team of kernel threads. Each has a share of type `S`, which is a part of one value of the caller's.
+/// The work of a team of kernel threads. Each kernel thread has a share of type `S`, which is a part of one value of
+/// the caller's.
 ///
-/// The kernel threads are numbered from 0, which is the one that starts the others.
+/// The kernel threads are numbered from 0, which is the number of the one that starts the others.
 /// [`work_together`](crate::work_together) runs them.
 pub trait Team<S> {
     /// True if the share belongs to this team.
@@ -29,15 +30,16 @@ pub trait Team<S> {
     fn size(&self) -> u8
         ensures { result ≡ Self.size self.now };
 
-    /// Splits off a share for one more kernel thread.
+    /// Splits off a part of `share` for one more kernel thread.
     ///
-    /// Returns what is left of `share`, and the new share, or `None` in place of the new share if memory is refused.
+    /// Returns the remaining part of `share`, and the new part. If memory is refused, returns `None` instead of the new
+    /// part.
     fn part_off<R: Wait>(&self, rt: &R, share: S) -> (S, Option<S>)
         requires { Self.has self.now share }
         ensures own { Self.has self.now result.0 }
         ensures other { IfSome result.1 (Self.has self.now) };
 
-    /// Does the work of kernel thread `number`. Returns its share at the end, or `None` if the share is lost.
+    /// Does the work of kernel thread `number`. Returns the thread's share at the end, or `None` if the share is lost.
     fn work<R: Wait + Clock>(&self, rt: &R, number: u8, share: S) -> Option<S>
         requires share { Self.has self.now share }
         requires number { number < Self.size self.now }
@@ -49,7 +51,7 @@ pub trait Team<S> {
         requires other { Self.has self.now other }
         ensures { IfSome result (Self.has self.now) };
 
-    /// Is called if a kernel thread could not be started. After that, no further one is started.
+    /// Handles the failure to start a kernel thread. After this call, no further kernel thread is started.
     ///
     /// The kernel threads that have begun run until they end by themselves. If they wait for one another, `fail` must
     /// make them end.

@@ -1,4 +1,4 @@
-//! Tests of the texts of faults and of advice.
+//! Tests of the texts by which `Display` shows errors and the policy's advice.
 use arachne_core::NotApplied;
 use arachne_lang::CheckFault;
 use arachne_policy::{Advice, BadSample, OrderFault, OrderFaultKind};
@@ -6,7 +6,7 @@ use std::alloc::Global;
 use std::fmt::Display;
 use std::string::ToString;
 
-/// Returns whether a value is displayed as `text`.
+/// Returns whether `Display` writes `value` as `text`.
 fn is_written<T: Display>(alloc: Global, value: &T, text: &str) -> bool {
     match value.to_string(alloc) {
         Ok(written) => written.as_str() == text,

@@ -4,11 +4,11 @@ ghost use Rattle.std.specs.Prelude.{◌≡◌, ◌<◌};
 use arachne_join::{CellState, Fits, JoinCell, SendingEnd};
 use std::alloc::AllocError;
 
-// The number for which a cell is made.
+// The number for which a join cell is made; it decides which results the cell accepts.
 #[derive(Drop)]
 struct Wanted(u64);
 
-// Only the number itself fits, and a value may wait if it is below the number.
+// Only the wanted number itself fits the cell, and only a smaller value may be put back into it.
 impl Fits<Wanted> for u64 {
     ghost fits = { λ wanted value. value ≡ wanted.0 };
 
@@ -22,7 +22,8 @@ fn is_missed(cell: &JoinCell<u64, Wanted>, state: CellState) -> bool {
     }
 }
 
-/// Returns whether a value that was put back is taken back, and a value that was left is fetched.
+/// Returns whether a value that was put back into the cell can be taken back, and whether the value that is left in the
+/// end can be fetched.
 ///
 /// A fetch must fail, each time with the right state: before a value is put back, while it waits, after it was taken
 /// back, and after another value was left and fetched.

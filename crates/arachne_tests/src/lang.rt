@@ -26,7 +26,8 @@ fn is_read_and_printed(alloc: Global, text: &[u8]) -> Result<bool, TextFault> {
     }
 }
 
-/// The test passes too if each allocation is refused in turn: a refusal is no fault of the text, and changes nothing for
+/// The test passes too if each allocation is refused in turn: a refusal is no fault of the text, and changes nothing
+/// for
 /// the next call.
 #[test]
 fn texts_are_printed_as_they_were_read(rt: HostRuntime) {

@@ -7,7 +7,7 @@ use std::alloc::{AllocError, Global};
 use std::thread;
 use std::thread::Threads;
 
-/// Adds 2^63 + 3 to the first ledger a thousand times.
+/// Adds 2^63 + 3 to the first ledger (counter) a thousand times.
 fn add_threes(ledgers: &Ledgers, mut share: Share) -> Share
     requires share { IsShareOf ledgers.now share }
     requires some_ledger { 0 < ledgers.now.count }
@@ -71,7 +71,7 @@ fn add_to_each(ledgers: &Ledgers, share: Share) -> (bool, Share)
     (are_read, ledgers.join_shares(other, share))
 }
 
-/// Returns whether `count` ledgers have the expected sums after `add_to_each`.
+/// Returns whether `count` ledgers (counters) have the expected sums after `add_to_each`.
 fn come_to(alloc: Global, count: usize, expected: &[u64]) -> Result<bool, AllocError> {
     let (ledgers, share) = Ledgers::new(alloc, count)?;
     let (are_read, share) = add_to_each(&ledgers, share);

@@ -1,4 +1,4 @@
-//! Tests of the crates below the commands, through their public calls only, with a module for each crate.
+//! Tests of the library crates by their public calls only, with a module for each crate.
 //!
 //! The crates are proved without these tests.
 #![tactic(auto)]

@@ -1,4 +1,4 @@
-//! Tests of threads that can be interrupted after any step: worked values, and refused memory.
+//! Tests of threads that can be interrupted after any step: expected outcomes (results), and refused memory.
 mod family;
 mod shortage;
 mod told;
@@ -9,7 +9,7 @@ use arachne_lang::{Program, parse};
 use arachne_machine::run_alone;
 use std::alloc::Global;
 
-/// Returns the program of an expression, with `count` ledgers and `count` locks.
+/// Returns the checked program of an expression, with `count` ledgers (counters) and `count` locks.
 fn program(alloc: Global, count: u8, expression: &str) -> Option<Program> {
     let text = format!(in alloc; "arachne 1\nledgers {count}\nlocks {count}\n{expression}\n").ok()?;
     parse(alloc, text.as_bytes()).ok()
@@ -17,14 +17,16 @@ fn program(alloc: Global, count: u8, expression: &str) -> Option<Program> {
 
 const COUNTING: &str = "(sweep add 1 (num 0) (num 8) (hold 0 (tally 0 (num 5) (num 1))))";
 
-/// A program: its number of ledgers and of locks, its expression, the way in which children run, the sum of the tags
-/// that ask for a lock, and the text of its outcome.
+/// A test case. Fields: the number of the program's ledgers, which is also that of its locks, its expression, the way
+/// in which children run, the sum of the tags (numbers) of the threads that ask for a lock, and the text of the
+/// program's outcome.
 type Row = (u8, &'static str, Way, u64, &'static str);
 
-/// Programs, with the texts of their outcomes.
+/// Programs, each with the text of its outcome (result).
 ///
-/// The threads with the tags 9 to 16 hold the lock once each, and are the threads that ask for it. A child that is taken
-/// at its fork has the tag 0; a child that begins in its parent's place immediately has the tag that it gets there, 7.
+/// The threads with the tags 9 to 16 hold the lock once each, and are the threads that ask for it. A child that is
+/// taken at its fork has the tag 0; a child that begins inside its parent's slot at once has the tag that it gets
+/// there, 7.
 const ROWS: &[Row] = &[
     (
         0,
@@ -76,7 +78,7 @@ fn told_of(
     told(alloc, &parts_of(alloc, &program, round, is_short)?)
 }
 
-/// Returns whether a row's outcome is as expected.
+/// Returns whether the outcome of a test case is as expected.
 fn is_right(alloc: Global, row: &Row, budget: u32, is_short: bool) -> Option<bool> {
     let &(count, expression, way, asked, expected) = row;
     let mut round = Round::new(way, budget);
@@ -85,7 +87,7 @@ fn is_right(alloc: Global, row: &Row, budget: u32, is_short: bool) -> Option<boo
     Some(text.as_str() == expected && round.asked == asked && is_refused == is_short)
 }
 
-/// Returns the number, from 0, of the first row whose outcome is not as expected, and the budget.
+/// Returns the index of the first test case whose outcome is not as expected, and the budget.
 fn first_wrong(alloc: Global, is_short: bool) -> Option<(usize, u32)> {
     for (k, row) in ROWS.iter().enumerate() {
         for budget in [1, 2, 7, 1000] {
@@ -110,7 +112,7 @@ fn is_text(text: Option<String>, expected: &str) -> bool {
     }
 }
 
-/// A sum and its two numbers are begun by three steps; the last adds the numbers and ends.
+/// A sum takes three steps: they begin the sum and its two numbers, and the last one also adds the numbers and ends.
 #[test]
 fn a_budget_is_used_up_before_the_end(rt: HostRuntime) {
     let mut round = Round::new(Way::AtFork, 1);
@@ -118,13 +120,14 @@ fn a_budget_is_used_up_before_the_end(rt: HostRuntime) {
     assert!(rt; is_text(text, "3 [] []9-[]") && round.budgets == 2);
 }
 
-/// Three children, one after the other, each of which joins 130 children one after the other, of 1,010 threads each.
+/// Three children, one after the other. Each of them joins 130 children of its own, one after the other, which have
+/// 1,010 threads each.
 ///
-/// So the lines of a thread are in up to 390 lists, and a list is appended to no, some and many other lists.
+/// So the report's lines of a thread are in up to 390 lists, and a list is appended to no, some and many other lists.
 const LISTS: &str =
     "(fold (num 0) (num 3) (num 0) (fork n (fold (num 0) (num 130) (num 0) (fork n (sweep add 1 (num 0) (num 1010) (num 1)) (num 0) (add (var 3) (var 4)))) (num 0) (add (var 1) (var 2))))";
 
-/// Returns the number of threads of an expression's program.
+/// Returns the number of threads in a run of the program of this expression.
 fn threads_of(alloc: Global, expression: &str) -> Option<usize> {
     let program = program(alloc, 0, expression)?;
     let meaning = run_alone(alloc, &program, 1000).ok()?;

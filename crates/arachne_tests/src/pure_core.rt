@@ -12,7 +12,7 @@ fn take(carrier: u32) -> Event {
     Event::Take { carrier, context }
 }
 
-/// Returns the words of core 0 and of context 0, if the context is at the place that the World gives for it.
+/// Returns the words of core 0 and of context 0, if that context is in the slot that the table has for it.
 fn shown(world: &World) -> Option<(u64, u64)> {
     let (cores, slots) = (world.cores(), world.slots());
     if u32::from(cores) * u32::from(slots) == 0 {
@@ -53,15 +53,15 @@ fn a_world_makes_the_events_that_it_allows(rt: HostRuntime) -> Result<(), AllocE
 }
 
 /// The parts of a mark word (a context's packed state): the code of its mark, whether it is exclusive, its core and
-/// index, and its generation.
+/// slot index, and its generation.
 fn marked(number: u64) -> Option<(u64, bool, u8, u8, u64)> {
     let word = MarkWord::from_word(number)?;
     let (code, Place { core, index }) = (word.mark().code(), word.place());
     Some((code, word.is_alone(), core, index, word.generation()))
 }
 
-/// Returns the word of `number` as it is packed again, with another mark, and with another place; and the word that is
-/// read from `first`, a number of the older layout.
+/// Returns four numbers: the word of `number` packed again, with another mark, and with another slot; and the word that
+/// is read from `first`, a number of the older layout.
 fn changed(number: u64, first: u64) -> Option<(u64, u64, u64, u64)> {
     let word = MarkWord::from_word(number)?;
     let (core, index) = (63, 55);
@@ -91,8 +91,8 @@ fn occupied(number: u64) -> Option<(u64, u8, bool, bool, bool, Option<u8>)> {
     Some((mask, count, closed, exclusive, empty, free))
 }
 
-/// Returns four facts of an occupancy word: itself with index 2 occupied, itself with index 2 free, whether index 2 is
-/// occupied, and itself closed and exclusive with index 0 free.
+/// Returns four facts about an occupancy word: the word with index 2 occupied, the word with index 2 free, whether
+/// index 2 is occupied, and the word closed and exclusive with index 0 free.
 fn with_and_without(number: u64) -> Option<(u64, u64, bool, u64)> {
     let occ = OccWord::from_word(number)?;
     let (with, without) = (occ.with_bit(2).word(), occ.without_bit(2).word());

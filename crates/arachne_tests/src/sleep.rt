@@ -6,7 +6,7 @@ mod shortage;
 use arachne_core::ThreadId;
 use arachne_sleep::Who;
 
-/// Returns the thread of this tag and context, and of the generation 7.
+/// Returns the identity of the thread with this tag (number in the run) and context, and with the generation 7.
 fn thread(tag: u64, context: u32) -> Who {
     Who {
         tag,

@@ -1,4 +1,5 @@
-//! Tests of a queue that is filled, refuses and is emptied, and of tickets that pass between two kernel threads.
+//! Tests of the queue of waiting children: one that is filled until it refuses and then emptied, and one into which one
+//! kernel thread pushes and from which another pops.
 ghost use Rattle.arachne_spill.specs.Views.{IsPassOf};
 
 use arachne_contexts::Tagged;
@@ -27,7 +28,7 @@ type Queue = SpillQueue<Ticket>;
 
 type Pass = SpillPass<Ticket>;
 
-/// Pushes tickets with the tags from 0 on until a ticket is refused, and returns this ticket's tag.
+/// Pushes tickets with the tags (numbers) 0, 1, 2 and so on until the queue refuses one, and returns that ticket's tag.
 fn fill<R: Wait>(rt: &R, queue: &Queue, pass: &mut Pass) -> Option<u64>
     requires { IsPassOf queue.now pass.old }
     ensures { IsPassOf queue.now pass.new }
@@ -40,9 +41,9 @@ fn fill<R: Wait>(rt: &R, queue: &Queue, pass: &mut Pass) -> Option<u64>
     None
 }
 
-/// Pops until the queue is empty, and returns the number of tickets.
+/// Pops tickets until the queue is empty, and returns their number.
 ///
-/// Returns `None` if the tickets' tags are not those from 0 on.
+/// Returns `None` if the tickets' tags (numbers) are not 0, 1, 2 and so on.
 fn drain<R: Wait>(rt: &R, queue: &Queue, pass: &mut Pass) -> Option<u64>
     requires { IsPassOf queue.now pass.old }
     ensures { IsPassOf queue.now pass.new }
@@ -57,7 +58,7 @@ fn drain<R: Wait>(rt: &R, queue: &Queue, pass: &mut Pass) -> Option<u64>
     None
 }
 
-/// Returns whether the queue is empty, and whether it is full.
+/// Returns two values: whether the queue is empty, and whether it is full.
 fn looks<R: Wait>(rt: &R, queue: &Queue, pass: &mut Pass) -> (bool, bool)
     requires { IsPassOf queue.now pass.old }
     ensures { IsPassOf queue.now pass.new }
@@ -78,7 +79,7 @@ fn the_257th_ticket_comes_back(rt: HostRuntime) -> Result<(), AllocError> {
     Ok(())
 }
 
-/// Pushes a ticket, and tries again while the queue is full.
+/// Pushes a ticket, and tries again as long as the queue is full.
 fn push_at_last<R: Wait>(rt: &R, queue: &Queue, pass: &mut Pass, ticket: Ticket)
     requires { IsPassOf queue.now pass.old }
     ensures { IsPassOf queue.now pass.new }
@@ -93,7 +94,7 @@ fn push_at_last<R: Wait>(rt: &R, queue: &Queue, pass: &mut Pass, ticket: Ticket)
     }
 }
 
-/// Pops the next ticket, waiting while the queue is empty, and returns its tag.
+/// Waits until the queue has a ticket, pops it, and returns its tag (its number).
 fn pop_at_last<R: Wait>(rt: &R, queue: &Queue, pass: &mut Pass) -> u64
     requires { IsPassOf queue.now pass.old }
     ensures { IsPassOf queue.now pass.new }
@@ -117,7 +118,7 @@ fn send<R: Wait>(rt: &R, queue: &Queue, mut pass: Pass) -> Pass
     pass
 }
 
-/// Receives all tickets, and returns the number of tickets that came in order.
+/// Pops all the tickets that the other kernel thread pushes. Returns how many of them were in order.
 fn receive<R: Wait>(rt: &R, queue: &Queue, mut pass: Pass) -> (Pass, u64)
     requires { IsPassOf queue.now pass }
     ensures { IsPassOf queue.now result.0 }

@@ -1,5 +1,5 @@
-//! Laws of all tokens (users' rights) of one object, at any time. Each law is the contract of a function with an empty
-//! body.
+//! Laws that hold at any time for all tokens (users' rights) of one object. Each law is the contract of a function with
+//! an empty body.
 ghost use Rattle.std.specs.Prelude.{◌≡◌, ◌≢◌, ◌≤◌, ℕ, List};
 ghost use mathlib.Core.Option.{some};
 ghost use lib.ListN.{get_elem?};

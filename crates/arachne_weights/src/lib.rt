@@ -1,7 +1,8 @@
 //! Weights, by which the last user of a shared object knows that nobody else uses it any more.
 //!
 //! Each thread that uses a shared object has a token. The first token has the whole weight, a split divides a token's
-//! weight, and a join adds the weights of two. So whoever has the whole weight is the only user of the object.
+//! weight, and a join adds the weights of two. So the thread whose token has the whole weight is the only user of the
+//! object.
 #![tactic(auto)]
 
 mod laws;

@@ -1,4 +1,4 @@
-//! A part of the whole weight 2^127, which a split halves and a join adds up.
+//! A part of the whole weight 2^127. A split halves a weight, and a join adds two.
 ghost use Rattle.std.specs.Prelude.{◌≡◌, ◌↔◌, IsTrue};
 ghost use Rattle.arachne_weights.specs.Weight.{whole, first_part, second_part, joined};
 
@@ -33,8 +33,8 @@ impl Weight {
         Weight { amount: WHOLE }
     }
 
-    /// Returns half of the weight, rounded up, and the other half. A weight of 1 or 0 can't be halved: both results are
-    /// then 0.
+    /// Returns half of the weight, rounded up, and the other half. A weight of 1 or 0 can't be halved, so both results
+    /// are then 0.
     pub fn split(self) -> (Weight, Weight)
         ensures first { result.0 ≡ first_part self }
         ensures second { result.1 ≡ second_part self }

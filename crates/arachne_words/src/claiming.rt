@@ -20,7 +20,7 @@ const WHOLE_CORE: u64 = EXCLUSIVE + COUNT_ONE + 1;
 
 /// Returns the number that a claim adds to its core's occupancy word, and that freeing the claim subtracts again.
 ///
-/// It consists of the index's bit, 1 in the field of the count, and the exclusive bit if `alone` is true.
+/// The number consists of the bit of `index`, 1 in the field of the count, and the exclusive bit if `alone` is true.
 fn claim_sum(index: u8, alone: bool) -> u64
     requires { index < SLOTS }
     ensures { result ≡ sum_of alone index }
@@ -31,7 +31,7 @@ fn claim_sum(index: u8, alone: bool) -> u64
 
 impl<T: Tagged + Drop> WordContexts<T> {
     /// Returns the lowest free index of the core whose occupancy word is `seen`, or `None` if the core is full or
-    /// exclusive.
+    /// exclusive (one thread has it for itself).
     pub(crate) fn free_index(&self, seen: OccWord) -> Option<u8>
         ensures some { IfSome result (IsLowestFree self.now.shape.places_per_core seen) }
         ensures none { IfNone result (HasNoPlace self.now.shape.places_per_core seen) }
@@ -67,7 +67,8 @@ impl<T: Tagged + Drop> WordContexts<T> {
         Ok(())
     }
 
-    /// Claims the lowest free index of a core for the caller. Reads the core's occupancy word once, and tries once.
+    /// Claims the lowest free thread slot of a core for the caller's seat. Reads the core's occupancy word once, and
+    /// tries once.
     pub fn claim(&self, seat: &mut WordSeat<T>, core: u8) -> Claimed<WordClaim>
         requires own { seat.old.table ≡ self.now.table }
         requires core { core < self.now.shape.cores }
@@ -112,7 +113,8 @@ impl<T: Tagged + Drop> WordContexts<T> {
         Ok(())
     }
 
-    /// Claims a whole empty core for one thread, at index 0. Reads the core's occupancy word once, and tries once.
+    /// Claims a whole empty core for one thread, at index 0. Reads the core's occupancy word once, and tries the
+    /// compare-exchange once.
     pub fn claim_alone(&self, seat: &mut WordSeat<T>, core: u8) -> Claimed<WordClaim>
         requires own { seat.old.table ≡ self.now.table }
         requires core { core < self.now.shape.cores }
@@ -139,8 +141,8 @@ impl<T: Tagged + Drop> WordContexts<T> {
         }
     }
 
-    /// Frees a claimed place, by one atomic subtraction from the core's occupancy word: of the place's bit, of 1 in the
-    /// field of the count, and of the exclusive bit if `alone` is true.
+    /// Frees a claimed place (a thread slot), by one atomic subtraction from the core's occupancy word: of the place's
+    /// bit, of 1 in the field of the count, and of the exclusive bit if `alone` is true.
     pub(crate) fn release(&self, seat: &mut CallSeat<T>, place: Place, alone: bool)
         requires own { seat.old.table ≡ self.now.table }
         requires claim { HasClaim self.now seat.old.known (record { place = place; alone = alone }) }
@@ -153,7 +155,7 @@ impl<T: Tagged + Drop> WordContexts<T> {
         shared.fetch_sub::<Release>(&mut seat.seat, word, less);
     }
 
-    /// Frees a claimed place into which no thread was put.
+    /// Frees a claimed thread slot into which no thread was put.
     pub fn give_back(&self, seat: &mut WordSeat<T>, claim: WordClaim)
         requires own { seat.old.table ≡ self.now.table }
         requires claim { HasClaim self.now seat.old.known claim }

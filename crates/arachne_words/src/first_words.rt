@@ -7,7 +7,8 @@ use arachne_core::{Mark, MarkWord, Place};
 use arachne_rule::{BLOCK, NAMES};
 use std::alloc::{AllocError, Global};
 
-/// Returns the initial value of the word `index` in a table of `contexts` contexts and of cores with `slots` places.
+/// Returns the initial value of the word `index` in a table of `contexts` contexts (the records of user threads) and of
+/// cores with `slots` places.
 fn word_at(contexts: usize, slots: u8, generation: u64, index: usize) -> u64
     requires slots { slots ≤ SLOTS }
     requires contexts { contexts ≤ CORES * slots }
@@ -27,7 +28,7 @@ fn word_at(contexts: usize, slots: u8, generation: u64, index: usize) -> u64
     (core * usize::from(slots) + (offset - NAMES)) as u64
 }
 
-/// Returns the initial words of a table whose contexts are free and have this generation.
+/// Returns the initial words of a table whose contexts (the records of user threads) are free and have this generation.
 pub(crate) fn first_words(
     alloc: Global,
     cores: u8,

@@ -1,4 +1,4 @@
-//! Moves a thread that no seat holds to another core, into a place that the seat has claimed there.
+//! Moves a thread that no seat holds to another core, into a thread slot that the seat has claimed there.
 ghost use Rattle.std.specs.Prelude.{◌≡◌, ◌≢◌, ℕ, ◌<◌, ◌==◌, if◌then◌else◌, true, false, ◌↔◌, IsTrue, IfSome, IfNone, IfOk, IfErr};
 ghost use Rattle.arachne_core.specs.declared.layout.TheConstants.{CORE_BITS};
 ghost use Rattle.arachne_core.specs.Marked.{mark_word};
@@ -21,7 +21,8 @@ use crate::table::WordContexts;
 use arachne_contexts::{Moved, Tagged};
 use arachne_core::{Mark, MarkWord, Place};
 
-/// Returns whether the mark word `seen` (a context's packed state) says that the context is at `place`.
+/// Returns whether the mark word `seen` (a context's packed state) says that the context (the record of a user thread)
+/// is at `place`.
 fn stands_at(seen: MarkWord, place: Place) -> bool
     ensures { IsTrue result ↔ (seen.place ≡ place) }
 {
@@ -29,9 +30,10 @@ fn stands_at(seen: MarkWord, place: Place) -> bool
     at.core == place.core && at.index == place.index
 }
 
-/// Returns the reason why the thread whose mark word is `seen` can't be moved, or `None` if it can be.
+/// Returns why the thread whose mark word is `seen` can't be moved, or `None` if it can be.
 ///
-/// The reasons are that there is no thread, that it has its core for itself, or that a seat holds it.
+/// The reasons are that there is no thread, that it has its core for itself, or that a seat (a kernel thread's right to
+/// call the table) holds it.
 fn obstacle(seen: MarkWord) -> Option<Moved>
     ensures some { IfSome result (IsObstacle seen) }
     ensures none { IfNone result (IsRestMark seen.mark × (seen.alone ≡ false)) }
@@ -45,7 +47,8 @@ fn obstacle(seen: MarkWord) -> Option<Moved>
 }
 
 impl<T: Tagged + Drop> WordContexts<T> {
-    /// Tries once to move a thread that no seat holds to a place on another core that the seat has claimed.
+    /// Tries once to move a thread that no seat holds to the thread slot `target` on another core, which the seat has
+    /// claimed.
     fn try_move(
         &self,
         seat: &mut CallSeat<T>,
@@ -72,7 +75,8 @@ impl<T: Tagged + Drop> WordContexts<T> {
         Ok(())
     }
 
-    /// Writes the number of a moved context into the word of its new place, unless that word has changed meanwhile.
+    /// Writes the number of a moved context (the record of a user thread) into the word of its new thread slot
+    /// `target`, unless that word isn't `replaced` any more.
     fn name_target(
         &self,
         seat: &mut CallSeat<T>,
@@ -91,8 +95,8 @@ impl<T: Tagged + Drop> WordContexts<T> {
         shared.compare_exchange::<NameTarget>(&mut seat.seat, word, replaced as u64, context as u64)
     }
 
-    /// Writes the new place of a free context into that context's mark word: the place from which the moved thread
-    /// came.
+    /// Writes into the mark word of a free context (the record of a user thread) the thread slot from which the moved
+    /// thread came: the free context is there now.
     fn replace(&self, seat: &mut CallSeat<T>, context: usize, free: MarkWord)
         requires own { seat.old.table ≡ self.now.table }
         requires claimed { (c : Carried) × IsClaimed self.now seat.old.known c × (context ≡ c.context) × (free ≡ marked_free c) }
@@ -102,8 +106,8 @@ impl<T: Tagged + Drop> WordContexts<T> {
         shared.store::<Replace>(&mut seat.seat, context, free.word());
     }
 
-    /// Writes the number of the context that is now at `source`, the place from which a thread was moved, into that
-    /// place's word.
+    /// Writes the number `context` into the word of `source`, the thread slot from which a thread was moved: that
+    /// context (the record of a user thread) is there now.
     fn name_source(&self, seat: &mut CallSeat<T>, source: Place, context: usize)
         requires own { seat.old.table ≡ self.now.table }
         requires place { IsPlaceIn self.now.shape source }
@@ -115,8 +119,8 @@ impl<T: Tagged + Drop> WordContexts<T> {
         shared.store::<NameSource>(&mut seat.seat, word, context as u64);
     }
 
-    /// Completes a move after the thread's mark word (the atomic with its state and place) was changed: the context
-    /// `replaced`, which was at the target place, is at the source now.
+    /// Completes a move whose first step has changed the thread's mark word (the atomic with its state and thread
+    /// slot). Puts the context `replaced`, which was in the slot `target`, into the slot `source`.
     fn move_off(
         &self,
         seat: &mut CallSeat<T>,
@@ -139,9 +143,9 @@ impl<T: Tagged + Drop> WordContexts<T> {
         self.release(seat, source, false);
     }
 
-    /// Moves a thread that no seat holds to a place that the seat has claimed on another core.
+    /// Moves a thread that no seat holds to a place (a thread slot) that the seat has claimed on another core.
     ///
-    /// If the thread's mark word has changed meanwhile, does not move the thread, and frees the place again.
+    /// If the thread's mark word isn't `seen` any more, does not move the thread, and frees the claimed place again.
     fn move_to(
         &self,
         seat: &mut CallSeat<T>,
@@ -177,8 +181,8 @@ impl<T: Tagged + Drop> WordContexts<T> {
         Moved::Moved
     }
 
-    /// Claims a place on the target core, and moves a thread there. `seen` is the thread's mark word, by which no seat
-    /// holds it.
+    /// Claims a place (a thread slot) on the core `to`, and moves a thread there. The caller must pass as `seen` the
+    /// thread's mark word, as it was read while no seat held the thread.
     fn move_seen(
         &self,
         seat: &mut CallSeat<T>,
@@ -210,7 +214,8 @@ impl<T: Tagged + Drop> WordContexts<T> {
         self.move_to(seat, moving, seen, source, target)
     }
 
-    /// Moves the thread at `place` to the lowest free index of the core `to`, if no seat holds the thread. Tries once.
+    /// Tries once to move the thread at `place` to the lowest free thread slot of the core `to`, if no seat holds the
+    /// thread.
     ///
     /// The thread's value stays in its value field: only the place in its mark word changes.
     pub fn move_one(&self, seat: &mut WordSeat<T>, place: Place, to: u8) -> Moved

@@ -1,4 +1,4 @@
-//! Posts a thread: puts it, ready to run, into a place that the seat has claimed.
+//! Posts a thread: puts it, ready to run, into a thread slot that the seat has claimed.
 ghost use Rattle.std.specs.Prelude.{◌≡◌, ◌<◌, ◌∷◌, Some, None};
 ghost use Rattle.atomic_table.specs.Table.{rest};
 ghost use Rattle.arachne_rule.specs.declared.view.Carried.{Carried};
@@ -17,8 +17,8 @@ use arachne_contexts::Tagged;
 use arachne_core::{Mark, MarkWord, Place, ThreadId};
 
 impl<T: Tagged + Drop> WordContexts<T> {
-    /// Reads which context is at a place that the seat has claimed, and takes that context's empty value field out of
-    /// the table.
+    /// Reads which context (the record of a user thread) is at a place (a thread slot) that the seat has claimed, and
+    /// takes that context's empty value field out of the table. Returns the context's number.
     pub(crate) fn take_slot(&self, seat: &mut CallSeat<T>, place: Place) -> usize
         requires own { seat.old.table ≡ self.now.table }
         requires place { IsPlaceIn self.now.shape place }
@@ -54,7 +54,7 @@ impl<T: Tagged + Drop> WordContexts<T> {
         shared.store::<Post>(&mut seat.seat, context, ready.word());
     }
 
-    /// Puts a thread with this value, ready to run, into a claimed place. Returns the thread's id.
+    /// Puts a thread with this value, ready to run, into the claimed thread slot. Returns the thread's id.
     ///
     /// The thread is ready even if its core was closed after the claim.
     pub fn post(&self, seat: &mut WordSeat<T>, claim: WordClaim, value: T) -> ThreadId

@@ -27,7 +27,8 @@ impl<T: Tagged + Drop> WordContexts<T> {
         shared.store::<RestReady>(&mut seat.seat, context, ready.word());
     }
 
-    /// Tries once to put a thread that the seat holds back as blocked. Fails if the thread was woken meanwhile.
+    /// Tries once to put a thread that the seat holds back as blocked. If the thread's mark word isn't `held` any more,
+    /// returns that word as an error.
     fn try_rest_blocked(
         &self,
         seat: &mut CallSeat<T>,

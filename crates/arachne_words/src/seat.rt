@@ -1,4 +1,4 @@
-//! A kernel thread's right to call the table, its claims of places, and its handles of the threads that it holds.
+//! A kernel thread's right to call the table, its claims of thread slots, and its handles of the threads that it holds.
 ghost use Rattle.std.specs.Prelude.{◌≡◌};
 
 use crate::call_seat::CallSeat;
@@ -7,10 +7,10 @@ use arachne_core::{Place, ThreadId};
 use arachne_weights::Weight;
 use std::marker::Model;
 
-/// A seat, through which one kernel thread calls a table. It has a part of the table's whole weight.
+/// A seat, through which one kernel thread calls a table. The seat has a part of the table's whole weight.
 ///
 /// Contracts refer to the seat's table, its weight, and its record: the seat's unused claims, the threads that it
-/// holds, those that it has put into the table or ended, and the atomic operations that it has made.
+/// holds, those that were put into the table or ended through it, and the atomic operations that it has made.
 #[derive(Drop)]
 pub struct WordSeat<T> {
     pub(crate) at: CallSeat<T>,
@@ -29,7 +29,7 @@ impl<T> Model for WordSeat<T> {
     ghost invariant = { λ s. (s.at.weight ≡ s.weight) × (s.at.slots ≡ []) × AreOut s.at.table.slots s.out s.at.known };
 }
 
-/// A place that a seat has claimed: one of a core's thread slots. The seat must put a thread there or give it back.
+/// A claimed thread slot of a core. The caller must put a thread there or give the claim back.
 #[derive(Drop)]
 pub struct WordClaim {
     pub(crate) place: Place,
@@ -52,7 +52,7 @@ impl Placed for WordClaim {
     }
 }
 
-/// The handle of a thread that a seat has taken and not yet put back.
+/// The handle of a thread that a seat (a kernel thread's right to call the table) has taken and not yet put back.
 #[derive(Drop)]
 pub struct WordHold {
     pub(crate) id: ThreadId,

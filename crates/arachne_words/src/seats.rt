@@ -18,11 +18,11 @@ use atomic_table::Table;
 use std::alloc::{AllocError, Global};
 
 impl<T: Tagged + Drop> WordContexts<T> {
-    /// Creates a table, and its first seat, which has the whole weight.
+    /// Creates a table, and its first seat (a kernel thread's right to call it), which has the whole weight.
     ///
-    /// The table has `cores` cores of `slots` thread slots each. All its contexts are free, in generation
-    /// `first_generation`. A split halves a seat's weight and a join adds two, so a seat with the whole weight is the
-    /// only one.
+    /// The table has `cores` cores of `slots` thread slots each. All its contexts (the records of user threads) are
+    /// free, in generation `first_generation`. A split halves a seat's weight and a join adds two, so a seat with the
+    /// whole weight is the only one.
     pub fn new(
         alloc: Global,
         cores: u8,
@@ -86,8 +86,8 @@ impl<T: Tagged + Drop> WordContexts<T> {
         self.table.shared.join_seat::<Deal>(&mut seat.seat, spent);
     }
 
-    /// Splits a seat into two, each with half of its weight, rounded up for the first. The first keeps the record of
-    /// `seat`.
+    /// Splits a seat into two, each with half of its weight, rounded up for the first. The first seat keeps the record
+    /// of `seat`.
     ///
     /// If the weight is 1 or 0, both seats get weight 0.
     pub fn split(&self, seat: WordSeat<T>) -> (WordSeat<T>, WordSeat<T>)
@@ -117,7 +117,8 @@ impl<T: Tagged + Drop> WordContexts<T> {
         )
     }
 
-    /// Joins two seats into one, whose record has all threads that either seat has put into the table or ended.
+    /// Joins two seats into one, whose record has all threads that were put into the table or ended through either of
+    /// them.
     ///
     /// The weight of the result is the sum of both weights, but at most the whole.
     pub fn join_seats(&self, seat: WordSeat<T>, other: WordSeat<T>) -> WordSeat<T>
@@ -143,14 +144,15 @@ impl<T: Tagged + Drop> WordContexts<T> {
         }
     }
 
-    /// Returns whether `seat` has the whole weight: all other seats were joined into it.
+    /// Returns whether `seat` has the whole weight, which means that all other seats were joined into it.
     pub fn is_whole(&self, seat: &WordSeat<T>) -> bool
         ensures { IsTrue result ↔ (seat.now.weight ≡ whole) }
     {
         seat.weight.is_whole()
     }
 
-    /// Returns how many unused claims and held threads the seat has together.
+    /// Returns how many things the seat must still give up: its unused claims of thread slots and the threads that it
+    /// holds.
     pub fn out(&self, seat: &WordSeat<T>) -> u32
         ensures { result ≡ length seat.now.known.carried }
     {

@@ -199,7 +199,7 @@ impl<T> Play<Option<T>, View> for NameSource {
     ghost then = { λ step before found after. NamesSource step before found after };
 }
 
-/// The operations that split a seat into two, and join two seats into one.
+/// The operations that split a seat (a kernel thread's right to call the table) into two, and join two seats into one.
 pub(crate) struct Deal;
 
 impl Split<View> for Deal {

@@ -20,10 +20,11 @@ use atomic_table::Table;
 use std::alloc::Global;
 use std::marker::Model;
 
-/// A context table on atomic words. Any kernel thread that has a seat may call the table, and no call waits.
+/// A context table on atomic words. Any kernel thread that has a seat (a right to call) may call the table, and no call
+/// waits.
 ///
 /// A *context* is the record of one user thread, and a *place* one of a core's thread slots. Contracts refer to the
-/// table, and its shape: the numbers of cores and of places, and the first and last generation.
+/// table and to its shape: the numbers of cores and of places, and the first and last generation.
 // In methods of this type, the line `let _ = &self.places_per_core;` gives the prover the invariant of this type
 // (`IsSized`), with the table's sizes.
 #[derive(Drop)]
@@ -102,15 +103,15 @@ impl<T: Tagged + Drop> WordContexts<T> {
         shared.load::<LearnName>(&mut seat.seat, self.name_word(place)) as usize
     }
 
-    /// Returns the occupancy word of a core (a bit for each occupied place), read without a seat. The contract promises
-    /// nothing about its value.
+    /// Returns the occupancy word of a core (a bit for each occupied thread slot), read without a seat (a kernel
+    /// thread's right to call the table). The contract promises nothing about the word.
     pub fn glance(&self, core: u8) -> u64
         requires core { core < self.now.shape.cores }
     {
         self.table.shared.peek(self.core_word(core))
     }
 
-    /// Returns the occupancy word of a core: a bit for each occupied place.
+    /// Returns the occupancy word of a core, with a bit for each occupied thread slot.
     pub fn look(&self, seat: &mut WordSeat<T>, core: u8) -> u64
         requires own { seat.old.table ≡ self.now.table }
         requires core { core < self.now.shape.cores }
@@ -120,7 +121,7 @@ impl<T: Tagged + Drop> WordContexts<T> {
         self.see_core(&mut seat.at, core).word()
     }
 
-    /// Returns the mark word of a context: its packed state, place and generation.
+    /// Returns the mark word of a context (the record of a user thread): its packed state, thread slot and generation.
     pub fn look_mark(&self, seat: &mut WordSeat<T>, context: u32) -> u64
         requires own { seat.old.table ≡ self.now.table }
         requires context { context < self.now.table.slots }

@@ -1,4 +1,4 @@
-//! Takes the ready thread at a place, with its value. The seat then holds the thread.
+//! Takes the ready thread at a place (a thread slot), with its value. The seat then holds the thread.
 ghost use Rattle.std.specs.Prelude.{◌≡◌, ◌↔◌, IsTrue, ◌<◌, ◌∷◌, Some, None, IfOk, IfErr};
 ghost use Rattle.atomic_table.specs.Table.{rest};
 ghost use Rattle.arachne_core.specs.declared.mark.Mark.TheVariants as Mark;
@@ -44,7 +44,8 @@ impl<T: Tagged + Drop> WordContexts<T> {
         Ok(())
     }
 
-    /// Takes the thread's value out of the value field that the seat took out of the table last.
+    /// Takes the thread's value out of the value field. That field must be the one that the seat took out of the table
+    /// last.
     fn take_out(&self, seat: &mut CallSeat<T>, context: usize) -> T
         requires own { seat.old.table ≡ self.now.table }
         requires value { (value : T) × HasLast seat.old.slots context (Some value) }
@@ -57,8 +58,8 @@ impl<T: Tagged + Drop> WordContexts<T> {
             .unwrap()
     }
 
-    /// Writes the number of a taken thread's context into the word of its place, and puts the context's empty value
-    /// field back into the table.
+    /// Writes the number of a taken thread's context (the record of a user thread) into the word of the thread's slot
+    /// on its core, and puts the context's value field, now empty, back into the table.
     fn keep_name(&self, seat: &mut CallSeat<T>, context: usize, place: Place)
         requires own { seat.old.table ≡ self.now.table }
         requires place { IsPlaceIn self.now.shape place }
@@ -70,7 +71,7 @@ impl<T: Tagged + Drop> WordContexts<T> {
         shared.store::<KeepName>(&mut seat.seat, word, context as u64);
     }
 
-    /// Takes the thread in slot `index` of `core`, if it is ready. The seat then holds the thread. Tries once.
+    /// Tries once to take the thread in slot `index` of `core`, if it is ready. The seat then holds the thread.
     pub fn take(&self, seat: &mut WordSeat<T>, core: u8, index: u8) -> Taken<T, WordHold>
         requires own { seat.old.table ≡ self.now.table }
         requires place { IsPlaceIn self.now.shape (record { core = core; index = index }) }

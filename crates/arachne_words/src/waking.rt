@@ -59,7 +59,7 @@ impl<T: Tagged + Drop> WordContexts<T> {
         Ok(())
     }
 
-    /// Tries once to wake the thread with this id. Any id may be passed.
+    /// Tries once to wake the thread with this id. The caller may pass any id.
     ///
     /// A blocked thread becomes ready. A thread that a worker holds is marked, so that it is ready when the worker puts
     /// it back.

@@ -1,6 +1,7 @@
-//! The calls by which a worker uses its table and the thread that it has in hand, and their results.
+//! The trait by which a worker (the kernel thread of a core) uses its context table, and takes, runs and puts back
+//! threads.
 //!
-//! The worker's loop is written over this trait, and not over tables and jobs.
+//! The worker's loop is written over this trait, not over particular tables and jobs.
 ghost use Rattle.std.specs.Prelude.{◌≡◌, ◌≤◌, ℕ, OnOk};
 
 use crate::policy;
@@ -9,126 +10,129 @@ use arachne_arbiter::Pace;
 use arachne_contexts::Woken;
 use arachne_core::{MarkWord, OccWord, Place, Rest, SLOTS, ThreadId};
 
-/// An error that ends a worker. Each implementation of `Desk` has a number for each cause.
+/// An error that ends a worker. The implementation of `Desk` chooses the number `why` for each cause.
 #[derive(Clone, Copy, Debug, PartialEq, Eq)]
 pub struct Halt {
     pub why: u8,
 }
 
-/// A worker's access to its table and to the thread in hand.
+/// A worker's access to its context table, and to the thread that it runs now (the current thread).
 ///
-/// No call changes the table to which the worker's seat belongs. The trait has no associated types: over the types of a
-/// table and a job each proof of the loop takes far longer.
+/// No call exchanges the worker's seat (its right to use the table) for that of another table. The trait has no
+/// associated types: with the types of a table and a job as parameters, each proof of the loop would take far longer.
 pub trait Desk {
-    /// No thread has a larger quantum.
+    /// An upper bound of what `quantum` returns, for each thread.
     ghost largest_quantum: { Self → ℕ } = { λ _. 4294967295 };
 
-    /// Takes the thread at a place, if it is ready and no thread is in hand yet, and reports that it was taken.
+    /// Makes the thread in slot `place` the current one, if the thread is ready and the worker has no current thread.
     fn take(&mut self, place: Place) -> Grip
         ensures { self.new ≡ self.old };
 
-    /// Returns the most steps of a slice of the thread in hand.
+    /// Returns the greatest number of steps that one slice of the current thread may have.
     fn quantum(&self) -> u32
         ensures { result ≤ largest_quantum self.now };
 
-    /// Runs the thread in hand for at most `left` steps, and serves its requests.
+    /// Runs the current thread for at most `left` steps, and carries out what it asks for, such as a fork.
     ///
-    /// The steps that the thread makes are subtracted from `left`. While another kernel thread has what a request
-    /// needs, this kernel thread waits by `pace` (`stand_by`).
+    /// Subtracts the number of steps made from `left`. While another kernel thread uses an object that a request needs,
+    /// this call waits by `stand_by` with `pace`: it spins, yields or sleeps.
     fn advance(&mut self, pace: &mut Pace, left: &mut u32) -> Result<ThreadStop, Halt>
         requires { 1 ≤ left.old }
         ensures desk { self.new ≡ self.old }
         ensures left { OnOk result (left.new ≤ left.old) };
 
-    /// Returns whether the thread in hand has acquired a lock since it was taken, and released none since.
+    /// Returns whether the current thread has acquired a lock since the worker took it, and has released none since.
     fn holds(&self) -> bool;
 
-    /// Puts the thread in hand back: ready or blocked, depending on why it stopped.
+    /// Puts the current thread back into its slot, as ready or blocked, depending on why it stopped.
     ///
-    /// Returns the state in which the thread was put back: the thread is ready also if it was woken in the meantime.
+    /// Returns which of the two the thread is: a blocked thread that was woken during this call is ready.
     fn rest(&mut self) -> Result<Rest, Halt>
         ensures { self.new ≡ self.old };
 
-    /// Ends the thread in hand, which leaves its outcome. Returns the id of the thread that awaits the ended one, if
-    /// there is one.
+    /// Ends the current thread, and stores its outcome (its result for its parent). Returns the id of the thread that
+    /// the worker must then wake, if one waits for this outcome.
     ///
-    /// The worker keeps the thread's place, for a later child, if the core was full before (`before` is the core's
-    /// occupancy word then); otherwise the place is free. If the thread was the last one, all workers are stopped.
+    /// If the core was full before (`before` is its occupancy word at that time), the worker may keep the thread's slot
+    /// for a later child; otherwise the slot becomes free. If the thread was the last one, this call stops all workers.
     fn end(&mut self, before: OccWord) -> Result<Option<ThreadId>, Halt>
         ensures { self.new ≡ self.old };
 
-    /// Returns the number of places that the worker keeps for later children (the kept places).
+    /// Returns the number of slots that the worker keeps claimed for later children.
     fn kept(&self) -> usize;
 
-    /// Gives back the newest kept place. Returns whether there was such a place.
+    /// Frees one of the slots that the worker keeps for later children. Returns false if the worker keeps none.
     fn give_one_back(&mut self) -> Result<bool, Halt>
         ensures { self.new ≡ self.old };
 
-    /// Returns which places of the worker's core are occupied, and whether the core is closed or exclusive.
+    /// Returns the occupancy word of the worker's core: which slots are occupied, and whether the core is closed, or
+    /// exclusive to one thread.
     fn look(&mut self) -> OccWord
         ensures { self.new ≡ self.old };
 
-    /// Reads the mark of a context. Returns `None` if there is no such context.
+    /// Reads the mark word of the context with this number: the state, the slot and the generation of its thread.
+    /// Returns `None` if there is no such context.
     fn mark_of(&mut self, context: u32) -> Option<MarkWord>
         ensures { self.new ≡ self.old };
 
-    /// Tries once to wake the thread of this id.
+    /// Tries once to wake the thread `id`. The attempt may fail because of a concurrent call.
     fn try_wake(&mut self, id: ThreadId) -> Woken
         ensures { self.new ≡ self.old };
 
-    /// Moves the thread at a place of another core to this worker's core, if workers may move threads. Returns whether
-    /// the thread was moved.
+    /// Tries to move the thread in slot `place` of another core to this worker's core. Returns whether the thread was
+    /// moved; always false if the workers of this run may not move threads.
     fn pull(&mut self, place: Place) -> bool
         ensures { self.new ≡ self.old };
 
-    /// Returns whether this worker may give a place to a thread that waits for one.
+    /// Returns whether this worker's core may now take a thread that waits for a slot.
     fn may_take_ticket(&mut self) -> bool
         ensures { self.new ≡ self.old };
 
-    /// Takes the ticket of a thread that waits for a place, and puts the thread at a place if it still waits and there
-    /// is a free place.
+    /// Removes the next ticket (the entry of a waiting thread) from the queue, and puts its thread into a slot, if the
+    /// thread still waits and a slot is free.
     fn take_ticket(&mut self) -> Result<TicketResult, Halt>
         ensures { self.new ≡ self.old };
 
-    /// Carries out the orders to open or close cores that are due, and moves threads away from closed cores, if this
-    /// worker has the orders.
+    /// If this worker is the one that carries out the orders to open or close cores, carries out those that are due,
+    /// and moves threads away from closed cores.
     ///
-    /// Returns the number of orders carried out so far, if this call has carried out one, and the cores to which it has
-    /// moved threads, a bit for each.
+    /// Returns the number of all orders carried out so far, if this call has carried out an order, and the cores to
+    /// which this call has moved threads, one bit for each.
     fn tend(&mut self) -> (Option<usize>, u64)
         ensures { self.new ≡ self.old };
 
-    /// Returns whether the run has orders. `tend` is called only if there are orders.
+    /// Returns whether the run has orders to open or close cores. If not, the worker never calls `tend`.
     fn has_orders(&self) -> bool;
 
-    /// Returns whether others may wait for this worker: it has orders that it has not carried out yet, or threads that
-    /// wait for a place. If so, the worker's sleeps are short, and it doesn't park.
+    /// Returns whether this worker must not sleep long or park: it has orders left to carry out, or threads wait for a
+    /// slot.
     fn is_waited_for(&self) -> bool;
 
-    /// Returns whether the core is closed and empty. The worker parks only if the result is true.
+    /// Returns whether the core is closed and empty. The worker parks only if this call has returned true.
     fn is_drained(&mut self) -> bool
         ensures { self.new ≡ self.old };
 
-    /// Reports that a slice of the thread in hand begins: the worker's slice number `nth`, counted from 0.
+    /// Called just before a slice of the current thread begins. `nth` is the number of the worker's slice, counted from
+    /// 0.
     fn begins(&self, nth: u64);
 
-    /// Reports what the worker has just done, or is about to do.
+    /// Called just before or after the worker does what `event` says.
     fn told(&self, event: WorkerEvent);
 }
 
-/// The reason why the thread in hand stops making steps.
+/// The reason why a call of `Desk::advance` has stopped making steps of the current thread.
 #[derive(Clone, Copy)]
 pub enum ThreadStop {
-    /// The thread goes on.
+    /// The thread has more steps to make.
     Goes,
-    /// The thread goes on, and has forked a child that got a place.
+    /// The thread has more steps to make. It has forked a child, which got a slot.
     Posted(PostedThread),
-    /// The thread goes on, and has forked a child that waits with a ticket.
+    /// The thread has more steps to make. It has forked a child, which waits for a slot.
     Spilled,
-    /// The thread goes on, and has released a lock, which the thread of this id has now. The thread of this id runs
-    /// before all others.
+    /// The thread has more steps to make. It has released a lock, which the thread of this id holds now. The worker
+    /// should run that other thread before all others.
     Wakes(ThreadId),
-    /// The thread awaits a child that has not ended.
+    /// The thread waits for the outcome of a child that has not ended.
     Blocks,
     /// The thread waits for the lock of this number.
     Waits(u64),
@@ -136,62 +140,65 @@ pub enum ThreadStop {
     Ends,
 }
 
-/// The result of an attempt to take a thread in hand.
+/// The result of `Desk::take`, an attempt to take the thread in a slot.
 #[derive(Clone, Copy)]
 pub enum Grip {
     Taken,
-    /// No thread is ready at the place.
+    /// No ready thread is in the slot.
     None,
-    /// The place changed during the attempt, which must be repeated.
+    /// Another worker changed the slot during the attempt, so the caller must try again.
     Lost,
 }
 
-/// The result of an attempt to take a thread that waits for a place.
+/// The result of `Desk::take_ticket`, which gives a slot to a waiting child.
 #[derive(Clone, Copy)]
 pub enum TicketResult {
-    /// No thread waits for a place.
+    /// No thread waits for a slot.
     None,
-    /// The thread no longer waits, or there was no free place.
+    /// A ticket was removed from the queue, but its thread no longer waits, or no slot was free.
     Gone,
     Posted(PostedThread),
 }
 
-/// An act that a worker reports, before or after it, such as to wake a thread or to park.
+/// An event that a worker reports through `Desk`, such as that it has woken a thread or is about to park.
 #[derive(Clone, Copy, Debug, PartialEq, Eq)]
 pub enum WorkerEvent {
-    /// A slice has ended, after this many steps. A slice that meets a fault is not reported.
+    /// A slice has ended. Fields: the number of its steps, and why it ended. A slice that ends by a fault is not
+    /// reported.
     Sliced(u32, SliceEnd),
-    /// A blocked thread was woken.
+    /// The worker has woken this blocked thread. The second field is the reason.
     Woken(ThreadId, Cause),
-    /// A thread was moved from this core to the worker's own core, to run there.
+    /// The worker has moved this thread from the core of the second field to its own, to run it there.
     Pulled(ThreadId, u8),
-    /// The worker is about to run a thread that has a lock now, at the thread's place on this other core.
+    /// The worker is about to run this thread, which was granted a lock. The thread stays in its slot on the core of
+    /// the second field.
     Helps(ThreadId, u8),
-    /// A child got no place and waits for one, with a ticket.
+    /// A child was forked for which no slot was free, and waits for one.
     Spilled,
-    /// A ticket was taken. The value is true if the ticket's child got a place on this core. If false, the child's
-    /// parent runs the child, or there was no free place.
+    /// The worker has removed a ticket (the entry of a child that waits for a slot) from the queue. The field is true
+    /// if that child got a slot on this core; otherwise its parent runs the child, or no slot was free.
     Ticket(bool),
     /// The core is closed and empty, and the worker is about to park.
     Parks,
-    /// The worker was unparked.
+    /// The worker was parked, and runs again.
     Unparked,
-    /// The worker's sleep timed out, and then the worker found something that nobody had signalled. Threads and tickets
-    /// that are not signalled at once cause a few such events; many of them show that a signal is missing.
+    /// The worker's sleep timed out, and then the worker found a ready thread for which nobody had woken the worker. A
+    /// few such events are normal, since workers delay some wakes; many of them mean that a wake is missing.
     Overslept,
-    /// The worker has carried out an order to open or close a core. The number is that of all orders carried out so
-    /// far.
+    /// The worker has carried out an order to open or close a core. The field is the number of all orders carried out
+    /// so far.
     Applied(usize),
-    /// The worker that has the orders has moved threads away from a closed core to these cores, a bit for each.
+    /// The worker has moved threads away from a closed core. The field has a bit for each core to which a thread was
+    /// moved.
     MovedAway(u64),
 }
 
-/// Why a slice of a thread has ended.
+/// The reason why a slice of a thread has ended.
 #[derive(Clone, Copy, Debug, PartialEq, Eq)]
 pub enum SliceEnd {
-    /// The thread can go on: its steps are used up, or another thread must run.
+    /// The thread has more steps to make. The slice's steps are used up, or another thread must run.
     GoesOn,
-    /// The thread awaits a child.
+    /// The thread waits for the outcome of a child.
     AwaitsChild,
     /// The thread waits for the lock of this number.
     Awaits(u64),
@@ -199,16 +206,16 @@ pub enum SliceEnd {
     Ended,
 }
 
-/// The reason why a thread is woken.
+/// The reason why a worker wakes a thread.
 #[derive(Clone, Copy, Debug, PartialEq, Eq)]
 pub enum Cause {
-    /// The thread's child has ended.
+    /// A child for which the thread waited has ended.
     ChildEnded,
-    /// The thread got the lock for which it waited. Others may wait for the same lock.
+    /// The thread was granted the lock for which it waited. Others may wait for the same lock.
     IsServed,
 }
 
-/// Gives back all places that the worker keeps for later children.
+/// Frees all slots that the worker keeps claimed for later children.
 pub fn give_all_back<D: Desk>(desk: &mut D) -> Result<(), Halt>
     ensures { desk.new ≡ desk.old }
 {
@@ -220,7 +227,8 @@ pub fn give_all_back<D: Desk>(desk: &mut D) -> Result<(), Halt>
     Ok(())
 }
 
-/// Gives back all places that the worker keeps for later children if the core, of `slots` places, has few threads.
+/// Frees all slots that the worker keeps for later children, if at most an eighth of the core's `slots` slots have a
+/// thread.
 #[inline(always)]
 pub(crate) fn thin_out<D: Desk>(desk: &mut D, slots: u8) -> Result<(), Halt>
     ensures { desk.new ≡ desk.old }

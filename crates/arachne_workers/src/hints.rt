@@ -1,7 +1,7 @@
-//! A word for each core that says at which indexes threads may be ready, and whether the core's worker sleeps.
+//! One atomic word for each core: the slots in which threads may be ready, and whether the core's worker sleeps.
 //!
-//! The module uses only atomics, so any host may call it: each call returns which worker to wake, and the caller must
-//! wake that worker.
+//! The module uses only atomics: a call that finds a worker asleep returns that fact, and the caller must wake that
+//! worker.
 ghost use Rattle.std.specs.Prelude.{◌≡◌, ◌↔◌, ◌<◌, ◌≤◌, ◌*◌, ◌/◌, ◌%◌, ◌^◌, IfOk, IsSome, IsTrue};
 ghost use Rattle.arachne_core.specs.declared.layout.TheConstants.{SLOTS};
 
@@ -11,13 +11,13 @@ use std::alloc::{AllocError, Global};
 use std::marker::Model;
 use std::sync::atomic::{AtomicU64, Ordering};
 
-/// The bit of a core's word that says that the core's worker sleeps. A sleeping worker waits on the low 32 bits of the
-/// word, so this bit is one of them.
+/// The bit in a core's word that is set while the core's worker sleeps. A sleeping worker waits on the low 32 bits of
+/// the word (by a futex), so this bit must be one of them.
 pub(crate) const SLEEPS: u64 = 1;
 
 const INDEX_SHIFT: u32 = 1;
 
-/// Returns the bit of an index in a set of indexes, or no bit if there is no such index.
+/// Returns a word in which only the bit of slot `index` is set, or 0 if no core has such a slot.
 pub(crate) fn bit_of(index: u8) -> u64
     ensures there { index < SLOTS → result ≡ 2 ^ index }
     ensures none { SLOTS ≤ index → result ≡ 0 }
@@ -29,7 +29,7 @@ pub(crate) fn bit_of(index: u8) -> u64
     }
 }
 
-/// Returns a core's word in which the bits of these indexes are set.
+/// Returns a word in which the bits of the slots in `indexes` are set; `indexes` has a bit for each slot.
 #[inline(always)]
 fn hint_of(indexes: u64) -> u64
     ensures { result ≡ indexes * 2 % 2 ^ 64 }
@@ -37,7 +37,7 @@ fn hint_of(indexes: u64) -> u64
     indexes << INDEX_SHIFT
 }
 
-/// Returns the indexes in a word, a bit for each.
+/// Returns the slots whose bits are set in `word`, one bit for each slot.
 #[inline(always)]
 fn indexes_in(word: u64) -> u64
     ensures { result ≡ word / 2 }
@@ -45,7 +45,7 @@ fn indexes_in(word: u64) -> u64
     word >> INDEX_SHIFT
 }
 
-/// Returns whether a word says that the core's worker sleeps.
+/// Returns whether `word` says that the core's worker sleeps.
 #[inline(always)]
 fn says_sleeps(word: u64) -> bool
     ensures { IsTrue result ↔ (word % 2 ≡ 1) }
@@ -53,17 +53,17 @@ fn says_sleeps(word: u64) -> bool
     word & SLEEPS != 0
 }
 
-/// A word of hints for each core, on a cache line of its own.
+/// For each core, a word of hints on a cache line of its own.
 ///
-/// Each word has a bit for each index at which a thread may be ready, and a bit that says that the core's worker
-/// sleeps. The bit of an index is a hint: only the table says which threads are ready, and a pass over all occupied
-/// indexes also finds ready threads at indexes without a bit.
+/// Each word has a bit for each slot in which a thread may be ready, and one bit that is set while the core's worker
+/// sleeps. A slot's bit is only a hint: the context table decides which threads are ready, and a scan of all occupied
+/// slots also finds ready threads without a bit.
 #[derive(Drop)]
 pub struct Hints {
     words: Vec<CachePadded<AtomicU64>>,
 }
 
-// Contracts see the number of cores.
+// The model, which contracts see, is the number of cores.
 impl Model for Hints {
     ghost use Rattle.std.specs.Prelude.{ℕ, vec_len};
 
@@ -73,7 +73,7 @@ impl Model for Hints {
 }
 
 impl Hints {
-    /// Creates words for `cores` cores. No thread is ready, and no worker sleeps.
+    /// Creates words for `cores` cores, with no bit set: no thread is ready, and no worker sleeps.
     pub fn new(alloc: Global, cores: u8) -> Result<Hints, AllocError>
         ensures { IfOk result (λ hints. hints ≡ cores) }
     {
@@ -91,8 +91,8 @@ impl Hints {
         self.words.len()
     }
 
-    /// Records that threads of a core may be ready at these indexes, a bit for each. Returns whether the core's worker
-    /// sleeps and must be woken.
+    /// Records that the threads in the slots `indexes` of `core` (one bit for each) may be ready. Returns true if the
+    /// core's worker sleeps; then the caller must wake it.
     pub fn hint(&self, core: u8, indexes: u64) -> bool {
         match self.word(core) {
             Some(word) => says_sleeps(word.fetch_or(hint_of(indexes), Ordering::SeqCst)),
@@ -100,7 +100,8 @@ impl Hints {
         }
     }
 
-    /// Takes the indexes of a core that were recorded since the last call. The core's worker no longer sleeps.
+    /// Returns the slots of `core` that were recorded since the last call, one bit for each, and clears the core's
+    /// word, including the bit for a worker that sleeps.
     pub(crate) fn take(&self, core: u8) -> u64 {
         match self.word(core) {
             Some(word) if word.load(Ordering::SeqCst) != 0 => {
@@ -110,12 +111,12 @@ impl Hints {
         }
     }
 
-    /// Returns whether any bit of the core's word is set.
+    /// Returns whether any bit of the word of `core` is set.
     pub fn is_any(&self, core: u8) -> bool {
         self.now(core) != 0
     }
 
-    /// Returns whether the core's worker sleeps, or its sleep has timed out and it has taken no hints since.
+    /// Returns whether the worker of `core` sleeps, or has not called `take` since its sleep timed out.
     pub fn is_asleep(&self, core: u8) -> bool {
         says_sleeps(self.now(core))
     }
@@ -127,11 +128,12 @@ impl Hints {
         }
     }
 
-    /// Records that the core's worker is about to sleep. Returns false, and records nothing, if there is a hint.
+    /// Records that the worker of `core` is about to sleep. Returns false, and records nothing, if any bit of the
+    /// core's word is set.
     pub fn is_about_to_sleep(&self, core: u8) -> bool {
         match self.word(core) {
-            // One exchange: a hint before the exchange keeps the worker awake, and whoever hints after it sees that the
-            // worker sleeps.
+            // One compare-exchange: a hint that is set before keeps the worker awake, and a later caller of `hint` sees
+            // that the worker sleeps.
             Some(word) => word
                 .compare_exchange(0, SLEEPS, Ordering::SeqCst, Ordering::SeqCst)
                 .is_ok(),
@@ -139,16 +141,17 @@ impl Hints {
         }
     }
 
-    /// Wakes the core's worker, if there is one.
+    /// Wakes the worker of `core`, if the core exists.
     pub(crate) fn end_sleep(&self, core: u8) {
         if let Some(word) = self.word(core) {
-            // Before the wake: a worker that is only about to sleep finds the word changed, and does not sleep.
+            // Clears the bit before the wake: a worker that is only about to sleep finds the word changed, and doesn't
+            // sleep.
             word.fetch_and(!SLEEPS, Ordering::SeqCst);
             word.wake_one();
         }
     }
 
-    /// Returns the word of a core, on whose low 32 bits its worker may sleep.
+    /// Returns the word of `core`, on whose low 32 bits the core's worker may sleep.
     pub fn word(&self, core: u8) -> Option<&AtomicU64>
         ensures { IsSome result ↔ (core < self.now) }
     {

@@ -1,26 +1,27 @@
-//! The steps of a worker's threads between two looks of the worker at what it must heed.
+//! Counts the steps that a worker's threads make between two times at which the worker checks whether it must stop or
+//! carry out orders.
 ghost use Rattle.std.specs.Prelude.{◌≡◌, ◌≤◌, ◌+◌, false, max};
 
 use crate::desk::Desk;
 use crate::shared::SharedWords;
 
-/// The numbers of steps that a worker's threads have made since the worker last read in the stop word that it goes on,
-/// and since it last carried out the orders that were due.
+/// Counts a worker's steps since two events.
 ///
-/// Neither number is ever more than the largest quantum of the threads so far. Steps before a fault are not counted,
-/// since the fault ends the worker.
+/// The events are that the worker last read in the stop word that it need not stop, and that it last carried out the
+/// orders that were due. Neither number is ever more than the largest quantum of the threads so far. Steps before a
+/// fault are not counted, since the fault ends the worker.
 #[derive(Drop)]
 pub(crate) struct Lag {
     unread: u32,
     untended: u32,
-    /// The largest quantum of the threads so far.
+    /// The largest quantum (maximum steps per slice) of the threads so far.
     most: u32,
     ghost reads: { unread ≤ most },
     ghost tends: { untended ≤ most },
 }
 
 impl Lag {
-    /// Returns the lag of a worker whose threads have made no step.
+    /// Returns the counts of a worker whose threads have made no step.
     pub(crate) fn none() -> Lag
         ensures { (result.unread ≡ 0) × (result.untended ≡ 0) × (result.most ≡ 0) }
     {
@@ -31,7 +32,7 @@ impl Lag {
         }
     }
 
-    /// Allows as many steps between two looks as this quantum has.
+    /// Raises the bound on both counts to `quantum`, if it is larger.
     #[inline(always)]
     pub(crate) fn allow(&mut self, quantum: u32)
         ensures most { self.new.most ≡ max self.old.most quantum }
@@ -40,7 +41,7 @@ impl Lag {
         self.most = self.most.max(quantum);
     }
 
-    /// Counts steps that a thread has made.
+    /// Adds `steps` steps of a thread to both counts.
     #[inline(always)]
     pub(crate) fn add(&mut self, steps: u32)
         requires reads { self.old.unread + steps ≤ self.old.most }
@@ -52,8 +53,8 @@ impl Lag {
         self.untended += steps;
     }
 
-    /// Reads the stop word. Returns whether all workers must stop. If so, the threads may make no more steps than were
-    /// left before.
+    /// Reads the stop word. Returns whether all workers must stop. If not, the count of steps since this check restarts
+    /// at 0.
     #[inline(always)]
     pub(crate) fn is_stopped(&mut self, shared: &SharedWords) -> bool
         ensures read { result ≡ false → self.new.unread ≡ 0 }

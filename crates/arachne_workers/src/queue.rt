@@ -1,7 +1,7 @@
-//! A worker's notes: the indexes at which threads of its core may be ready, the thread that goes next, and the threads
-//! put on other cores whose workers it has not signalled yet.
+//! A worker's private queue of what to run next, and of delayed wakes.
 //!
-//! The notes are plain data, which no other worker sees.
+//! It has the slots of the worker's core in which threads may be ready, the thread that must run next, and the threads
+//! put on other cores for which those cores' workers were not woken yet. It is plain data, which no other worker reads.
 ghost use Rattle.std.specs.Prelude.{◌≡◌, ◌≢◌, ◌≤◌, ◌<◌, ◌↔◌, ◌⊎◌, [], ◌∷◌, ◌++◌, ◌^◌, ◌+◌, ◌-◌, max, min, length, None, Some, if◌then◌else◌, IfSome, IsSome, IsTrue, MatchOption};
 ghost use Rattle.std.specs.Int.RustNames.{bit_or};
 ghost use Rattle.arachne_core.specs.declared.layout.TheConstants.{SLOTS};
@@ -15,38 +15,39 @@ use crate::policy;
 use arachne_core::{Place, SLOTS, ThreadId};
 use std::alloc::Global;
 
-/// A thread that was put into the table, and its place.
+/// A thread that was put into a slot, ready to run: its id and its slot.
 #[derive(Clone, Copy)]
 pub struct PostedThread {
     pub id: ThreadId,
     pub place: Place,
 }
 
-/// Where a worker looks for its next threads, and which workers it must still signal.
+/// The slots of the threads that a worker runs next, and the wakes of other workers that it has delayed.
 #[derive(Drop)]
 pub struct Agenda {
-    /// The indexes that the current scan (pass over the core's indexes) has not reached yet, a bit for each.
+    /// The slots that the current scan has yet to visit, one bit for each.
     scan: u64,
-    /// The indexes at which a thread may be ready, for the next scan.
+    /// The slots to visit in the next scan, since a thread there may be ready; one bit for each.
     ready: u64,
-    /// The place, maybe on another core, whose thread runs before all others.
+    /// The slot, perhaps on another core, whose thread runs before all others.
     next: Option<Place>,
-    /// The posts whose signal is delayed: threads put on other cores whose workers were not signalled yet, the newest
+    /// The threads put on other cores for which this worker has delayed the wakes of those cores' workers, the newest
     /// last.
     posts: Vec<PostedThread>,
-    /// The number of steps after which all signals for `posts` must be sent.
+    /// The number of steps after which the worker must make all wakes for `posts`.
     patience: u32,
-    /// The number of threads that the worker has put on other cores.
+    /// The number of threads that the worker has put on other cores so far.
     posted: u32,
-    /// The number of scans that have begun since the last scan of all occupied indexes.
+    /// The number of scans that have begun since the last scan of all occupied slots.
     scans: u32,
-    /// The steps that the worker's threads have made since the worker last read the stop word and carried out orders.
+    /// The number of steps that the worker's threads have made since the worker last read the stop word, and since it
+    /// last carried out orders.
     pub(crate) lag: Lag,
 }
 
 impl Agenda {
-    /// Creates an agenda that has only the index of the root thread, if the root thread begins on this core. Takes no
-    /// memory.
+    /// Creates an agenda in which only slot `root`, that of the root thread, is to be visited; with `None`, no slot.
+    /// Allocates no memory.
     pub fn new(alloc: Global, root: Option<u8>) -> Agenda
         ensures root { IfSome root (λ index. index < SLOTS → result.ready ≡ 2 ^ index) }
         ensures rootless { root ≡ None → result.ready ≡ 0 }
@@ -69,7 +70,7 @@ impl Agenda {
         }
     }
 
-    /// Notes for the next scan that the thread at an index may be ready.
+    /// Records that the thread in slot `index` may be ready, so that the next scan visits that slot.
     pub fn note(&mut self, index: u8)
         ensures there { index < SLOTS → self.new.ready ≡ bit_or self.old.ready (2 ^ index) }
         ensures others { self.new ≡ record self.old { ready = self.new.ready } }
@@ -77,7 +78,7 @@ impl Agenda {
         self.ready |= bit_of(index);
     }
 
-    /// Begins a scan of `indexes` and of those that were noted.
+    /// Begins a scan of the slots in `indexes` (one bit for each) and of those that `note` has recorded.
     pub(crate) fn begin_scan(&mut self, indexes: u64)
         ensures begun { (self.new.scan ≡ bit_or self.old.ready indexes) × (self.new.ready ≡ 0) }
         ensures counted { self.new.scans ≡ min (self.old.scans + 1) u32.MAX }
@@ -88,7 +89,7 @@ impl Agenda {
         self.scans = self.scans.saturating_add(1);
     }
 
-    /// Returns whether the next scan must look at all occupied indexes. If so, restarts the count of scans.
+    /// Returns whether the next scan must visit all occupied slots. If so, restarts the count of scans.
     pub(crate) fn is_look_due(&mut self) -> bool
         ensures due { IsTrue result ↔ SCANS_BETWEEN_LOOKS ≤ self.old.scans }
         ensures counted { self.new ≡ record self.old { scans = if result then 0 else self.old.scans } }
@@ -100,7 +101,7 @@ impl Agenda {
         is_due
     }
 
-    /// Takes the lowest index that is left of the scan.
+    /// Returns the lowest slot that the current scan has yet to visit, and counts it as visited.
     pub(crate) fn next_index(&mut self) -> Option<u8>
         ensures lowest { MatchOption result (self.old.scan ≡ 0) (λ index. IsLowest self.old.scan index) }
         ensures fewer { MatchOption result (self.new.scan ≡ 0) (λ _. self.new.scan < self.old.scan) }
@@ -114,15 +115,15 @@ impl Agenda {
         Some(index)
     }
 
-    /// Returns whether a thread other than the one in hand may be ready.
+    /// Returns whether, as far as this worker knows, a thread other than the current one may be ready.
     pub(crate) fn is_any(&self) -> bool
         ensures { IsTrue result ↔ (bit_or self.now.scan self.now.ready ≢ 0) ⊎ IsSome self.now.next }
     {
         self.scan | self.ready != 0 || self.next.is_some()
     }
 
-    /// Makes the thread at a place run before all others, unless another thread already does. Returns whether the
-    /// thread at `place` runs before all others now.
+    /// Lets the thread in slot `place` run before all others, unless another thread already must. Returns whether it
+    /// has done so.
     pub(crate) fn goes_next(&mut self, place: Place) -> bool
         ensures will { IsTrue result ↔ (self.old.next ≡ None) }
         ensures next { self.new ≡ record self.old { next = if result then Some place else self.old.next } }
@@ -141,7 +142,7 @@ impl Agenda {
         self.next.is_some()
     }
 
-    /// Takes the place of the thread that must run before all others.
+    /// Removes and returns the slot of the thread that must run before all others.
     pub(crate) fn take_next(&mut self) -> Option<Place>
         ensures taken { MatchOption result (self.old.next ≡ None) (λ place. self.old.next ≡ Some place) }
         ensures others { self.new ≡ record self.old { next = None } }
@@ -149,9 +150,10 @@ impl Agenda {
         self.next.take()
     }
 
-    /// Delays the signal of a post on another core, or returns the post to signal now.
+    /// Delays the wake of the worker of another core, on which the thread `post` was put.
     ///
-    /// The post to signal is `post`, or the oldest whose signal was delayed.
+    /// If a worker must be woken now, returns the thread for which: `post`, or the oldest thread whose wake was
+    /// delayed.
     pub(crate) fn keep_back(&mut self, post: PostedThread) -> Option<PostedThread>
         ensures kept { IsKeptBack self.old.posted self.old.posts.items post result self.new.posts.items }
         ensures few { length self.old.posts.items ≤ MOST_KEPT_BACK → length self.new.posts.items ≤ MOST_KEPT_BACK }
@@ -170,7 +172,7 @@ impl Agenda {
         None
     }
 
-    /// Removes the newest post whose signal the worker has delayed, and returns it.
+    /// Returns the newest thread for which a wake was delayed, and removes it: the wake is no longer pending.
     pub(crate) fn take_newest(&mut self) -> Option<PostedThread>
         ensures newest { MatchOption result ((self.old.posts.items ≡ []) × (self.new.posts.items ≡ [])) (λ newest. self.old.posts.items ≡ self.new.posts.items ++ newest ∷ []) }
         ensures others { self.new ≡ record self.old { posts = self.new.posts } }
@@ -178,7 +180,7 @@ impl Agenda {
         self.posts.pop()
     }
 
-    /// Begins a slice. If no signal is delayed, the next signal can be delayed for the full number of steps.
+    /// Called when a slice begins. If no wake is delayed, the next one may be delayed for the full number of steps.
     pub(crate) fn begin_slice(&mut self)
         ensures empty { self.old.posts.items ≡ [] → self.new ≡ record self.old { patience = PATIENCE } }
         ensures kept_back { self.old.posts.items ≢ [] → self.new ≡ self.old }
@@ -189,7 +191,7 @@ impl Agenda {
         }
     }
 
-    /// Returns how many of the `left` steps of a slice may be made before a delayed signal may be due.
+    /// Returns how many of the `left` steps of a slice the thread may make until the delayed wakes must be made.
     #[inline(always)]
     pub(crate) fn stretch(&self, left: u32) -> u32
         ensures { result ≡ min left (max 1 self.now.patience) }
@@ -197,7 +199,8 @@ impl Agenda {
         left.min(self.patience.max(1))
     }
 
-    /// Counts steps that were made. Returns whether all delayed signals must be sent now.
+    /// Subtracts `steps` steps from the time for which wakes may be delayed. Returns whether the caller must make all
+    /// delayed wakes now.
     pub(crate) fn spend(&mut self, steps: u32) -> bool
         ensures due { IsTrue result ↔ self.old.patience ≤ steps }
         ensures left { self.new ≡ record self.old { patience = if result then PATIENCE else self.old.patience - steps } }
@@ -212,7 +215,7 @@ impl Agenda {
     }
 }
 
-/// Adds a post behind those whose signals are delayed, and takes the oldest of all.
+/// Appends `post` to `posts`, the threads whose wakes are delayed; then removes and returns the oldest one.
 fn for_oldest(posts: &mut Vec<PostedThread>, post: PostedThread) -> PostedThread
     ensures all { result ∷ posts.new.items ≡ posts.old.items ++ post ∷ [] }
     ensures many { length posts.new.items ≡ length posts.old.items }

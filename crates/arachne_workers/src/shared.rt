@@ -1,4 +1,4 @@
-//! The words that all workers share, by which they sleep, wake one another, park and stop.
+//! The atomic words by which workers sleep, wake one another, park and stop.
 ghost use Rattle.std.specs.Prelude.{◌≡◌, ◌↔◌, ◌<◌, IfOk, IsTrue};
 ghost use Rattle.std.specs.Int.{bit_at};
 ghost use Rattle.arachne_arbiter.specs.KernelThreads.{counted_cores, parked_cores};
@@ -12,18 +12,18 @@ use std::sync::Wait;
 use std::sync::atomic::{AtomicU64, Ordering};
 use std::time::Duration;
 
-/// The words that all workers share: a word that stops all workers, the hints (on whose words workers sleep), the
-/// counts of ended slices, and the parkers.
+/// The state that all workers share: a word that stops them, the hints (on whose words workers sleep), the counts of
+/// ended slices, and the parkers.
 #[derive(Drop)]
 pub struct SharedWords {
-    /// 1 once all workers must stop.
+    /// 1 after a call of `stop`: all workers must stop. Otherwise 0.
     stop: AtomicU64,
     hints: Hints,
     slices: SliceCounts,
     parking: Parking,
 }
 
-// Contracts see the number of cores.
+// The model, which contracts see, is the number of cores.
 impl Model for SharedWords {
     ghost use Rattle.std.specs.Prelude.{◌≡◌, ℕ};
     ghost use Rattle.arachne_arbiter.specs.KernelThreads.{counted_cores, parked_cores};
@@ -36,7 +36,7 @@ impl Model for SharedWords {
 }
 
 impl SharedWords {
-    /// Creates words for this many cores. No thread is ready, no slice has ended, and no worker sleeps.
+    /// Creates the words for `cores` cores. At first no thread is ready, no slice has ended, and no worker sleeps.
     pub fn new(alloc: Global, cores: u8) -> Result<SharedWords, AllocError>
         ensures { IfOk result (λ shared. shared ≡ cores) }
     {
@@ -48,14 +48,14 @@ impl SharedWords {
         })
     }
 
-    /// Returns the words that say where threads may be ready, and which workers sleep.
+    /// Returns the hints: the words that say in which slots threads may be ready, and which workers sleep.
     pub fn hints(&self) -> &Hints
         ensures { result.now ≡ self.now }
     {
         &self.hints
     }
 
-    /// Returns the parkers of the kernel threads.
+    /// Returns the parkers, on which the kernel threads of closed cores wait.
     pub fn parking(&self) -> &Parking
         ensures { parked_cores result.now ≡ self.now }
     {
@@ -69,7 +69,7 @@ impl SharedWords {
         &self.slices
     }
 
-    /// Counts a slice that has ended on a core. Only the core's own kernel thread calls this.
+    /// Adds 1 to the number of slices that have ended on `core`. Only that core's own kernel thread may call this.
     #[inline(always)]
     pub(crate) fn count_slice(&self, core: u8) {
         if usize::from(core) < self.hints.cores() {
@@ -77,12 +77,13 @@ impl SharedWords {
         }
     }
 
-    /// Signals that the thread at this place may be ready. Wakes the core's worker if it sleeps.
+    /// Records that the thread in slot `place` may be ready. Wakes the core's worker if it sleeps.
     pub fn hint(&self, place: Place) {
         self.hint_indexes(place.core, bit_of(place.index));
     }
 
-    /// Signals that threads of these cores (a bit for each) may be ready at any index.
+    /// Records that in each core in `cores` (one bit for each) the thread in any slot may be ready, and wakes the
+    /// workers of these cores that sleep.
     pub fn hint_cores(&self, cores: u64) {
         for core in 0..CORES {
             if has_core(cores, core) {
@@ -91,7 +92,8 @@ impl SharedWords {
         }
     }
 
-    /// Signals that threads of a core may be ready at these indexes. Wakes the core's worker if it sleeps.
+    /// Records that the threads in the slots `indexes` of `core` (one bit for each) may be ready. Wakes the core's
+    /// worker if it sleeps.
     #[inline(always)]
     fn hint_indexes(&self, core: u8, indexes: u64) {
         if self.hints.hint(core, indexes) {
@@ -101,7 +103,7 @@ impl SharedWords {
 
     /// Stops all workers, including those that sleep or are parked.
     pub fn stop(&self) {
-        // Before the wakes: a worker that wakes up reads the word, and nobody wakes it for this stop again.
+        // Stored before the wakes: a worker reads the word after it wakes up, and nobody wakes it for this stop again.
         self.stop.store(1, Ordering::SeqCst);
         for core in 0..CORES {
             self.hints.end_sleep(core);
@@ -115,17 +117,17 @@ impl SharedWords {
         self.stop.load(Ordering::SeqCst) != 0
     }
 
-    /// Parks the kernel thread of a core until it is unparked. Only the core's own kernel thread calls this.
+    /// Parks the kernel thread of `core` until another thread unparks it. Only that kernel thread may call this.
     pub(crate) fn park<H: Wait>(&self, rt: &H, core: u8) {
         if usize::from(core) < self.hints.cores() {
             self.parking.park(rt, core);
         }
     }
 
-    /// Sleeps until a thread of the core may be ready, all workers stop, or `spell` has passed. Only the core's own
-    /// kernel thread calls this.
+    /// Sleeps until a thread of `core` may be ready, all workers must stop, or `spell` has passed. Only that core's
+    /// kernel thread may call this.
     pub(crate) fn sleep<H: Wait>(&self, rt: &H, core: u8, spell: Duration) {
-        // The stop word is read last: whoever sets it later sees that the worker sleeps, and wakes it.
+        // The stop word is read last: a thread that sets it later sees that this worker sleeps, and wakes it.
         if !self.hints.is_about_to_sleep(core) || self.is_stopped() {
             return;
         }

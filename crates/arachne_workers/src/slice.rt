@@ -1,4 +1,4 @@
-//! The turn of the thread in hand: its slices, and its end.
+//! Runs a thread that the worker has taken: one slice after another, until the worker puts the thread back or ends it.
 ghost use Rattle.std.specs.Prelude.{◌≡◌, ◌≤◌, ◌<◌, ◌+◌, true, min, IfOk, IsTrue};
 ghost use Rattle.arachne_workers.specs.Agendas.{HasLooked, LooksWithin};
 
@@ -11,8 +11,9 @@ use std::sync::Wait;
 use std::time::Clock;
 
 impl<'a, H: Wait + Clock, D: Desk> CoreWorker<'a, H, D> {
-    /// Gives the thread in hand, which was taken at `place`, a slice, and more slices while it holds a lock or nothing
-    /// else is ready. At the end of the turn puts the thread back or ends it. Returns whether the thread is blocked.
+    /// Runs the thread that the worker has just taken from slot `place` for one slice, and for further ones while the
+    /// thread holds a lock or no other thread is ready. Then puts the thread back or ends it. Returns whether the
+    /// thread was put back as blocked.
     pub(crate) fn turn(&mut self, place: Place) -> Result<bool, Halt>
         requires { HasLooked self.old.agenda }
         ensures desk { self.new.desk ≡ self.old.desk }
@@ -31,7 +32,7 @@ impl<'a, H: Wait + Clock, D: Desk> CoreWorker<'a, H, D> {
         Ok(rest == Rest::Blocked)
     }
 
-    /// Makes the slices of a turn. Returns how the last slice ended.
+    /// Runs one or more slices of the thread that the worker has taken. Returns how the last slice ended.
     fn slices(&mut self) -> Result<SliceEnd, Halt>
         requires { HasLooked self.old.agenda }
         ensures desk { self.new.desk ≡ self.old.desk }
@@ -40,7 +41,7 @@ impl<'a, H: Wait + Clock, D: Desk> CoreWorker<'a, H, D> {
     {
         let quantum = self.desk.quantum();
         self.agenda.lag.allow(quantum);
-        // The number of further steps that the thread may make in this turn because it holds a lock.
+        // The number of further steps that the thread may make in a row because it holds a lock.
         let mut grace = policy::STEPS_TO_FREE;
         let mut end = self.slice(quantum)?;
         for _ in 1..policy::MOST_ALONE {
@@ -50,16 +51,17 @@ impl<'a, H: Wait + Clock, D: Desk> CoreWorker<'a, H, D> {
             }
             let steps = policy::most_steps(quantum, holds, grace);
             grace = policy::grace_left(holds, grace, steps);
-            // Before each slice, as in `run_at`.
+            // Called before each slice, since an order may have become due since the last slice ended.
             self.tend();
             end = self.slice(steps)?;
         }
         Ok(end)
     }
 
-    /// Returns whether the thread in hand gets another slice at once. The thread gets one if the core is open, the
-    /// workers do not stop, and one of two things holds: the thread holds a lock and has grace left; or nothing else is
-    /// ready on this core and no ticket can be taken.
+    /// Returns whether the current thread gets another slice at once.
+    ///
+    /// It does if the core is open, the workers need not stop, and either the thread holds a lock (`holds`) and has
+    /// some of its `grace` left, or nothing else is ready on this core and no waiting child can get a slot here.
     fn goes_on(&mut self, holds: bool, grace: u32) -> bool
         ensures desk { self.new.desk ≡ self.old.desk }
         ensures same { (self.new.agenda ≡ record self.old.agenda { lag = self.new.agenda.lag }) × (self.new.slices ≡ self.old.slices) }
@@ -78,7 +80,8 @@ impl<'a, H: Wait + Clock, D: Desk> CoreWorker<'a, H, D> {
         policy::may_go_on(self.desk.look(), holds, others, takes_ticket)
     }
 
-    /// Makes one slice of at most `most` steps. Returns how the slice ended.
+    /// Runs the thread that the worker has taken for one slice of at most `most` steps, and reports the slice. Returns
+    /// how the slice ended.
     fn slice(&mut self, most: u32) -> Result<SliceEnd, Halt>
         requires looked { HasLooked self.old.agenda }
         requires most { most ≤ self.old.agenda.lag.most }
@@ -91,13 +94,13 @@ impl<'a, H: Wait + Clock, D: Desk> CoreWorker<'a, H, D> {
         self.desk.begins(nth);
         let (made, end) = self.spend(most)?;
         self.desk.told(WorkerEvent::Sliced(made, end));
-        // The slice is counted after it was reported: an order that is due by this count is reported later.
+        // Counts the slice after reporting it: so the report of an order that is due by this count comes later.
         self.shared.count_slice(self.core);
         Ok(end)
     }
 
-    /// Makes the steps of a slice. Returns the number of steps, and how the slice ends. If all steps are used up, sends
-    /// all delayed signals.
+    /// Runs at most `most` steps of the thread that the worker has taken. Returns their number, and how the slice ends.
+    /// If all steps are used up, or the time for which wakes of other workers may be delayed, makes all delayed wakes.
     fn spend(&mut self, most: u32) -> Result<(u32, SliceEnd), Halt>
         requires looked { HasLooked self.old.agenda }
         requires most { most ≤ self.old.agenda.lag.most }
@@ -120,8 +123,8 @@ impl<'a, H: Wait + Clock, D: Desk> CoreWorker<'a, H, D> {
             left -= steps;
             made += steps;
             self.agenda.lag.add(steps);
-            // Before the stop is handled: the signal of a child that was posted by these steps is delayed for its full
-            // time.
+            // Counts the steps before handling `stop`: if they have put a child into a slot, the wake for it is delayed
+            // for its full time.
             if self.agenda.spend(steps) {
                 tell_all(&mut self.agenda, self.shared);
             }
@@ -144,12 +147,13 @@ impl<'a, H: Wait + Clock, D: Desk> CoreWorker<'a, H, D> {
         Ok((made, SliceEnd::GoesOn))
     }
 
-    /// Ends the thread in hand, and wakes its parent.
+    /// Ends the thread that the worker has taken, and wakes its parent if the parent waits for it.
     fn end(&mut self) -> Result<(), Halt>
         ensures desk { self.new.desk ≡ self.old.desk }
         ensures others { (self.new.slices ≡ self.old.slices) × (self.new.agenda.scan ≡ self.old.agenda.scan) × (self.new.agenda.posts ≡ self.old.agenda.posts) × (self.new.agenda.lag ≡ self.old.agenda.lag) }
     {
-        // Read while the thread has its place: the desk keeps the place for a later child if the core is full with it.
+        // Read while the thread still has its slot: if the core is full with it, the worker keeps the slot for a later
+        // child.
         let before = self.desk.look();
         if let Some(parent) = self.desk.end(before)? {
             self.wake(parent, Cause::ChildEnded);

@@ -1,4 +1,4 @@
-//! Waits of a kernel thread that don't sleep on its core's word.
+//! Spins, yields and short sleeps of a worker, which end without a wake by another worker.
 use crate::hints::Hints;
 use crate::policy;
 use arachne_arbiter::Pace;
@@ -6,10 +6,10 @@ use std::hint::spin_loop;
 use std::thread;
 use std::time::{Clock, Duration};
 
-/// Waits without a sleep, after `round` rounds that found nothing.
+/// Spins or yields once. The caller must be a worker whose last `round` rounds (passes of its loop) found nothing.
 ///
-/// In the first rounds the worker spins, longer in each, until a thread of the core may be ready. In later rounds the
-/// worker yields the processor.
+/// In the first rounds the worker spins, longer in each, until a thread of `core` may be ready. In later rounds it
+/// yields the processor.
 pub(crate) fn stay_awake<H: Clock>(rt: &H, pace: &mut Pace, hints: &Hints, core: u8, round: u32) {
     if !policy::spins(round, pace.may_yield()) {
         pace.yield_once(rt);
@@ -23,11 +23,11 @@ pub(crate) fn stay_awake<H: Clock>(rt: &H, pace: &mut Pace, hints: &Hints, core:
     }
 }
 
-/// Waits while another kernel thread has something that the calling thread needs, after `tries` attempts.
+/// Waits briefly after `tries` failed attempts to call a lock that another kernel thread is using.
 ///
-/// After each of the first attempts the calling thread spins, longer each time. Later the thread yields the processor
-/// if yields return immediately. If yields take long, the thread sleeps: the other kernel thread has lost its
-/// processor.
+/// After each of the first attempts the calling thread spins, longer each time. After later ones it yields the
+/// processor if yields return immediately. If yields take long, it sleeps, since the other kernel thread seems to have
+/// lost its processor.
 pub fn stand_by<H: Clock>(rt: &H, pace: &mut Pace, tries: u32) {
     if policy::spins(tries, pace.may_yield()) {
         for _ in 0..policy::spins_of(tries) {

@@ -1,4 +1,4 @@
-//! Signals to the workers of other cores for threads that a worker puts there or wakes.
+//! Wakes threads, and wakes the workers of other cores for threads that this worker puts or wakes there.
 ghost use Rattle.std.specs.Prelude.{◌≡◌, ◌≢◌, ◌↔◌, ◌≤◌, ◌<◌, ◌+◌, ◌^◌, [], false, length, min, IfSome, IsSome, None, Some};
 ghost use Rattle.std.specs.Int.RustNames.{bit_or};
 ghost use Rattle.arachne_core.specs.declared.layout.TheConstants.{SLOTS};
@@ -16,11 +16,11 @@ use std::sync::Wait;
 use std::time::Clock;
 
 impl<'a, H: Wait + Clock, D: Desk> CoreWorker<'a, H, D> {
-    /// Wakes a thread, if it is blocked.
+    /// Wakes the thread `id`, if it is blocked, for the reason `cause`.
     ///
-    /// If the thread has a lock now, it runs next on this worker, at its place on its own core, since others may wait
-    /// for the lock. If the worker of its own core sleeps, the thread is moved to this worker's core, since a move is
-    /// cheaper than waking a kernel thread.
+    /// If the thread was granted a lock, this worker may run it next, without moving it from its core, since others may
+    /// wait for the lock. Otherwise, if the worker of the thread's core sleeps, moves the thread to this worker's core,
+    /// since that is cheaper than waking a kernel thread.
     pub(crate) fn wake(&mut self, id: ThreadId, cause: Cause)
         ensures desk { self.new.desk ≡ self.old.desk }
         ensures others { (self.new.agenda ≡ record self.old.agenda { ready = self.new.agenda.ready; next = self.new.agenda.next }) × (self.new.slices ≡ self.old.slices) }
@@ -48,7 +48,8 @@ impl<'a, H: Wait + Clock, D: Desk> CoreWorker<'a, H, D> {
         self.note(place);
     }
 
-    /// Notes that the thread at a place may be ready, or signals the core of the place if it is another core.
+    /// Records that the thread in slot `place` may be ready. If the slot is on another core, wakes that core's worker
+    /// if it sleeps.
     pub(crate) fn note(&mut self, place: Place)
         ensures desk { self.new.desk ≡ self.old.desk }
         ensures others { (self.new.agenda ≡ record self.old.agenda { ready = self.new.agenda.ready }) × (self.new.slices ≡ self.old.slices) }
@@ -60,7 +61,8 @@ impl<'a, H: Wait + Clock, D: Desk> CoreWorker<'a, H, D> {
         }
     }
 
-    /// Tries to wake a thread until the table says whether the thread was blocked, and returns whether it was.
+    /// Wakes the thread `id`, and tries again if a concurrent call makes an attempt fail. Returns whether the thread
+    /// was blocked.
     fn try_wake(&mut self, id: ThreadId) -> bool
         ensures desk { self.new.desk ≡ self.old.desk }
         ensures same { (self.new.agenda ≡ self.old.agenda) × (self.new.slices ≡ self.old.slices) }
@@ -73,8 +75,8 @@ impl<'a, H: Wait + Clock, D: Desk> CoreWorker<'a, H, D> {
         unreachable!()
     }
 
-    /// Moves a thread from another core to this worker's core, if workers may. Returns the thread's place after the
-    /// move.
+    /// Moves the thread `id` from slot `from` of another core to this worker's core, if workers may move threads.
+    /// Returns the thread's slot after that.
     #[inline(always)]
     fn pull(&mut self, id: ThreadId, from: Place) -> Place
         ensures desk { self.new.desk ≡ self.old.desk }
@@ -93,11 +95,12 @@ impl<'a, H: Wait + Clock, D: Desk> CoreWorker<'a, H, D> {
         place
     }
 
-    /// Returns the place of the thread that runs next, if one is known.
+    /// Returns the slot of the thread that this worker runs next, if one is known.
     ///
-    /// The thread is one that was handed a lock, maybe on another core. Otherwise, if the thread in hand blocked and
-    /// nothing else is ready on this core, it is the newest thread whose signal is delayed and that can be moved here
-    /// from another core. Posts that can't be moved are signalled.
+    /// This is a thread that was granted a lock, perhaps on another core. Otherwise, if `waits` (the thread that ran
+    /// has blocked) and nothing else is ready on this core, it is the newest thread that this worker put on another
+    /// core, whose worker it has not woken yet, and that can be moved here. If such a thread can't be moved, wakes the
+    /// worker of its core.
     pub(crate) fn next(&mut self, waits: bool) -> Option<Place>
         ensures desk { self.new.desk ≡ self.old.desk }
         ensures next { IsSome self.old.agenda.next → HasGivenNext result self.old.agenda self.new.agenda }
@@ -112,7 +115,7 @@ impl<'a, H: Wait + Clock, D: Desk> CoreWorker<'a, H, D> {
         }
         for _ in 0..policy::MOST_KEPT_BACK {
             let id = self.agenda.take_newest()?.id;
-            // A post whose thread was taken in the meantime needs no signal.
+            // If another worker has taken the thread in the meantime, no wake is needed.
             let Some(place) = ready_place(self.desk.mark_of(id.context), id) else {
                 continue;
             };
@@ -126,7 +129,8 @@ impl<'a, H: Wait + Clock, D: Desk> CoreWorker<'a, H, D> {
     }
 }
 
-/// Returns the place of a thread, as its context's mark says, if the thread is ready and was not taken since.
+/// Returns the slot of the thread `id` according to `mark`, the mark word of its context. Returns `None` if the thread
+/// isn't ready, or the generation in `mark` is no longer that of `id`.
 #[inline(always)]
 fn ready_place(mark: Option<MarkWord>, id: ThreadId) -> Option<Place>
     ensures there { IsSome result → IsSome mark }
@@ -140,8 +144,8 @@ fn ready_place(mark: Option<MarkWord>, id: ThreadId) -> Option<Place>
     Some(mark.place())
 }
 
-/// Handles a post by the worker of `core`. Notes a thread that was put at a place of `core`. Signals a thread that was
-/// put on another core, or delays that signal.
+/// Handles `post`, a thread that the worker of `core` has just put into a slot. If the slot is on `core`, records the
+/// slot in `agenda` for the next scan; otherwise wakes the worker of the slot's core, at once or after a delay.
 #[inline(always)]
 pub(crate) fn posted(agenda: &mut Agenda, shared: &SharedWords, core: u8, post: PostedThread)
     ensures others { (agenda.new.scan ≡ agenda.old.scan) × (agenda.new.next ≡ agenda.old.next) × (agenda.new.lag ≡ agenda.old.lag) }
@@ -158,7 +162,7 @@ pub(crate) fn posted(agenda: &mut Agenda, shared: &SharedWords, core: u8, post: 
     }
 }
 
-/// Signals all workers whose signals the worker has delayed.
+/// Makes all wakes of other workers that are delayed in `agenda`.
 pub(crate) fn tell_all(agenda: &mut Agenda, shared: &SharedWords)
     ensures others { agenda.new ≡ record agenda.old { posts = agenda.new.posts } }
     ensures all { length agenda.old.posts.items ≤ MOST_KEPT_BACK → agenda.new.posts.items ≡ [] }

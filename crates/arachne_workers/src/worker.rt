@@ -1,4 +1,4 @@
-//! The worker of a core: its rounds, and the waits and orders between them.
+//! The worker's loop: runs ready threads, carries out orders, waits and parks.
 ghost use Rattle.std.specs.Prelude.{◌≡◌, IsOk};
 ghost use Rattle.arachne_workers.specs.Agendas.{LooksWithin};
 
@@ -20,24 +20,24 @@ pub struct CoreWorker<'a, H, D> {
     pub shared: &'a SharedWords,
     pub core: u8,
     pub slots: u8,
-    /// True if the worker may run a thread of another core, at the thread's place there, after the thread was handed a
+    /// True if the worker may run a thread of another core, without moving the thread, after the thread was granted a
     /// lock.
     pub helps: bool,
     pub agenda: Agenda,
     /// The number of slices that this worker has begun.
     pub slices: u64,
-    /// Decides whether the worker may yield its processor while it waits.
+    /// Decides, by how long earlier yields took, whether the worker may yield its processor while it waits.
     pub pace: Pace,
     pub desk: D,
 }
 
 impl<'a, H: Wait + Clock, D: Desk> CoreWorker<'a, H, D> {
-    /// Runs threads until all workers stop, and gives back the places that it keeps.
+    /// Runs threads until all workers must stop, and then frees the slots that the worker keeps for later children.
     pub fn work(&mut self) -> Result<(), Halt>
         ensures desk { self.new.desk ≡ self.old.desk }
         ensures heeds { LooksWithin (D.largest_quantum self.old.desk) self.old.agenda self.new.agenda }
     {
-        // The number of consecutive rounds that have found nothing.
+        // The number of consecutive rounds (passes of this loop) that have found nothing.
         let mut idle: u32 = 0;
         for _ in self.rt.forever() {
             if self.shared.is_stopped() {
@@ -53,16 +53,18 @@ impl<'a, H: Wait + Clock, D: Desk> CoreWorker<'a, H, D> {
         unreachable!()
     }
 
-    /// Makes one round: each thread that may be ready gets a turn, then a child that waits for a place gets one.
+    /// Makes one pass of the loop: runs each thread that may be ready, then gives a slot to a child that waits for one.
     ///
-    /// Returns whether there was anything to do. `idle` is the number of consecutive rounds that have found nothing.
+    /// Returns whether there was anything to do. `idle` is the number of consecutive passes before this one that have
+    /// found nothing.
     pub fn round(&mut self, idle: u32) -> Result<bool, Halt>
         ensures desk { self.new.desk ≡ self.old.desk }
         ensures heeds { LooksWithin (D.largest_quantum self.old.desk) self.old.agenda self.new.agenda }
     {
         let sleeps = policy::sleeps(idle, self.pace.may_yield());
         let looks = policy::looks_at_all(idle, sleeps);
-        // Read before `scan`, which takes the hints and clears the bit: if it is still set, nobody has ended the sleep.
+        // Read before `scan`, which clears the bit for a worker that sleeps: if it is still set, the sleep timed out
+        // without a wake.
         let overslept = sleeps && self.shared.hints().is_asleep(self.core);
         let found = self.scan()? || looks && self.scan_all()?;
         if found {
@@ -74,15 +76,15 @@ impl<'a, H: Wait + Clock, D: Desk> CoreWorker<'a, H, D> {
         Ok(found)
     }
 
-    /// Carries out the orders to open or close cores that are due, and waits.
+    /// Carries out the orders that are due to open or close cores, and then spins, yields or sleeps once.
     ///
-    /// `idle` is the number of consecutive rounds that found nothing, without the last one.
+    /// `idle` is the number of consecutive passes of the loop that found nothing, not counting the last one.
     pub fn rest_for(&mut self, idle: u32)
         ensures desk { self.new.desk ≡ self.old.desk }
         ensures same { (self.new.agenda ≡ record self.old.agenda { lag = self.new.agenda.lag }) × (self.new.slices ≡ self.old.slices) }
         ensures lag { self.new.agenda.lag.most ≡ self.old.agenda.lag.most }
     {
-        // Before each wait: nobody wakes this worker for an order that is due.
+        // Called before each wait, since nobody wakes this worker for an order that becomes due.
         self.tend();
         if policy::sleeps(idle, self.pace.may_yield()) {
             let spell = Duration::from_micros(policy::sleep_of(self.desk.is_waited_for()));
@@ -93,8 +95,8 @@ impl<'a, H: Wait + Clock, D: Desk> CoreWorker<'a, H, D> {
         }
     }
 
-    /// Gives a turn to each thread that may be ready by what the worker knows, then takes a ticket (the entry of a
-    /// child that waits for a place). Returns whether a thread was ready or a ticket was there.
+    /// Runs each thread in the slots recorded as maybe ready, then gives a slot to a child that waits for one. Returns
+    /// whether there was a ready thread or a waiting child.
     fn scan(&mut self) -> Result<bool, Halt>
         ensures desk { self.new.desk ≡ self.old.desk }
         ensures ended { IsOk result → self.new.agenda.scan ≡ 0 }
@@ -111,8 +113,10 @@ impl<'a, H: Wait + Clock, D: Desk> CoreWorker<'a, H, D> {
         Ok(found || took)
     }
 
-    /// Gives a turn to each thread on the core. If none is ready, prepares to wait, and parks if the core is closed and
-    /// empty. Returns whether a thread was ready, or the worker was parked.
+    /// Runs each ready thread of the core, also those whose slots were not recorded.
+    ///
+    /// If none is ready, frees the slots kept for later children, makes all delayed wakes of other workers, and parks
+    /// if the core is closed and empty. Returns whether a thread was ready, or the worker was parked.
     fn scan_all(&mut self) -> Result<bool, Halt>
         ensures desk { self.new.desk ≡ self.old.desk }
         ensures ended { IsOk result → self.new.agenda.scan ≡ 0 }
@@ -123,8 +127,8 @@ impl<'a, H: Wait + Clock, D: Desk> CoreWorker<'a, H, D> {
         if self.run_each()? {
             return Ok(true);
         }
-        // Before each wait: others can't use a place that this worker keeps, and nobody else signals a post whose
-        // signal is delayed.
+        // Before each wait: others can't use a slot that this worker keeps, and nobody else makes the wakes that it has
+        // delayed.
         give_all_back(&mut self.desk)?;
         tell_all(&mut self.agenda, self.shared);
         if self.desk.is_waited_for() || !self.desk.is_drained() {
@@ -136,7 +140,7 @@ impl<'a, H: Wait + Clock, D: Desk> CoreWorker<'a, H, D> {
         Ok(true)
     }
 
-    /// Gives a turn to each ready thread of the scan, in ascending order. Returns whether any thread was ready.
+    /// Runs each ready thread in the slots of the current scan, in ascending order. Returns whether any was ready.
     fn run_each(&mut self) -> Result<bool, Halt>
         ensures desk { self.new.desk ≡ self.old.desk }
         ensures ended { IsOk result → self.new.agenda.scan ≡ 0 }
@@ -151,8 +155,8 @@ impl<'a, H: Wait + Clock, D: Desk> CoreWorker<'a, H, D> {
         Ok(found)
     }
 
-    /// Gives a turn to the thread at an index, if it is ready. Before the scan goes on, also gives a turn to each
-    /// thread that `next` returns after that. Returns whether any of these threads was ready.
+    /// Runs the thread in slot `index`, if it is ready, and then, one after another, the threads that `next` returns.
+    /// Returns whether any of them was ready.
     fn run_at(&mut self, index: u8) -> Result<bool, Halt>
         ensures desk { self.new.desk ≡ self.old.desk }
         ensures scan { self.new.agenda.scan ≡ self.old.agenda.scan }
@@ -167,7 +171,7 @@ impl<'a, H: Wait + Clock, D: Desk> CoreWorker<'a, H, D> {
             if self.agenda.lag.is_stopped(self.shared) {
                 break;
             }
-            // Before each slice: an order may be due since the last slice ended.
+            // Called before each slice, since an order may have become due since the last slice ended.
             self.tend();
             let mut waits = false;
             match self.desk.take(place) {
@@ -176,7 +180,7 @@ impl<'a, H: Wait + Clock, D: Desk> CoreWorker<'a, H, D> {
                     waits = self.turn(place)?;
                 }
                 Grip::None => {}
-                // A thread may still be there: the next scan tries again.
+                // A ready thread may still be in the slot, so the next scan tries again.
                 Grip::Lost => self.note(place),
             }
             match self.next(waits) {
@@ -184,12 +188,13 @@ impl<'a, H: Wait + Clock, D: Desk> CoreWorker<'a, H, D> {
                 None => return Ok(found),
             }
         }
-        // The thread at `place` got no turn.
+        // The thread in `place` has not run yet, so the next scan must visit its slot.
         self.note(place);
         Ok(found)
     }
 
-    /// Takes a ticket, if the core has a place for the ticket's child. Returns whether there was a ticket.
+    /// Removes a ticket from the queue of waiting children, and gives its child a slot, if the core has a free one.
+    /// Returns whether the queue had a ticket.
     fn take_ticket(&mut self) -> Result<bool, Halt>
         ensures desk { self.new.desk ≡ self.old.desk }
         ensures others { (self.new.agenda.scan ≡ self.old.agenda.scan) × (self.new.agenda.next ≡ self.old.agenda.next) × (self.new.agenda.lag ≡ self.old.agenda.lag) × (self.new.slices ≡ self.old.slices) }
@@ -211,7 +216,7 @@ impl<'a, H: Wait + Clock, D: Desk> CoreWorker<'a, H, D> {
         }
     }
 
-    /// Carries out the orders to open or close cores that are due, if this worker has them.
+    /// Carries out the orders that are due to open or close cores, if this worker is the one that carries them out.
     #[inline(always)]
     pub fn tend(&mut self)
         ensures desk { self.new.desk ≡ self.old.desk }
@@ -224,7 +229,7 @@ impl<'a, H: Wait + Clock, D: Desk> CoreWorker<'a, H, D> {
         }
     }
 
-    /// Carries out the orders to open or close cores that are due, and wakes the workers that they concern.
+    /// Carries out the orders that are due to open or close cores, and wakes the workers that they concern.
     fn apply_orders(&mut self)
         ensures desk { self.new.desk ≡ self.old.desk }
         ensures same { (self.new.agenda ≡ record self.old.agenda { lag = self.new.agenda.lag }) × (self.new.slices ≡ self.old.slices) }
@@ -234,7 +239,7 @@ impl<'a, H: Wait + Clock, D: Desk> CoreWorker<'a, H, D> {
         let (applied, receivers) = self.agenda.lag.tend(&mut self.desk);
         if let Some(count) = applied {
             self.desk.told(WorkerEvent::Applied(count));
-            // The worker of a core that was closed may sleep, and must look at its core.
+            // The worker of a core that was closed may sleep, and must check whether it can park.
             self.shared.hint_cores(u64::MAX);
         }
         if receivers != 0 {

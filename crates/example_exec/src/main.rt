@@ -1,4 +1,5 @@
-//! Jobs that wait for one another, run by two and then by four kernel threads, with the executor `arachne_exec`.
+//! An example of the executor `arachne_exec`: jobs that wait for one another, run by two and then by four kernel
+//! threads.
 #![tactic(auto)]
 
 mod relay;
@@ -7,7 +8,7 @@ use crate::relay::Relay;
 use anyhow::{Result, bail};
 use arachne_team::work_together;
 
-/// The number of jobs for each kernel thread.
+/// The number of jobs that the relay has for each kernel thread.
 const JOBS: usize = 500;
 
 fn main(rt: HostRuntime) -> Result<()> {

@@ -13,20 +13,20 @@ use std::sync::atomic::{AtomicU64, Ordering};
 use std::thread::Parker;
 use std::time::Clock;
 
-/// A relay of jobs, numbered from 1.
+/// A relay of jobs, numbered from 1: each waits for the job before it.
 #[derive(Drop)]
 pub struct Relay {
     executor: Executor,
-    /// The number of kernel threads. Each of them is the worker of one shard, a part of the executor's task table.
+    /// The number of kernel threads. Each of them is the worker of one shard, its part of the executor's task table.
     team: u8,
-    /// For each job, the name by which the executor knows it.
+    /// For each job, the name by which the executor knows it, so that it can be woken.
     names: Vec<AtomicU64>,
-    /// The number of the last job that has ended.
+    /// The number of the job that ended last; 0 if none has ended.
     last: AtomicU64,
     parkers: Vec<Parker>,
 }
 
-/// Spawns `jobs` jobs in each shard (a part of the executor's task table), and returns their names.
+/// Spawns `jobs` jobs in each shard (one kernel thread's part of the executor's task table), and returns their names.
 fn spawn_all(
     alloc: Global,
     executor: &Executor,
@@ -51,10 +51,10 @@ fn spawn_all(
 }
 
 impl Relay {
-    /// Returns a relay with `jobs` jobs for each of `team` kernel threads.
+    /// Creates a relay with `jobs` jobs for each of `team` kernel threads.
     ///
-    /// Also returns the seat of the first kernel thread, which is that thread's handle of the executor. Returns an
-    /// error if memory is refused.
+    /// Also returns the seat of the first kernel thread (its handle of the executor). Returns an error if memory is
+    /// refused.
     pub fn new(alloc: Global, team: u8, jobs: usize) -> Result<(Relay, ExecSeat), AllocError>
         ensures seat { IfOk result (λ made. IsFree made.0.executor made.1) }
         ensures team { IfOk result (λ made. made.0.team ≡ team) }
@@ -75,7 +75,7 @@ impl Relay {
         Ok((relay, seat))
     }
 
-    /// Returns the number of jobs that have ended.
+    /// Returns the number of jobs of the relay that have ended.
     pub fn ended(&self) -> u64 {
         self.last.load(Ordering::SeqCst)
     }
@@ -99,7 +99,7 @@ impl Relay {
         }
     }
 
-    /// Wakes the job `names[index]`, if there is one.
+    /// Wakes the job with the name `names[index]`, if there is one.
     fn wake<R: Wait>(&self, rt: &R, seat: &mut ExecSeat, index: usize)
         requires { HasNone self.now.executor seat.old }
         ensures { HasNone self.now.executor seat.new × (seat.new.known.worker ≡ seat.old.known.worker) }
@@ -120,7 +120,7 @@ impl Relay {
         }
     }
 
-    /// Ends `job` and wakes the next one, if the job before it has ended; otherwise blocks `job`.
+    /// Ends `job` and wakes the next one, if the job before it has ended. Otherwise blocks `job` until it is woken.
     fn run<R: Wait>(&self, rt: &R, seat: &mut ExecSeat, job: HeldJob)
         requires own { HasOne self.now.executor job seat.old }
         requires place { job.place < 4096 * self.now.executor.shards }
@@ -189,7 +189,7 @@ impl Team<ExecSeat> for Relay {
         Some(share)
     }
 
-    /// Called if a kernel thread can't be started: ends the relay early, since the others would wait forever for the
+    /// Called if a kernel thread can't be started. Ends the relay early, since the others would wait forever for the
     /// jobs that this thread should run.
     fn fail<R: Wait>(&self, _rt: &R, _fault: TeamFault) {
         self.last.store(self.names.len() as u64, Ordering::SeqCst);

@@ -1,6 +1,6 @@
-//! Forks a computation and joins it, through a join cell.
+//! Computes on another kernel thread, and passes the result through a join cell.
 //!
-//! A child on another kernel thread puts its result into the cell, and the parent fetches it from there.
+//! The child puts its result into the cell, and the parent fetches it from there.
 
 ghost use Rattle.std.specs.Prelude.{◌≡◌, ◌*◌, ◌%◌, ◌^◌, IfOk};
 
@@ -15,18 +15,18 @@ use std::thread::{Parker, Threads};
 #[derive(Drop)]
 struct Square(u64);
 
-/// A cell that was made for a number accepts only the square of that number.
+/// Declares that a cell made for a number accepts only the square of that number.
 impl Fits<u64> for Square {
     ghost fits = { λ number square. square.0 ≡ number * number % 2 ^ 64 };
 }
 
 type Cell = JoinCell<Square, u64>;
 
-/// The number of squares that are added up in the end, each computed by a kernel thread of its own.
+/// The number of squares that the example adds up, each computed by a kernel thread of its own.
 const MANY: u64 = 10_000;
 
-/// Puts the square of `number` into the cell, and wakes the parent. The call consumes the sending end, so the cell gets
-/// no second value.
+/// Puts the square of `number` into the cell, and wakes the parent. The call consumes `end`, the cell's sending end, so
+/// the cell gets no second value.
 fn leave(cell: &Cell, end: SendingEnd<Square, u64>, number: u64, left: &Parker)
     requires place { end ≡ cell.now.table }
     requires what_for { cell.now.key ≡ number }
@@ -35,7 +35,7 @@ fn leave(cell: &Cell, end: SendingEnd<Square, u64>, number: u64, left: &Parker)
     left.unpark();
 }
 
-/// Sleeps until the cell has a value, and returns it.
+/// Waits (by parking this kernel thread) until the cell has a value, and returns the value.
 fn fetch<R: Wait>(rt: &R, cell: &Cell, left: &Parker) -> u64
     ensures { result ≡ cell.now.key * cell.now.key % 2 ^ 64 }
 {
@@ -48,7 +48,7 @@ fn fetch<R: Wait>(rt: &R, cell: &Cell, left: &Parker) -> u64
     unreachable!()
 }
 
-/// Returns the square of `number`, computed on another kernel thread.
+/// Computes the square of `number` on another kernel thread, and returns it.
 ///
 /// Returns an error if memory is refused.
 fn square_beside<R: Threads + Wait + Sync>(

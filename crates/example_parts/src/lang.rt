@@ -1,4 +1,4 @@
-//! Reads a task text, checks the program and evaluates it on one thread.
+//! Reads the text of a program, checks the program and evaluates it on one kernel thread.
 
 ghost use Rattle.std.specs.Prelude.{◌≡◌, IfOk};
 ghost use Rattle.arachne_lang.specs.Meaning.{meaning_of};
@@ -10,14 +10,14 @@ use arachne_lang::{CheckFault, Meaning, TextFault, check, eval, parse};
 use std::alloc::{AllocError, Global};
 use thiserror::Error;
 
-/// A program of two threads, which take lock 0 in turn and add to ledger 0 (a counter).
+/// A program of two threads, each of which takes lock 0 and adds to ledger 0 (a counter).
 const TEXT: &str = "arachne 1
 ledgers 1
 locks 1
 (fork n (hold 0 (tally 0 (num 5) (num 1))) (hold 0 (tally 0 (num 7) (num 2))) (add (var 0) (var 1)))
 ";
 
-/// The reason why a text can't be evaluated.
+/// The reason why a program text can't be evaluated.
 #[derive(Debug, Drop, Error)]
 enum Refused {
     #[error(transparent)]
@@ -28,7 +28,8 @@ enum Refused {
     Memory(#[from(alloc)] AllocError),
 }
 
-/// Parses, checks and evaluates the program in `text`: returns its value, the totals of its ledgers and its threads.
+/// Parses, checks and evaluates the program in `text`. Returns its value, the totals of its ledgers (counters) and its
+/// threads.
 fn meaning(alloc: Global, text: &[u8]) -> Result<Meaning, Refused>
     ensures { IfOk result (λ meaning. (program : Source) × (text_of program ≡ text.now) × (meaning ≡ meaning_of program)) }
 {

@@ -1,4 +1,4 @@
-//! Two kernel threads add the halves of a list to one ledger (a counter), which then has the sum of the list.
+//! Two kernel threads add the halves of a list to one ledger (a counter), which then has the sum of the whole list.
 
 ghost use Rattle.std.specs.Prelude.{◌≡◌, ◌%◌, ◌^◌, [], ◌∷◌, IfSome, sum};
 ghost use Rattle.arachne_ledger.specs.Views.{IsShareOf};
@@ -9,8 +9,8 @@ use std::alloc::Global;
 use std::thread;
 use std::thread::Threads;
 
-/// Adds each of `numbers` to the only ledger. The caller must pass a share (a thread's part of the ledgers) through
-/// which nothing was added before.
+/// Adds each of `numbers` to the only ledger. The caller must pass a share (a thread's right to use the ledgers)
+/// through which nothing was added before.
 fn add_all(ledgers: &Ledgers, mut share: Share, numbers: &[u64]) -> Share
     requires own { IsShareOf ledgers.now share }
     requires one { ledgers.now.count ≡ 1 }
@@ -23,7 +23,7 @@ fn add_all(ledgers: &Ledgers, mut share: Share, numbers: &[u64]) -> Share
     share
 }
 
-/// Returns the sum of the numbers, modulo 2^64, or `None` if memory is refused.
+/// Returns the sum of `numbers`, modulo 2^64, or `None` if memory is refused.
 fn sum_of<R: Threads>(rt: &R, alloc: Global, numbers: &[u64]) -> Option<u64>
     ensures { IfSome result (λ total. total ≡ sum numbers.now % 2 ^ 64) }
 {
@@ -36,7 +36,7 @@ fn sum_of<R: Threads>(rt: &R, alloc: Global, numbers: &[u64]) -> Option<u64>
         || add_all(&ledgers, second, right),
     );
     let mut share = ledgers.join_shares(first, second);
-    // Only a whole share may read: then nobody else can still add.
+    // The sum is final only if this share is whole, so that nobody else can still add.
     if !share.is_whole() {
         return None;
     }

@@ -1,4 +1,4 @@
-//! One module to copy for each crate that can be used on its own.
+//! Runs one example for each crate that can be used on its own. Each example is a module to copy.
 #![tactic(auto)]
 
 mod join;

@@ -1,4 +1,5 @@
-//! Asks the core policy about samples of a load, one after another: when to ask for a core, and when to give one back.
+//! Passes one sample of a load after another to the core policy, which advises when to ask for a core, and when to give
+//! one back.
 
 ghost use Rattle.std.specs.Prelude.{◌≡◌, [], IfOk};
 ghost use Rattle.arachne_policy.specs.Advice.{advices};
@@ -17,7 +18,7 @@ enum JudgeError {
     Memory(#[from(alloc)] AllocError),
 }
 
-/// Returns the advice on each sample, given the earlier samples.
+/// Returns the policy's advice on each sample, given the earlier samples.
 fn judge_all(
     alloc: Global,
     mut estimator: Estimator,
@@ -33,7 +34,7 @@ fn judge_all(
     Ok(answers)
 }
 
-/// Returns a sample of one second on `cores` cores. Times are in milliseconds.
+/// Returns a sample of one second on `cores` cores. `runnable` and `busy` are times in milliseconds.
 fn sample(cores: u64, runnable: u64, busy: u64) -> Sample {
     Sample {
         cores,
@@ -45,7 +46,7 @@ fn sample(cores: u64, runnable: u64, busy: u64) -> Sample {
 }
 
 pub fn show(rt: &impl Print, alloc: Global) -> Result<()> {
-    // On two cores there was too much to run, so a third core was requested. Now there is work for only 1.8 cores.
+    // On two cores there was too much work, so a third core was requested. Now there is work for only 1.8 cores.
     let samples = [
         sample(2, 151, 1900),
         sample(3, 100, 1810),

@@ -1,4 +1,4 @@
-//! Two kernel threads take turns at a sleep lock, a thousand times each.
+//! Two kernel threads take turns at a sleep lock (a lock whose waiters sleep), a thousand times each.
 
 ghost use Rattle.std.specs.Prelude.{IfSome};
 ghost use Rattle.arachne_sleep.specs.OneHolder.{HasOneHolderAtATime};
@@ -13,7 +13,7 @@ use std::thread;
 use std::thread::Threads;
 use std::time::{Clock, Duration};
 
-/// Asks for the lock, and returns once this thread holds it.
+/// Asks for the lock, and returns when this thread holds it.
 ///
 /// Returns `None` if memory is refused.
 fn enter<R: Wait + Clock>(rt: &R, lock: &SleepLock, seat: &mut LockSeat, who: Who) -> Option<()>
@@ -23,10 +23,11 @@ fn enter<R: Wait + Clock>(rt: &R, lock: &SleepLock, seat: &mut LockSeat, who: Wh
     for _ in rt.forever() {
         match lock.ask(seat, who) {
             Tried::Answered(Ok(Asked::Granted(_))) => return Some(()),
-            // This thread is in the lock's queue: whoever frees the lock learns which thread is next, and may wake it.
+            // This thread is in the lock's queue: whichever thread frees the lock learns which one is next, and can
+            // wake it.
             Tried::Answered(Ok(Asked::Queued { .. })) => break,
             Tried::Answered(Err(_)) => return None,
-            // Another thread's call on the lock is in progress, and nothing has changed: try again.
+            // Another kernel thread's call on the lock is in progress, and this call has changed nothing: try again.
             Tried::Contended => thread::sleep(rt, Duration::from_micros(50)),
         }
     }
@@ -39,7 +40,7 @@ fn enter<R: Wait + Clock>(rt: &R, lock: &SleepLock, seat: &mut LockSeat, who: Wh
     unreachable!()
 }
 
-/// Frees the lock. Returns `None` if this thread didn't hold the lock.
+/// Frees the lock. Returns `None` if the thread that `who` names doesn't hold the lock.
 fn leave<R: Wait>(rt: &R, lock: &SleepLock, seat: &mut LockSeat, who: Who) -> Option<()>
     requires { IsSeatOf lock.now seat.old }
     ensures { IsSeatOf lock.now seat.new }
@@ -72,7 +73,7 @@ fn take_turns<R: Wait + Clock>(
     Some(seat)
 }
 
-/// Closes a lock that nobody uses any more, and returns its history of requests, grants and releases.
+/// Closes the lock, which nobody may use any more, and returns its history of requests, grants and releases.
 ///
 /// Returns `None` if another seat (a thread's handle of the lock) is still in use.
 fn history(lock: SleepLock, seat: LockSeat) -> Option<History>

@@ -1,4 +1,4 @@
-//! Two kernel threads share a context table, which has slots for ready threads: one puts numbers into slots of core 0,
+//! Two kernel threads share a context table, which has slots for ready threads. One puts numbers into slots of core 0,
 //! and the other takes them out and sums them.
 
 ghost use Rattle.std.specs.Prelude.{◌≡◌, ◌<◌, IfSome};
@@ -11,13 +11,13 @@ use std::thread;
 use std::thread::Threads;
 use std::time::{Clock, Duration};
 
-/// The number of slots of the core.
+/// The number of slots that the core has.
 const PLACES: u8 = 8;
 
 const NUMBERS: u64 = 1000;
 
-/// A number, as a value that the table can store. Its type must have a tag, which must not change while the table has
-/// the value.
+/// A number, as a value that can be put into the table. Each such value has a tag (a number that identifies it), which
+/// must not change while the table has the value.
 #[derive(Drop)]
 struct Parcel(u64);
 
@@ -47,7 +47,7 @@ fn post<C: Contexts<Parcel>, R: Wait + Clock>(rt: &R, table: &C, seat: C::Seat) 
                 table.post(rt, &mut seat, claim, Parcel(number)).ok()?;
                 number += 1;
             }
-            // Another thread was quicker to take that slot: try again.
+            // The other thread has changed that slot in the meantime: try again.
             Claimed::Lost(_) => {}
             Claimed::Full(_) | Claimed::Closed(_) => thread::sleep(rt, Duration::from_micros(50)),
         }
@@ -55,7 +55,7 @@ fn post<C: Contexts<Parcel>, R: Wait + Clock>(rt: &R, table: &C, seat: C::Seat) 
     unreachable!()
 }
 
-/// Takes numbers out of the table, whenever one is ready, until all were taken.
+/// Takes numbers out of the table, whenever one is ready, until all have been taken.
 ///
 /// Returns the seat (this thread's handle of the table) and the sum of the numbers, or `None` if memory is refused.
 fn take_all<C: Contexts<Parcel>, R: Wait + Clock>(

@@ -1,4 +1,5 @@
-//! A pool counts the grains of a heap on all processors: each heap counts one, and forks heaps of halves of the rest.
+//! Counts the grains of a heap with a pool on all processors: the job of each heap counts one grain, and forks jobs for
+//! halves of the others.
 #![tactic(auto)]
 
 ghost use Rattle.std.specs.Prelude.{◌≡◌, ◌+◌, map, sum};
@@ -6,7 +7,8 @@ ghost use Rattle.std.specs.Prelude.{◌≡◌, ◌+◌, map, sum};
 use anyhow::Result;
 use arachne_pool::{Pool, PoolJob, Step, Tagged};
 
-/// A heap of grains: its size, how many grains no child has yet, and how many are counted.
+/// A job that counts the grains of a heap. Fields: the heap's size, the number of grains that it has not given to a
+/// child yet, and the number of grains counted.
 #[derive(Drop)]
 struct Heap {
     size: u64,

@@ -1,4 +1,4 @@
-//! The job that serves one request of the list.
+//! The job that answers one request of the list.
 ghost use Rattle.std.specs.Prelude.{◌≡◌, ◌≤◌, IfSome};
 ghost use Rattle.example_server.specs.Work.{earliest, mixed};
 
@@ -10,41 +10,43 @@ use arachne_table::Tagged;
 use std::rt::Clock;
 use std::sync::Arc;
 
-/// A request that the sender has taken from the list.
+/// A request that the sender has taken from the list of requests.
 #[derive(Clone, Copy)]
 pub struct Request {
-    /// The request's index in the list.
+    /// The index of the request in the list.
     pub number: u64,
     pub due: Due,
-    /// The time at which the request was taken from the list, in nanoseconds of the clock.
+    /// The time at which the sender took the request from the list, in nanoseconds of the clock.
     pub taken: u64,
 }
 
-/// The answer to a request. The work of a slow request begins only after its timer.
+/// The answer to a request. The work of a slow request begins only after its timer has expired.
 #[derive(Clone, Copy)]
 pub struct Answer {
     pub request: Request,
     pub value: u64,
-    /// The times at which the request's work began and was done, in nanoseconds of the clock.
+    /// The time at which the request's work began, in nanoseconds of the clock. The time at which the work was done is
+    /// in `ended`.
     pub began: u64,
     pub ended: u64,
     ghost right: { value ≡ mixed request.due.work request.number },
     ghost waited: { earliest request ≤ began },
 }
 
-/// The job of a request. It has a clock, by which it records when it begins and ends.
+/// The job that answers a request. It has a clock, by which it records when it begins and ends.
 #[derive(Drop)]
 pub struct Job {
     request: Request,
     clock: HostRuntime,
-    /// For a slow request: the time before which its work may not begin, and the timer that wakes the job then.
+    /// The time before which the work of a slow request may not begin; 0 for other requests. The job's `timer` wakes it
+    /// at that time.
     not_before: u64,
     timer: Option<Arc<Timer>>,
     ghost waits: { not_before ≡ earliest request },
 }
 
 impl Job {
-    /// Returns the job of a request, or `None` if it can't share the timer.
+    /// Returns the job that answers `request`, or `None` if it can't share the timer.
     pub fn new(request: Request, clock: HostRuntime, timer: &Arc<Timer>) -> Option<Job>
         ensures { IfSome result (λ job. job.request ≡ request) }
     {
@@ -64,7 +66,7 @@ impl Job {
     }
 }
 
-/// Returns the nanoseconds of the clock, or 0 if it can't be read.
+/// Returns the time of the clock in nanoseconds, or 0 if the clock can't be read.
 pub fn now<R: Clock>(clock: &R) -> u64 {
     match clock.monotonic() {
         Ok(time) => u64::try_from(time.as_nanos()).unwrap_or(u64::MAX),
@@ -72,7 +74,7 @@ pub fn now<R: Clock>(clock: &R) -> u64 {
     }
 }
 
-/// The work of a request: mixes the bits of `number` for `rounds` rounds.
+/// Does the work of a request: mixes the bits of `number` in `rounds` rounds, and returns the result.
 fn mix(rounds: u32, number: u64) -> u64
     ensures { result ≡ mixed rounds number }
 {
@@ -101,7 +103,7 @@ impl PoolJob for Job {
 
     fn step(&mut self) -> Step<Job, Answer> {
         let began = now(&self.clock);
-        // The job may be stepped before it is woken, so it looks at the clock each time.
+        // A job may make a step before the timer has woken it, so it compares the times in each step.
         if began < self.not_before {
             return Step::Sleeps;
         }

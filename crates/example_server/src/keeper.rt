@@ -1,30 +1,31 @@
-//! Measures the load, and orders cores or gives them back as the core policy advises.
+//! Measures the load, and opens cores or gives them back as the core policy advises.
 ghost use Rattle.std.specs.Prelude.{ℕ, ◌≡◌, ◌+◌, ◌<◌, ◌≤◌, [], ◌∷◌, IfSome};
 ghost use Rattle.arachne_policy.specs.Orders.{AreInOrder};
 
 use arachne_policy::{Advice, CoreOrder, Estimator, OrderKind, Sample};
 use std::alloc::Global;
 
-/// The load above which the server asks for a core, in thousandths of a request per scan of one core.
+/// The load above which the server asks for another core, in thousandths of a ready request per scan of one core.
 const UP: u64 = 1500;
 
-/// The hysteresis of the policy, in thousandths of a core.
+/// The hysteresis of the core policy, in thousandths of a core.
 const HYSTERESIS: u64 = 90;
 
 /// The settings of the server.
 #[derive(Clone, Copy)]
 pub struct Settings {
-    /// The most cores that the server may have: up to 63, since a pool has 64 and one is the sender's.
+    /// The greatest number of cores that the server may hold. It is at most 63, since a pool has 64 cores and one is
+    /// the sender's.
     pub most: u8,
-    /// The length of a measurement of the load, in nanoseconds.
+    /// The length of the interval in which the load is measured once, in nanoseconds.
     pub interval: u64,
-    /// The most nanoseconds that a request may wait for a place.
+    /// The greatest time, in nanoseconds, that a request may wait for a slot.
     pub patience: u64,
     ghost some: { 1 ≤ most },
     ghost few: { most < 64 },
 }
 
-/// The measurement of an interval, and the policy's advice on it.
+/// The load that was measured in an interval, and the policy's advice on it.
 #[derive(Clone, Copy)]
 pub struct Judged {
     /// The time at which the interval ended, in nanoseconds of the clock.
@@ -33,17 +34,19 @@ pub struct Judged {
     pub advice: Advice,
 }
 
-/// Measures the load in each interval, and records how many cores the server has: the first `held`.
+/// Measures the load in each interval, and records how many cores the server holds: the first `held` cores.
 #[derive(Drop)]
 pub struct Keeper {
     estimator: Estimator,
     interval: u64,
     pub most: u8,
     held: u8,
-    /// The state at the start of this sample: the time, and the nanoseconds of work that were done until then.
+    /// The time at which this measurement began, in nanoseconds of the clock. The work that was done until then, in
+    /// nanoseconds, is in `busy`.
     begun: u64,
     busy: u64,
-    /// The number of jobs that the scans saw, and the number of cores that were scanned.
+    /// The number of ready jobs that the scans of this measurement have seen. The number of cores that they have
+    /// scanned is in `scans`.
     runnable: u64,
     scans: u64,
     pub judged: Vec<Judged>,
@@ -52,7 +55,8 @@ pub struct Keeper {
 }
 
 impl Keeper {
-    /// Returns a keeper that has all cores at the time `now`.
+    /// Returns a keeper (which decides how many cores the server holds) that has all cores at the time `now`, in
+    /// nanoseconds of the clock.
     pub fn new(alloc: Global, settings: Settings, now: u64) -> Keeper
         ensures { result.most ≡ settings.most }
     {
@@ -69,8 +73,10 @@ impl Keeper {
         }
     }
 
-    /// Counts a scan of all cores of the server, which saw `runnable` jobs that could run. Once the interval has ended,
-    /// judges its sample and returns the order that follows, if there is one. `busy` is the nanoseconds of work so far.
+    /// Counts a scan of all cores that the server holds, which saw `runnable` ready jobs.
+    ///
+    /// If the interval has ended, asks the policy about it and returns the order that follows, if there is one. `busy`
+    /// is the work that was done so far, in nanoseconds.
     pub fn scan(&mut self, now: u64, runnable: u64, busy: u64) -> Option<CoreOrder>
         ensures most { self.new.most ≡ self.old.most }
         ensures order { IfSome result (λ order. AreInOrder (self.old.most + 1) (order ∷ [])) }
@@ -101,7 +107,7 @@ impl Keeper {
         self.follow(advice)
     }
 
-    /// Adds or removes a core as advised. Returns the order for that core, if there is one.
+    /// Adds or removes a core if `advice` says so. Returns the order to open or close that core, if there is one.
     fn follow(&mut self, advice: Advice) -> Option<CoreOrder>
         ensures most { self.new.most ≡ self.old.most }
         ensures order { IfSome result (λ order. AreInOrder (self.old.most + 1) (order ∷ [])) }
@@ -120,7 +126,7 @@ impl Keeper {
     }
 }
 
-/// Returns an order for a core, to be carried out at once.
+/// Returns an order to open or close a core that is due at once.
 #[tactic(auto, using(crate::proofs::Orders::one_in_order))]
 pub fn order(kind: OrderKind, core: u8) -> CoreOrder
     requires { 0 < core }

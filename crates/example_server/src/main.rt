@@ -20,7 +20,7 @@ use start::run;
 use std::env;
 use std::io::Read;
 
-/// Returns the number in argument `place`, or `other` if there is none.
+/// Returns the number in the argument of index `place`, or `other` if there is no such argument.
 fn number(words: &[String], place: usize, other: u64) -> u64 {
     let number = words.get(place).and_then(|word| word.as_str().parse().ok());
     number.unwrap_or(other)
@@ -34,7 +34,7 @@ fn settings(words: &[String]) -> Settings {
     }
 }
 
-/// Returns the list of requests, which is the input.
+/// Reads the list of requests from the standard input.
 fn list(rt: &HostRuntime) -> Result<Vec<Due>> {
     let mut text = String::new(rt.alloc());
     rt.reader().read_to_string(&mut text)?;

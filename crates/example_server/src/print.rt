@@ -1,11 +1,11 @@
-//! Prints the server's report, and a log of when each request was sent, began and ended.
+//! Prints the server's report, and a log that says when each request was sent, began and ended.
 use crate::keeper::Judged;
 use crate::requests::Class;
 use crate::send::Report;
 use std::alloc::Global;
 use std::io::{self, BufWriter, Write};
 
-/// Prints the part of the report that does not depend on time.
+/// Prints the part of the report that doesn't depend on time.
 pub fn summary(rt: &impl Print, report: &Report, requests: usize) -> io::Result<()> {
     let (mut slow, mut sum) = (0usize, 0u64);
     for answer in report.answers.iter() {
@@ -20,8 +20,8 @@ pub fn summary(rt: &impl Print, report: &Report, requests: usize) -> io::Result<
     Ok(())
 }
 
-/// Prints the log: how the load was judged, and when each request was sent, began and ended, in nanoseconds from the
-/// server's start.
+/// Prints the log: how the policy judged the load, and when each request was sent, began and ended, in nanoseconds from
+/// the server's start.
 pub fn log(rt: &impl Print, alloc: Global, report: &Report) -> io::Result<()> {
     let mut out = BufWriter::new(alloc, io::writer(rt))?;
     let since_begin = |time: u64| time.saturating_sub(report.begin);

@@ -1,27 +1,27 @@
-//! Parses the list of requests: a line for each, with the time at which it arrives, its class and its work.
+//! Parses the list of requests. Each line is a request: the time at which it arrives, its class and its work.
 use std::alloc::{AllocError, Global};
 
-/// The class of a request: what it needs beside its work.
+/// The class of a request: whether it wants a core for itself, for example.
 #[derive(Clone, Copy, Debug, PartialEq, Eq)]
 pub enum Class {
     Normal,
     /// The request wants a core for itself.
     Exclusive,
-    /// The request first waits for a timer.
+    /// The request first waits until a timer expires.
     Slow,
 }
 
-/// A request: the time at which it arrives, its class, and its work.
+/// A request of the list: the time at which it arrives, its class, and its work.
 #[derive(Clone, Copy)]
 pub struct Due {
     /// The time at which the request arrives, in nanoseconds since the server began.
     pub at: u64,
     pub class: Class,
-    /// The number of rounds of the request's work.
+    /// The number of rounds that the request's work has.
     pub work: u32,
 }
 
-/// Returns the requests of a text, lines as `12500 normal 1000`, or `None` if it has another line.
+/// Parses a text of lines such as `12500 normal 1000`. Returns `None` if a line has another form.
 pub fn requests(alloc: Global, text: &str) -> Result<Option<Vec<Due>>, AllocError> {
     let mut all = Vec::new(alloc);
     for line in text.lines() {

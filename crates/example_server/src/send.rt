@@ -1,6 +1,6 @@
-//! The *sender*, a kernel thread that reads the list of requests as if it were a network. It spawns a job for each
-//! request at the request's time, wakes the jobs whose timer has expired, takes the answers, and asks for cores or
-//! gives them back.
+//! The *sender*, a kernel thread that reads the list of requests as if they came from a network. At the time of each
+//! request it spawns a job. It also wakes the jobs whose timer has expired, takes the answers, and opens cores or gives
+//! them back.
 ghost use Rattle.std.specs.Prelude.{◌≡◌, ◌+◌, ◌<◌, IfOk, IfSome, IsSome, OnSome, Some, if◌then◌else◌, length, slice_get, vec_len};
 ghost use Rattle.std.specs.VecDeque.{deque_len};
 ghost use Rattle.arachne_pool.specs.Workers.{IsWorkerOf};
@@ -16,26 +16,29 @@ use std::collections::VecDeque;
 use std::sync::Wait;
 use std::time::Clock;
 
-/// The nanoseconds between two checks of the timers and the load, since these checks take time from the requests.
+/// The time, in nanoseconds, between two checks of the timers and the load. It isn't 0, since these checks take time
+/// from the requests.
 const BETWEEN_LOOKS: u64 = 20_000;
 
-/// The report of the server.
+/// The report of the server, after it has answered or refused all requests.
 #[derive(Drop)]
 pub struct Report {
     /// The time at which the server began, in nanoseconds of the clock.
     pub begin: u64,
-    /// The answers, in the order in which their requests were sent.
+    /// The answers to the requests, in the order in which the requests were sent.
     pub answers: Vec<Answer>,
-    /// The number of requests that were refused.
+    /// The number of requests that the server refused.
     pub refused: usize,
-    /// The nanoseconds that the work of the answered requests took.
+    /// The time, in nanoseconds, that the work of the answered requests took.
     busy: u64,
-    /// The measurements of the load, with the policy's advice on each.
+    /// The measurements of the load, each with the policy's advice.
     pub judged: Vec<Judged>,
 }
 
-/// Answers or refuses all requests of the server's list. A request for which there is no place is refused once it has
-/// waited longer than `Settings::patience`. Returns `None` if memory is refused, or the pool is stopped before.
+/// Answers or refuses all requests of the server's list.
+///
+/// Refuses a request for which there is no slot after it has waited longer than `Settings::patience`. Returns `None` if
+/// memory is refused, or if the pool is stopped first.
 pub fn send<R: Wait + Clock, C: Contexts<Spawned<Job>>>(
     rt: &R,
     server: &Server<'_, C>,
@@ -61,7 +64,7 @@ pub fn send<R: Wait + Clock, C: Contexts<Spawned<Job>>>(
     Some((worker, report))
 }
 
-/// The loop of `send`.
+/// The loop of `send`, which answers or refuses all requests.
 fn send_all<R: Wait + Clock, C: Contexts<Spawned<Job>>>(
     rt: &R,
     server: &Server<'_, C>,
@@ -77,7 +80,7 @@ fn send_all<R: Wait + Clock, C: Contexts<Spawned<Job>>>(
 {
     let mut sent: VecDeque<Handle<Job>> = VecDeque::new(server.alloc);
     let mut next: usize = 0;
-    // The time of the next look.
+    // The time of the next check of the timers and the load.
     let mut look = report.begin;
     for _ in rt.forever() {
         let now = now(rt);
@@ -102,7 +105,7 @@ fn send_all<R: Wait + Clock, C: Contexts<Spawned<Job>>>(
     unreachable!()
 }
 
-/// Returns the request at index `next` of the list, if its time has come.
+/// Returns the request at index `next` of the list, if it has arrived at the time `now`.
 fn due_by(requests: &[Due], next: usize, begin: u64, now: u64) -> Option<Request>
     ensures next { IfSome result (λ request. request.number ≡ next) }
     ensures due { IfSome result (λ request. Some request.due ≡ slice_get requests.now next) }
@@ -119,8 +122,8 @@ fn due_by(requests: &[Due], next: usize, begin: u64, now: u64) -> Option<Request
     })
 }
 
-/// Spawns the job of a request, or refuses the request if no core has a free place and it has waited longer than
-/// `Settings::patience`. Returns whether it did either, and `None` if memory is refused.
+/// Spawns the job of a request, or refuses the request if no core has a free slot and it has waited longer than
+/// `Settings::patience`. Returns true if it has done either of these, and `None` if memory is refused.
 fn settles<R: Wait, C: Contexts<Spawned<Job>>>(
     rt: &R,
     server: &Server<'_, C>,
@@ -153,7 +156,7 @@ fn settles<R: Wait, C: Contexts<Spawned<Job>>>(
     }
 }
 
-/// Takes the answer to the oldest unanswered request, if its job has ended. Returns `None` if memory is refused.
+/// Takes the answer to the oldest request in `sent`, if its job has ended. Returns `None` if memory is refused.
 fn take_answer(sent: &mut VecDeque<Handle<Job>>, report: &mut Report) -> Option<()>
     ensures all { OnSome result (vec_len report.new.answers + deque_len sent.new ≡ vec_len report.old.answers + deque_len sent.old) }
     ensures refused { report.new.refused ≡ report.old.refused }
@@ -171,7 +174,7 @@ fn take_answer(sent: &mut VecDeque<Handle<Job>>, report: &mut Report) -> Option<
     }
 }
 
-/// Measures the load, and passes the order that follows to the pool. Returns `None` if memory is refused.
+/// Measures the load, and gives the pool the order that follows from it. Returns `None` if memory is refused.
 fn keep_cores<R: Wait + Clock, C: Contexts<Spawned<Job>>>(
     rt: &R,
     server: &Server<'_, C>,
@@ -191,7 +194,8 @@ fn keep_cores<R: Wait + Clock, C: Contexts<Spawned<Job>>>(
         let orders = vec![in server.alloc; order].ok()?;
         server.pool.order(rt, worker, orders).ok()?;
     }
-    // A round on the sender's core, which is closed: the round only applies the orders.
+    // One round of the worker of the sender's core, which is closed: it only carries out orders to open and close
+    // cores.
     server.pool.turn(rt, worker, keeper.most).ok()?;
     Some(())
 }

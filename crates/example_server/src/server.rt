@@ -1,5 +1,5 @@
-//! The data that all kernel threads of the server share. One of them sends requests, and each of the others serves them
-//! on a core.
+//! The data that all kernel threads of the server share. One of them sends requests, and each of the others runs their
+//! jobs on a core.
 ghost use Rattle.std.specs.Prelude.{◌≡◌, ◌+◌, IfSome, length, vec_len};
 ghost use Rattle.arachne_pool.specs.Workers.{IsWorkerOf};
 
@@ -15,7 +15,8 @@ use std::alloc::Global;
 use std::sync::{Arc, Wait};
 use std::time::Clock;
 
-/// The server. Kernel thread 0 is the sender; kernel thread n runs jobs on core n - 1.
+/// The server: its data that all kernel threads share. Kernel thread 0 is the sender; kernel thread n runs jobs on core
+/// n - 1.
 #[derive(Drop)]
 pub struct Server<'r, C: Seats> {
     pub pool: Pool<C>,
@@ -27,8 +28,8 @@ pub struct Server<'r, C: Seats> {
     ghost cores: { pool.cores ≡ settings.most + 1 },
 }
 
-/// The data that each kernel thread gets and returns: its worker, and the sender's report once all requests are
-/// answered.
+/// The data that each kernel thread gets at its start and returns at its end: its worker, and, after all requests were
+/// answered, the sender's report.
 #[derive(Drop)]
 pub struct Share<S> {
     pub worker: Worker<S, Job>,

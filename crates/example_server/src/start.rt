@@ -20,7 +20,7 @@ use std::time::Clock;
 /// The type of context table that the server's pool uses.
 type Table = WordContexts<Spawned<Job>>;
 
-/// The number of places of a core.
+/// The number of slots of each core.
 const PLACES: u8 = 56;
 
 /// Answers or refuses all requests of a list. Returns `None` if memory or a kernel thread is refused.
@@ -39,7 +39,7 @@ pub fn run<R: Threads + Wait + Clock + Sync>(
 }
 
 /// Creates the server, and the data that its kernel threads split among them. The server's pool has one core more than
-/// the settings say, for the sender, on which no job runs.
+/// the settings say; it is the sender's, and no job runs there.
 fn begin<C: Contexts<Spawned<Job>> + Drop>(
     alloc: Global,
     requests: &[Due],
@@ -71,7 +71,7 @@ fn begin<C: Contexts<Spawned<Job>> + Drop>(
     Ok((server, share))
 }
 
-/// Closes the pool of a server that has ended. Returns the report, if no request is left.
+/// Closes the pool of a server that has ended. Returns the report, or `None` if a request is left.
 fn end<C: Contexts<Spawned<Job>> + Drop, R: Wait>(
     rt: &R,
     alloc: Global,

@@ -1,4 +1,4 @@
-//! A timer that wakes the jobs of slow requests after two milliseconds.
+//! A timer that wakes the job of each slow request after two milliseconds.
 ghost use Rattle.arachne_pool.specs.Workers.{IsWorkerOf};
 
 use crate::job::Job;
@@ -17,20 +17,20 @@ pub const SLOW: u64 = 2_000_000;
 /// When the timer must wake the job in a context, and which job that is.
 #[derive(Drop)]
 struct Alarm {
-    /// The time at which the job must be woken, or 0 if no alarm is set.
+    /// The time at which the timer must wake the job, or 0 if no alarm is set.
     at: AtomicU64,
-    /// The generation of the job's id.
+    /// The generation in the id of the job that is to be woken.
     generation: AtomicU64,
 }
 
-/// For each context of the pool's table, the time at which the timer must wake its job.
+/// A timer: for each context of the pool's table, the time at which the context's job must be woken.
 #[derive(Drop)]
 pub struct Timer {
     alarms: Vec<Alarm>,
 }
 
 impl Timer {
-    /// Returns a timer for the jobs in this many contexts.
+    /// Creates a timer for the jobs in `contexts` contexts. No alarm is set at first.
     pub fn new(alloc: Global, contexts: u32) -> Result<Timer, AllocError> {
         let mut alarms = Vec::new(alloc);
         for _ in 0..contexts {
@@ -42,16 +42,16 @@ impl Timer {
         Ok(Timer { alarms })
     }
 
-    /// Sets the alarm of the job of this id, which is about to sleep.
+    /// Sets the alarm for the job `id`, which is about to sleep, to the time `at`.
     pub fn wake_at(&self, at: u64, id: ThreadId) {
         if let Some(alarm) = self.alarms.get(id.context as usize) {
-            // The time is stored last: whoever sees it finds the generation for which it is set.
+            // The time is stored last: a thread that reads the time then also reads the generation that belongs to it.
             alarm.generation.store(id.generation, SeqCst);
             alarm.at.store(at, SeqCst);
         }
     }
 
-    /// Returns the number of jobs whose alarm is set.
+    /// Returns the number of jobs that sleep until a time.
     pub fn sleepers(&self) -> u64 {
         let is_set = |alarm: &&Alarm| alarm.at.load(SeqCst) != 0;
         self.alarms.iter().filter(is_set).count() as u64
@@ -64,7 +64,7 @@ impl Timer {
         if at == 0 || now < at {
             return None;
         }
-        // The next job of the context may have set its own alarm meanwhile, which stays.
+        // If a later job of the context has set its own alarm meanwhile, that alarm stays.
         alarm.at.compare_exchange(at, 0, SeqCst, SeqCst).ok()?;
         Some(ThreadId {
             context,

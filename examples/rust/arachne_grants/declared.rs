@@ -17,7 +17,7 @@ pub const API_VERSION: u32 = 1;
 pub const DONE: u32 = 0;
 
 /// The call was refused, and has changed nothing: the handle is empty, or is in use although it must be empty, or
-/// this event is not allowed now.
+/// this call is not allowed now.
 pub const REFUSED: u32 = 1;
 
 /// The allocator refused memory. Nothing has changed.
@@ -59,7 +59,7 @@ pub const NOTHING: u32 = 13;
 /// The core was taken from the thread: move the thread away from the core.
 pub const TAKEN: u32 = 14;
 
-/// The core was given to the thread, which floats (it doesn't wait for cores): move the thread to the core.
+/// The core was given to the thread, which floats (never waits for a core): move the thread to the core.
 pub const PLACED: u32 = 15;
 
 /// The core was given to the thread, which waited for one: move the thread to the core, and notify the thread.
@@ -69,8 +69,7 @@ pub const GRANTED: u32 = 16;
 #[repr(C)]
 #[derive(Clone, Copy, Debug, PartialEq, Eq)]
 pub struct ArachneMessage {
-    /// HELLO, JOIN, WAIT or ASK if the bytes begin with such a message; otherwise the code that says why they
-    /// don't.
+    /// HELLO, JOIN, WAIT or ASK if the bytes begin with such a message; otherwise the code of the fault.
     pub code: u32,
     pub priority: u32,
     pub reserved: u32,
@@ -92,7 +91,7 @@ impl ArachneArbiter {
     pub const NULL: ArachneArbiter = ArachneArbiter { opaque: std::ptr::null_mut() };
 }
 
-/// The action that the caller must take on a thread. Fields that this action does not use are 0.
+/// The action that the caller must take on a thread of a client. Fields that this action does not use are 0.
 #[repr(C)]
 #[derive(Clone, Copy, Debug, PartialEq, Eq)]
 pub struct ArachneAction {
@@ -122,9 +121,11 @@ unsafe extern "C" {
     /// Threads: safe beside any call, if nobody writes to `bytes` meanwhile.
     pub fn arachne_message_read(bytes: *const u8, bytes_count: usize) -> ArachneMessage;
 
-    /// Creates an arbiter of the cores 0 to `cores` - 1, without clients, in `arbiter`, which must be empty.
+    /// Creates an arbiter (a daemon's state) of the cores 0 to `cores` - 1, without clients, in `arbiter`, which
+    /// must be empty.
     ///
-    /// Returns DONE; REFUSED if the handle is in use, or if `cores` is greater than 1,024; NO_MEMORY.
+    /// Returns DONE; REFUSED if the handle is in use, or if `cores` is greater than 1,024; NO_MEMORY if memory is
+    /// refused.
     ///
     /// Threads: safe beside calls with other handles; two at once with `arbiter` are undefined behaviour.
     pub fn arachne_arbiter_new(arbiter: *mut ArachneArbiter, cores: u32) -> u32;
@@ -134,68 +135,77 @@ unsafe extern "C" {
     /// Threads: safe beside calls with other handles; two at once with `arbiter` are undefined behaviour.
     pub fn arachne_arbiter_close(arbiter: *mut ArachneArbiter);
 
-    /// Adds a client with its priority (0 is the highest), the cores that it reserves, and the most cores that it
-    /// may ask for.
+    /// Adds a client (a program) with its priority (0 is the highest), the number of cores that it reserves, and
+    /// the greatest number of cores that it may ask for.
     ///
-    /// `client`, the client's number, must be from 0 to 63 and not in use. Returns DONE or REFUSED. The caller must
-    /// check that the client is entitled to this priority and these cores.
+    /// Returns DONE, or REFUSED if the handle is empty, or if the client's number `client` is greater than 63 or in
+    /// use. The caller must check that the client is entitled to this priority and these cores.
     ///
     /// Threads: safe beside calls with other handles; two at once with `arbiter` are undefined behaviour.
     pub fn arachne_arbiter_hello(arbiter: *mut ArachneArbiter, client: usize, priority: u8, reserved: u32, most: u32) -> u32;
 
-    /// Sets the number of cores that a client asks for. Returns DONE, or REFUSED if there is no such client.
+    /// Sets the number of cores for which a client asks.
+    ///
+    /// Returns DONE, or REFUSED if the handle is empty or there is no such client.
     ///
     /// Threads: safe beside calls with other handles; two at once with `arbiter` are undefined behaviour.
     pub fn arachne_arbiter_ask(arbiter: *mut ArachneArbiter, client: usize, cores: u32) -> u32;
 
-    /// Removes a client, with all of its threads. Returns DONE, or REFUSED if the client's number is greater than
-    /// 63.
+    /// Removes a client, with all of its threads.
+    ///
+    /// Returns DONE, or REFUSED if the handle is empty or the client's number is greater than 63.
     ///
     /// Threads: safe beside calls with other handles; two at once with `arbiter` are undefined behaviour.
     pub fn arachne_arbiter_leave(arbiter: *mut ArachneArbiter, client: usize) -> u32;
 
-    /// Adds a thread to a client, with a number `place` from 0 to 63 that is free. A thread that floats never waits
-    /// for a core. Returns DONE or REFUSED.
+    /// Adds a thread to a client. `place`, the thread's number, must be from 0 to 63 and not in use. If `floats` is
+    /// true, the thread never waits for a core.
+    ///
+    /// Returns DONE or REFUSED.
     ///
     /// Threads: safe beside calls with other handles; two at once with `arbiter` are undefined behaviour.
     pub fn arachne_arbiter_join(arbiter: *mut ArachneArbiter, client: usize, place: usize, floats: bool) -> u32;
 
     /// Takes the core from a thread, if it has one, and makes the thread wait until a core is granted to it.
     ///
-    /// Returns DONE, or REFUSED if the thread floats, already waits, or does not exist.
+    /// Returns DONE, or REFUSED if the thread floats (never waits for a core), already waits, or does not exist.
     ///
     /// Threads: safe beside calls with other handles; two at once with `arbiter` are undefined behaviour.
     pub fn arachne_arbiter_wait(arbiter: *mut ArachneArbiter, client: usize, place: usize) -> u32;
 
-    /// Removes a thread. Returns DONE, or REFUSED if the number of the client or of the thread is greater than 63.
+    /// Removes a thread of a client, because the thread has ended.
+    ///
+    /// Returns DONE, or REFUSED if the handle is empty or the number of the client or of the thread is greater than
+    /// 63.
     ///
     /// Threads: safe beside calls with other handles; two at once with `arbiter` are undefined behaviour.
     pub fn arachne_arbiter_end(arbiter: *mut ArachneArbiter, client: usize, place: usize) -> u32;
 
-    /// Computes anew how many cores each client may have, from the numbers that all clients ask for now. Returns
-    /// DONE or REFUSED.
+    /// Computes anew how many cores each client may have, from the numbers of cores for which all clients ask now.
+    ///
+    /// Returns DONE, or REFUSED if the handle is empty.
     ///
     /// Threads: safe beside calls with other handles; two at once with `arbiter` are undefined behaviour.
     pub fn arachne_arbiter_decide(arbiter: *mut ArachneArbiter) -> u32;
 
-    /// Takes a core from a client that has more cores than it may have, namely from its last thread that has a
-    /// core.
+    /// Takes a core from the client `client`, if it has more cores than it may have: that of its last thread that
+    /// has a core.
     ///
-    /// If that thread floats, its core is taken at once; otherwise only if `late` is true, which means that the
-    /// client hasn't given a core back in time. Returns TAKEN or NOTHING.
+    /// If that thread floats (never waits for a core), takes its core at once; otherwise only if `late` is true,
+    /// which means that the client hasn't given a core back in time. Returns TAKEN or NOTHING.
     ///
     /// Threads: safe beside calls with other handles; two at once with `arbiter` are undefined behaviour.
     pub fn arachne_arbiter_take_back(arbiter: *mut ArachneArbiter, client: usize, late: bool) -> ArachneAction;
 
     /// Gives a free core to a thread that can take one, of a client that has fewer cores than it may have.
     ///
-    /// A client of higher priority goes first. Returns GRANTED if the thread waited, PLACED if it floats, or
-    /// NOTHING.
+    /// A client of higher priority goes first. Returns GRANTED if the thread waited for a core; PLACED if it
+    /// floats, which means that it never waits for one; NOTHING if no core was given.
     ///
     /// Threads: safe beside calls with other handles; two at once with `arbiter` are undefined behaviour.
     pub fn arachne_arbiter_give(arbiter: *mut ArachneArbiter) -> ArachneAction;
 
-    /// Returns how many cores a client may have, and how many it has. Both are 0 if the handle is empty.
+    /// Returns how many cores a client may have, and how many its threads have. Both are 0 if the handle is empty.
     ///
     /// Threads: safe beside calls with other handles; two at once with `arbiter` are undefined behaviour.
     pub fn arachne_arbiter_share(arbiter: *mut ArachneArbiter, client: usize) -> ArachneShare;

@@ -1,10 +1,11 @@
 //! The client of an arbiter, the daemon in `rust/arbiter`, which grants whole processors to processes.
 //!
-//! Worker 0 *floats*: it runs with a core of its own or without one. Each other worker waits, on a connection of its
-//! own, until it is granted a core, and gives the core back by waiting again. The arbiter writes the number of cores
-//! that the runtime may have into a page of shared memory. Each worker compares that number with `active` (the number
-//! of active workers) whenever it checks for events. While all workers sleep, the arbiter notifies the kernel thread
-//! that reads the control connection. Without an arbiter, or after the connection to it has ended, the policy decides.
+//! Worker 0 *floats*: it runs with a processor of its own or without one. Each other worker waits, on a connection of
+//! its own, until the arbiter grants it a processor (a *core*), and gives the core back by waiting again. The arbiter
+//! writes the number of cores that the runtime may have into a page of shared memory. Each worker compares that number
+//! with `active` (the number of active workers) whenever it checks for events. While all workers sleep, the arbiter
+//! sends a message instead, to the kernel thread that reads the control connection. Without an arbiter, or after the
+//! connection to it has ended, the policy decides how many workers are active.
 
 use crate::shared::{Context, Shared};
 use crate::sync::atomic::{AtomicBool, AtomicPtr, AtomicU32, AtomicUsize, Ordering::*};
@@ -19,7 +20,7 @@ use std::os::unix::net::UnixStream;
 use std::path::PathBuf;
 use std::time::Duration;
 
-/// The size of a message, and below the kinds of messages, as in `rust/arbiter/src/protocol.rs`.
+/// The size of a message in bytes. The constants below are the kinds of messages, as in `rust/arbiter/src/protocol.rs`.
 const SIZE: usize = 16;
 const VERSION: u32 = 1;
 const HELLO: u32 = 1;
@@ -31,10 +32,10 @@ const GRANT: u32 = 6;
 const ALLOWED: u32 = 7;
 const REFUSED: u32 = 8;
 
-/// The time after which a runtime tries again to connect to an arbiter that wasn't there or has refused.
+/// A runtime that finds no arbiter, or is refused by one, tries to connect again after this time.
 const AGAIN: Duration = Duration::from_secs(1);
 const REFUSED_AGAIN: Duration = Duration::from_secs(30);
-/// The time for which a worker sleeps before it asks for a core again, if it was granted none or can't use it yet.
+/// A worker that was granted no core, or can't use the core yet, asks again after this time.
 const SOON: Duration = Duration::from_millis(1);
 
 /// The path of the arbiter's socket, and what the runtime reports about itself to the arbiter.
@@ -48,8 +49,8 @@ pub(crate) struct Wish {
 /// A runtime's connections to an arbiter, which the runtime's kernel threads share.
 #[derive(Default)]
 pub(crate) struct Client {
-    /// Points to the number of cores that the arbiter allows, on the shared page that the arbiter writes. The page is
-    /// never unmapped after it was mapped.
+    /// Points to the number of cores that the arbiter allows, on the shared page that the arbiter writes. Once the page
+    /// is mapped, it stays mapped for ever.
     page: AtomicPtr<AtomicU32>,
     /// True while an arbiter decides how many cores the runtime may use. A thread must have locked `order` to change
     /// it.
@@ -66,17 +67,17 @@ pub(crate) struct Client {
 struct State {
     closed: bool,
     refused: bool,
-    /// The control connection, and behind it one connection for each worker.
+    /// The control connection, followed by one connection for each worker.
     streams: Vec<Arc<UnixStream>>,
     /// For each worker, the thread id of its kernel thread; 0 until that thread runs.
     threads: Vec<u32>,
-    /// The event that wakes the second worker while it waits for a core, so that it runs jobs that the first worker
-    /// doesn't get to.
+    /// The event that wakes the second worker while it waits for a core. The second worker then runs jobs that the
+    /// first worker doesn't get to.
     call: Option<File>,
     /// The processors that this process could use before an arbiter moved its threads.
     cpus: Vec<usize>,
-    /// True if the arbiter keeps threads on their cores by affinity. With cpusets it doesn't: a thread that set its
-    /// affinity would stay on these processors even after its cpuset has others.
+    /// True if the arbiter keeps threads on their cores by affinity. If it uses cpusets, this is false, and no thread
+    /// may set its own affinity: the thread would stay on those processors even after its cpuset has others.
     pins: bool,
 }
 
@@ -98,7 +99,7 @@ fn receive(mut stream: &UnixStream) -> io::Result<[u32; 4]> {
 }
 
 impl Client {
-    /// Resets the fields, for a runtime that has no arbiter yet.
+    /// Resets all fields, because a new runtime, which has no arbiter yet, begins to use this state.
     pub(crate) fn reset(&self) {
         *self.state.lock().unwrap() = State::default();
     }
@@ -112,7 +113,8 @@ impl Client {
         Ok(())
     }
 
-    /// Waits for a message on `stream`, or for the event `call`, for at most `nanos` nanoseconds.
+    /// Waits for a message on `stream`, or for the event `call`, for at most `nanos` nanoseconds. Returns which of the
+    /// three has ended the wait.
     fn waits(&self, stream: &UnixStream, nanos: u64) -> Ends {
         let call = self.state.lock().unwrap().call.as_ref().map_or(-1, |call| call.as_raw_fd());
         match sys::readable([stream.as_raw_fd(), call], nanos) {
@@ -125,7 +127,8 @@ impl Client {
         }
     }
 
-    /// Wakes the second worker if it waits for a core, so that it runs jobs that the first worker doesn't get to.
+    /// Wakes the second worker if it waits for a core. The second worker then runs jobs that the first worker doesn't
+    /// get to.
     pub(crate) fn call(&self) {
         if let Some(call) = &self.state.lock().unwrap().call {
             sys::raise(call.as_raw_fd());
@@ -154,8 +157,8 @@ impl Client {
         self.changed.notify_all();
     }
 
-    /// Lets the calling thread run on any processor: a thread inherits the affinity of the worker that starts it, which
-    /// is a single processor.
+    /// Lets the calling thread run on any processor. A thread inherits the affinity of the worker that starts it, and a
+    /// worker may be kept on a single processor.
     pub(crate) fn unpin(&self) {
         let state = self.state.lock().unwrap();
         if state.pins {
@@ -163,15 +166,15 @@ impl Client {
         }
     }
 
-    /// Asks the arbiter for `cores` cores. Returns true if the last request was for another number.
+    /// Asks the arbiter for `cores` cores. Returns true if the previous request was for another number.
     fn ask(&self, cores: usize) -> bool {
         if self.asked.swap(cores, SeqCst) == cores {
             return false;
         }
         let control = self.state.lock().unwrap().streams.first().cloned();
         if !control.map_or(false, |control| send(&control, [ASK, cores as u32, 0, 0]).is_ok()) {
-            // The connection's buffer is full, or the arbiter is gone, which the thread that reads the connection finds
-            // out.
+            // The connection's buffer is full, or the arbiter is gone. In the second case, the thread that reads the
+            // connection will notice it.
             self.asked.store(usize::MAX, SeqCst);
         }
         true
@@ -188,15 +191,15 @@ impl Client {
         Ok(stream)
     }
 
-    /// Closes all connections, so that the arbiter forgets this runtime; `refused` is true if the arbiter has refused a
-    /// thread.
+    /// Closes all connections, so that the arbiter forgets this runtime. The caller must pass true for `refused` if the
+    /// arbiter has refused one of the runtime's threads.
     fn hang_up(&self, refused: bool) {
         let mut state = self.state.lock().unwrap();
         state.refused |= refused;
         state.streams.iter().for_each(|stream| drop(stream.shutdown(Shutdown::Both)));
     }
 
-    /// Ends all waits for a core, because the runtime ends.
+    /// Ends every worker's wait for a core, because the runtime ends.
     pub(crate) fn close(&self) {
         self.state.lock().unwrap().closed = true;
         self.hang_up(false);
@@ -222,8 +225,8 @@ impl Shared {
         asks
     }
 
-    /// Gives back the cores beyond `allowed`, the number that the arbiter allows: those of the last workers, but never
-    /// the first worker's.
+    /// Gives back cores until `allowed` are left, the number that the arbiter allows. The workers with the highest
+    /// numbers give theirs back; the first worker never does.
     fn obey(&self, _order: &MutexGuard<()>, allowed: usize) {
         if self.arbiter.is_up() && allowed.max(1) < self.active.0.load(SeqCst) {
             self.set_active(allowed.max(1));
@@ -243,8 +246,8 @@ impl Shared {
         me >= self.active.0.load(Relaxed)
     }
 
-    /// Gives this worker's core back, and waits until a core is granted to this worker or the arbiter is gone. The
-    /// caller must check which of the two has happened.
+    /// Gives this worker's core back, and waits until the arbiter grants this worker a core, or is gone. The caller
+    /// must check which of the two has happened.
     #[cold]
     pub(crate) fn wait_for_core(&self, context: &Context, turn: &mut Turn) {
         let me = context.me;
@@ -268,9 +271,9 @@ impl Shared {
         if me == active && me < self.arbiter.limit() {
             self.set_active(me + 1);
         } else if me >= active {
-            // The arbiter has asked this core back since the grant. Or a worker with a lower number has lost its core
-            // and is still in a poll: then this worker must wait, as only the workers with the lowest numbers may be
-            // active.
+            // The arbiter has asked for this core again since it granted it. Or a worker with a lower number has lost
+            // its core and is still in a poll: then this worker must wait, because only the workers with the lowest
+            // numbers may be active.
             drop(order);
             thread::sleep(SOON);
         }
@@ -285,8 +288,8 @@ impl Shared {
             let met = self.meet(&wish, first.take());
             if let Ok(control) = &met {
                 while let Ok([ALLOWED, allowed, ..]) = receive(control) {
-                    // Uses the message's number and not that on the page, which may have grown since: a worker that was
-                    // in a poll may have lost its core, and has to wait for a new one.
+                    // The number in the message counts, not the one on the page, which may have grown since: a worker
+                    // that was in a poll may have lost its core, and must wait for a new one.
                     let order = self.arbiter.order.lock().unwrap();
                     self.obey(&order, allowed as usize);
                 }
@@ -352,7 +355,7 @@ impl Shared {
         }
         drop(state);
         if was_up && !self.stop.load(SeqCst) {
-            // Workers that still wait after this call do so because of the policy.
+            // Without the arbiter, only the policy makes workers wait: those beyond the number that it wants.
             let active = if follows { self.active.0.load(SeqCst) } else { self.workers.len() };
             self.set_active(active);
         }

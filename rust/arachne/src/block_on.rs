@@ -1,4 +1,4 @@
-//! `block_on`, `yield_now` and `poll_fn`.
+//! The functions `block_on`, `yield_now` and `poll_fn`.
 
 use crate::sync::atomic::{AtomicBool, Ordering::*};
 use crate::sync::thread::{self, Thread};
@@ -28,7 +28,7 @@ impl Wake for Parker {
 }
 
 thread_local! {
-    /// This thread's parker, unless a `block_on` further out uses it now.
+    /// The `Parker` of this thread, kept for its next `block_on`; `None` while a `block_on` on this thread uses it.
     static PARKER: RefCell<Option<Arc<Parker>>> = const { RefCell::new(None) };
 }
 
@@ -37,9 +37,9 @@ pub(crate) fn forget_parker() {
     PARKER.with(|parker| *parker.borrow_mut() = None);
 }
 
-/// Runs a future on the calling thread, which sleeps while the future waits.
+/// Polls a future on the calling thread until it is ready. The thread sleeps while the future waits.
 ///
-/// Within a task the call blocks the worker; use `await` there.
+/// In a task use `await` instead: this call would block the worker that runs the task.
 ///
 /// ```
 /// let (sender, receiver) = arachne::channel(1);
@@ -66,11 +66,11 @@ pub fn block_on<F: Future>(future: F) -> F::Output {
     }
 }
 
-/// Nanoseconds of delay after which a waiting `block_on` fires its thread's timers itself.
+/// If a timer is late by this many nanoseconds, a thread that waits in `block_on` fires it itself.
 const LATE: u64 = 2_000_000;
 
-/// Parks until this thread is unparked, or until its timers are late, because the worker that fires them is in a long
-/// poll or is this thread.
+/// Parks this thread until it is unparked. If a timer of this thread is late, fires it instead: the worker that should
+/// have fired it is in a long poll, or is this thread.
 fn park() {
     let timers = timer::of_this_thread();
     let due = timers.map_or(u64::MAX, |timers| timers.next().saturating_add(LATE));
@@ -82,7 +82,7 @@ fn park() {
     }
 }
 
-/// The future of `yield_now`: ready at its second poll.
+/// The future of `yield_now`, which is pending at its first poll and ready at its second.
 ///
 /// ```
 /// let pause: arachne::Yield = arachne::yield_now();
@@ -92,7 +92,8 @@ fn park() {
 #[derive(Debug)]
 pub struct Yield(bool);
 
-/// Lets other tasks run first, for use in a task that computes for long or that always finds what it awaits.
+/// Lets other ready tasks run first. Use it in a task that computes for long, or whose awaited futures are always
+/// ready.
 ///
 /// ```
 /// let runtime = arachne::Runtime::new(1);
@@ -124,7 +125,7 @@ impl Future for Yield {
     }
 }
 
-/// The future of `poll_fn`. The future may be moved between polls.
+/// The future of `poll_fn`. It may be moved between polls.
 ///
 /// ```
 /// use std::task::{Context, Poll};

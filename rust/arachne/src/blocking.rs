@@ -1,4 +1,4 @@
-//! Blocking work, on a bounded pool of threads beside the workers.
+//! Runs blocking work on kernel threads other than the workers, of which there are at most a fixed number.
 
 use crate::shared::{entered, here, Shared};
 use crate::sync::thread;
@@ -29,7 +29,7 @@ pub(crate) struct Pool {
     changed: Condvar,
 }
 
-/// A closure as a future that is ready at its first poll.
+/// A future that calls a closure at its first poll, and is ready then.
 struct Once<F>(Option<F>);
 impl<F> Unpin for Once<F> {}
 impl<F: FnOnce() -> T, T> Future for Once<F> {
@@ -111,7 +111,7 @@ impl Pool {
         self.changed.notify_all();
     }
 
-    /// Returns true if work waits for a thread of the pool, or runs on one.
+    /// Returns true if some work waits for a thread of the pool, or is running on one.
     pub(crate) fn is_busy(&self) -> bool {
         let state = self.state.lock().unwrap();
         !state.work.is_empty() || state.idle < state.threads

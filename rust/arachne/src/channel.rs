@@ -11,7 +11,7 @@ use std::pin::Pin;
 use std::task::{Context, Poll, Waker};
 
 struct Node {
-    /// True if the waiter was taken out of the queue because its turn has come.
+    /// True if this waiter was removed from the queue because it is now its turn to send or receive.
     called: AtomicBool,
     slot: Slot,
 }
@@ -44,7 +44,7 @@ impl<T> State<T> {
     }
 }
 
-/// Takes the first waiter out of a queue, since its turn has come.
+/// Removes the first waiter from the queue `line`, marks it as called (it may now try again), and returns it.
 fn call(line: &mut VecDeque<Arc<Node>>) -> Option<Arc<Node>> {
     let node = line.pop_front()?;
     node.called.store(true, SeqCst);
@@ -57,8 +57,8 @@ fn wake(node: Option<Arc<Node>>) {
     }
 }
 
-/// Removes a waiter from a queue. If its turn had come already, returns the next waiter, to which the caller must pass
-/// the turn on.
+/// Removes the waiter `node` from a queue, because it stops waiting. If it was called already, returns the next waiter,
+/// which the caller must wake in its stead.
 fn leave(line: &mut VecDeque<Arc<Node>>, node: &Arc<Node>) -> Option<Arc<Node>> {
     match line.iter().position(|other| Arc::ptr_eq(other, node)) {
         Some(at) => {
@@ -104,7 +104,7 @@ impl<T> fmt::Display for SendError<T> {
 }
 impl<T> std::error::Error for SendError<T> {}
 
-/// The sending end of a `channel`. The sending end may be cloned.
+/// The sending end of a `channel`. It may be cloned.
 ///
 /// ```
 /// let (sender, receiver) = arachne::channel(2);
@@ -115,7 +115,7 @@ impl<T> std::error::Error for SendError<T> {}
 /// ```
 pub struct Sender<T>(Arc<Mutex<State<T>>>);
 
-/// The receiving end of a `channel`. The receiving end may be cloned; each value goes to one receiver.
+/// The receiving end of a `channel`. It may be cloned; each value goes to one of the receivers.
 ///
 /// ```
 /// let (sender, receiver) = arachne::channel(2);
@@ -126,8 +126,8 @@ pub struct Sender<T>(Arc<Mutex<State<T>>>);
 /// ```
 pub struct Receiver<T>(Arc<Mutex<State<T>>>);
 
-/// Returns the two ends of a channel with room for `room` values, at least one. With `usize::MAX` the channel is never
-/// full.
+/// Returns the two ends of a channel that holds at most `room` values (at least 1). A channel of `usize::MAX` values is
+/// never full.
 ///
 /// ```
 /// let (sender, receiver) = arachne::channel(16);

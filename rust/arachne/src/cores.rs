@@ -1,10 +1,11 @@
-//! The number of active cores: the limit that the machine sets, and the policy by which the number follows the load.
+//! The number of active workers: the limit that the machine sets, and the policy by which the number follows the load.
 //!
 //! The load is the number of ready tasks that a worker counts whenever it checks for events, averaged over time. The
-//! policy judges the load at regular intervals, and at shorter ones after it has asked for a core. A worker that gives
-//! its core back then waits, and another worker runs the jobs in its blocks (its task slots) and fires its timers.
-//! While only the first worker has a core, the second worker runs the jobs that the first doesn't get to
-//! (`worker/sleepers.rs`). With a policy, the machine's limit is read again each second.
+//! policy decides at regular intervals how many workers may run, and at shorter intervals after it has asked for one
+//! more. A worker that gives its processor back waits; another worker then runs the jobs in its task slots, and fires
+//! its timers. While only the first worker has a processor, the second one runs the jobs that the first doesn't get to
+//! (`worker/sleepers.rs`). If there is a policy, the number of processors that the process may use is read again each
+//! second.
 
 use crate::core::Estimator;
 use crate::shared::{Context, Shared, Worker};
@@ -16,7 +17,7 @@ use std::fs;
 use std::os::unix::fs::FileExt;
 use std::time::Duration;
 
-/// The load and the use of all cores between two judgements of the policy.
+/// The work that waited for the cores, and the time for which they were busy, since the policy last decided.
 #[derive(Clone, Copy, Default, Debug)]
 pub(crate) struct Sample {
     pub(crate) cores: u64,
@@ -33,7 +34,7 @@ pub(crate) enum Advice {
     Remove,
 }
 
-/// The settings by which the number of active cores follows the load; see `Builder::policy`.
+/// The settings of the policy by which the number of active workers follows the load; see `Builder::policy`.
 ///
 /// ```
 /// use std::time::Duration;
@@ -44,14 +45,15 @@ pub(crate) enum Advice {
 /// ```
 #[derive(Clone, Copy, Debug)]
 pub struct Policy {
-    /// The policy asks for a core if a worker has more ready tasks than this on average; in thousandths of a task.
+    /// The policy asks for another core if, on average, a worker has more ready tasks than this, in thousandths of a
+    /// task.
     pub load: u64,
-    /// The policy gives a core back when the cores are used less, by this many thousandths of a core, than when it
-    /// asked for that core.
+    /// The policy gives a core back if the cores are less busy, by this many thousandths of a core, than they were when
+    /// it asked for that core.
     pub hysteresis: u64,
-    /// The time between two judgements.
+    /// The time between two decisions of the policy.
     pub every: Duration,
-    /// The number of cores that the policy never gives back.
+    /// The policy gives no core back if the runtime has only this many.
     pub min_cores: usize,
 }
 
@@ -84,8 +86,8 @@ fn whole(thousandths: usize) -> usize {
     (thousandths + 999) / 1000
 }
 
-/// Returns the smallest quota of this process's control group and of the groups above it, in thousandths of a
-/// processor.
+/// Returns how much processor time the control groups allow this process: the smallest quota of its group and of the
+/// groups above it, in thousandths of a processor.
 fn quota() -> Option<usize> {
     let groups = fs::read_to_string("/proc/self/cgroup").ok()?;
     let mut least = None;
@@ -116,35 +118,36 @@ fn quota_of(group: &str) -> Option<usize> {
     Some(words.next()?? * 1000 / words.next()??.max(1))
 }
 
-/// After a request for a core, the policy judges the load this many times at shorter intervals: the usual one divided
-/// by this number.
+/// After a request for a core, the policy's next decisions follow sooner: this many of them, at the usual interval
+/// divided by this number.
 const SOON: u32 = 4;
 
-/// The least and the most nanoseconds between two judgements under an arbiter.
+/// The least and the most nanoseconds between two decisions of the policy while there is an arbiter.
 const WITH_ARBITER: (u64, u64) = (2_000_000, 5_000_000);
-/// For this many nanoseconds after a request to an arbiter the policy gives no core back, because the core would go to
+/// After a request to an arbiter, the policy gives no core back for this many nanoseconds, because the core would go to
 /// another process.
 const CALM: u64 = 50_000_000;
 
-/// The state of the policy, which the first worker applies for all.
+/// The policy, with the data that it keeps between two decisions. The first worker decides for all workers.
 pub(crate) struct Judge {
     estimator: Estimator,
     policy: Policy,
-    /// The totals of each worker at the last judgement.
+    /// Each worker's totals at the policy's last decision.
     last: Vec<Totals>,
     at: u64,
     looked: u64,
     most: usize,
-    /// The number of judgements that are still to be made at shorter intervals, after a core was asked for.
+    /// The number of decisions that are still to be made at shorter intervals, because a core was asked for.
     soon: u32,
-    /// The time of the last request for a core.
+    /// The time of the last request for a core, in nanoseconds of the monotonic clock.
     added: u64,
-    /// True if a load began within the last sample, so that the sample was not judged. The next sample is judged in any
-    /// case.
+    /// True if the policy has ignored the last sample, because the load began in the middle of it. It doesn't ignore
+    /// the next sample.
     begins: bool,
 }
 
-/// A worker's counts, the nanoseconds for which it had no work, and those for which it waited for a processor.
+/// One worker's totals: its counts, the nanoseconds without work, and the nanoseconds for which it waited for a
+/// processor.
 #[derive(Clone, Copy, Default)]
 struct Totals {
     runnable: u64,
@@ -170,28 +173,29 @@ impl Judge {
         })
     }
 
-    /// Returns the milliseconds between two judgements, at most 20.
+    /// Returns for how many milliseconds the first worker may sleep before the policy's next decision: at most 20.
     pub(crate) fn millis(&self, shared: &Shared) -> i32 {
         ((self.every(1, shared.arbiter.is_up()) / 1_000_000) as i32).clamp(1, 20)
     }
 
-    /// Returns the nanoseconds between two judgements: the usual interval divided by `times`.
+    /// Returns the nanoseconds between two decisions: the usual interval divided by `times`. If `up` is true (there is
+    /// an arbiter), the interval is limited by `WITH_ARBITER`.
     fn every(&self, times: u32, up: bool) -> u64 {
         let (least, most) = if up { WITH_ARBITER } else { (0, u64::MAX) };
         ((self.policy.every.as_nanos() as u64).min(most) / times as u64).max(least)
     }
 
-    /// Returns true if the load began in the middle of this sample: enough tasks were ready to ask for a core, yet
-    /// cores were idle for part of the time.
+    /// Returns true if the load began in the middle of this sample: enough tasks were ready for the policy to ask for a
+    /// core, although cores were idle for part of the time.
     ///
-    /// Such a sample is not judged. The low use of such a sample would be recorded as the use at which the core was
-    /// asked for, and the core would be kept until the use is lower still.
+    /// The policy ignores such a sample. Otherwise it would record that the cores were little busy when it asked for
+    /// the core, and would keep the core until they are even less busy.
     fn is_begin(&self, sample: Sample) -> bool {
         let wants = sample.runnable * 1000 > self.policy.load * sample.scans;
         wants && sample.busy * 10 < sample.elapsed * sample.cores * 9
     }
 
-    /// Judges the load if the interval has passed, and asks for a core or gives one back.
+    /// If the interval has passed, decides from the load to ask for a core, to give one back, or neither.
     pub(crate) fn judge(&mut self, shared: &'static Shared) {
         let now = now();
         let elapsed = now - self.at;
@@ -203,15 +207,14 @@ impl Judge {
         if now - self.looked > 1_000_000_000 {
             self.looked = now;
             let all = shared.workers.len();
-            // An arbiter keeps this thread on one processor, so the processors that it may use don't show the limit;
-            // the arbiter decides how many others there are.
+            // An arbiter keeps this thread on one processor, so the thread's affinity doesn't show how many processors
+            // there are; the arbiter decides how many other processors the runtime gets.
             let most = if up { quota().map_or(all, whole) } else { available_cores() };
             self.most = most.clamp(1, all);
         }
         let active = shared.active.0.load(Relaxed);
         shared.counts.core_time.fetch_add(elapsed * active as u64, Relaxed);
-        // Counts only the workers that were active all of the time: an arbiter may grant a core in the middle of a
-        // sample.
+        // Counts only workers that were active for the whole sample: an arbiter may grant a core in the middle of one.
         let sample = sample(&self.last, &totals(shared, active.min(self.last.len()), now), elapsed);
         self.begins = !self.begins && self.is_begin(sample);
         if self.begins {
@@ -249,7 +252,7 @@ fn totals(shared: &Shared, active: usize, now: u64) -> Vec<Totals> {
     shared.workers[..active].iter().map(|line| of(&line.0)).collect()
 }
 
-/// Returns the nanoseconds for which a worker's thread was ready to run and had no processor.
+/// Returns for how many nanoseconds, in all, a worker's thread was ready to run and had no processor.
 fn waited(account: &crate::sync::Mutex<Option<fs::File>>) -> u64 {
     let mut text = [0; 64];
     let len = account.lock().unwrap().as_ref().and_then(|file| file.read_at(&mut text, 0).ok()).unwrap_or(0);
@@ -257,7 +260,7 @@ fn waited(account: &crate::sync::Mutex<Option<fs::File>>) -> u64 {
     text.split_whitespace().nth(1).and_then(|word| word.parse().ok()).unwrap_or(0)
 }
 
-/// Returns the load and the use of these workers since `last`.
+/// Returns how much work waited for these workers, and for how long they were busy, since the totals `last`.
 ///
 /// A worker counts its ready tasks only while it is busy; while it has no work, no task is ready. The time for which a
 /// worker waited for a processor counts neither as use of a core nor as load.
@@ -276,17 +279,18 @@ fn sample(last: &[Totals], totals: &[Totals], elapsed: u64) -> Sample {
 }
 
 impl Shared {
-    /// Gives this worker's core back: makes all jobs in its local queues ready, and then waits until the policy asks
+    /// Gives this worker's core back. Makes all jobs in its local queues ready, and then waits until the policy asks
     /// for the core again.
     ///
-    /// Meanwhile, if only the first worker has a core, the second worker runs the jobs that the first doesn't get to.
+    /// While only the first worker has a core, the second worker, in this wait, runs the jobs that the first doesn't
+    /// get to.
     pub(crate) fn give_back(&self, context: &Context, turn: &mut Turn) {
         self.lay_down(context, turn);
         let worker = context.worker;
         let (gate, waits) = &worker.given_back;
         worker.away.store(true, SeqCst);
-        // Rung only after all jobs were made ready: the worker that stands in for this one may be about to sleep, and
-        // must first check this one's blocks and timers.
+        // This must come after all jobs were made ready: the worker that now runs this worker's jobs may be about to
+        // sleep, and must first check this worker's task slots and timers.
         self.ring(self.keeper(context.me));
         if self.arbiter.is_up() {
             self.wait_for_core(context, turn);
@@ -313,10 +317,10 @@ impl Shared {
         self.goes_on();
     }
 
-    /// Sets the number of active workers, and wakes all workers.
+    /// Sets how many workers may run (the first `active` of them), and wakes all workers, so that they notice it.
     pub(crate) fn set_active(&self, active: usize) {
-        // Each flag is set under its worker's lock, so that a worker that is about to wait sees the number; so does an
-        // arbiter that came up before.
+        // Each worker's flag is set under that worker's lock, so a worker that is about to wait sees the new number,
+        // and also sees if there is an arbiter now.
         for (number, line) in self.workers.iter().enumerate() {
             *line.0.given_back.0.lock().unwrap() = number >= active;
         }

@@ -1,4 +1,4 @@
-//! The orderly end of a runtime (`shutdown_within` and `stopping`), signals, and a limit on concurrent requests.
+//! How a runtime ends in order (`shutdown_within` and `stopping`), signals, and a limit on concurrent requests.
 
 use crate::block_on::poll_fn;
 use crate::net::Async;
@@ -17,7 +17,7 @@ use std::pin::Pin;
 use std::task::{Context, Poll, Waker};
 use std::time::Duration;
 
-/// The wakers of the tasks that wait until a runtime begins to end.
+/// The wakers of the tasks that wait until their runtime begins to end.
 #[derive(Default)]
 pub(crate) struct Draining {
     begun: AtomicBool,
@@ -41,9 +41,10 @@ impl Draining {
     }
 }
 
-/// Returns true once `Runtime::shutdown_within` was called for this task's runtime; false outside of a runtime.
+/// Returns true after `Runtime::shutdown_within` was called for this task's runtime. Returns false outside of a
+/// runtime.
 ///
-/// A task should then finish its work in flight and begin nothing new.
+/// If it returns true, the task should finish the work that it has begun, and begin nothing new.
 ///
 /// ```
 /// let runtime = arachne::Runtime::new(1);
@@ -60,7 +61,7 @@ pub fn is_stopping() -> bool {
     here().map_or(false, |shared| shared.draining.has_begun())
 }
 
-/// The future of `stopping`: ready once the runtime's end has begun.
+/// The future of `stopping`, which becomes ready after `Runtime::shutdown_within` was called.
 ///
 /// ```
 /// async fn waits_at_most_until_the_end(receiver: arachne::Receiver<u32>) -> Option<u32> {
@@ -73,20 +74,20 @@ pub struct Stopping {
     shared: Option<&'static Shared>,
     /// The key and the waker under which the future is registered, if it waits.
     waits: Option<(u64, Waker)>,
-    /// The number of polls, since the end began, in which this future was polled before the task had tried to read a
-    /// socket.
+    /// Counts, since `shutdown_within` was called, the polls of this future in which the task had not yet tried to read
+    /// a socket.
     blind: u32,
 }
 
-/// Once the end has begun, the future stays pending for at most this many polls. So a `select!` in random order most
-/// likely tries its socket first in one of these polls.
+/// After `shutdown_within` was called, the future stays pending for at most this many polls. So a `select!` that polls
+/// in a random order most likely tries its socket first in one of these polls.
 const BLIND: u32 = 4;
 
-/// Waits until `Runtime::shutdown_within` is called, so that an idle connection can end; see `Stopping::or`.
+/// Waits until `Runtime::shutdown_within` is called. An idle connection can wait for this, in order to end; see
+/// `Stopping::or`.
 ///
-/// If the task also waits for a socket, the future becomes ready only in a poll in which the task has tried to read, or
-/// after a few polls; the order in which the task polls the two doesn't matter. So a request that has already arrived
-/// is still read.
+/// If the task also waits for a socket, this future is ready only in a poll in which the task has already tried to
+/// read, or after a few polls. So a request that has arrived is still read, in whichever order the task polls the two.
 ///
 /// ```
 /// use std::time::Duration;
@@ -103,8 +104,7 @@ pub fn stopping() -> Stopping {
 }
 
 impl Stopping {
-    /// Waits for the output of `future`, or for the beginning of the runtime's end. Returns None if the end has begun
-    /// and `future` is not ready.
+    /// Waits for the output of `future`. Returns None if `shutdown_within` is called before `future` is ready.
     ///
     /// `future` is polled first. A `Stopping` may be used again and again, for each read of a connection.
     ///
@@ -146,7 +146,7 @@ impl Future for Stopping {
             None => return Poll::Pending,
         };
         self.shared = Some(shared);
-        // If the task has put off a read, the read comes first, as there may be data.
+        // If the runtime has delayed a read of this task to its next poll, that read comes first, as there may be data.
         let reads_later = in_own_poll(cx.waker(), |worker| worker.put_off.get());
         if shared.draining.has_begun() {
             let is_blind = self.waits.is_some() && in_own_poll(cx.waker(), |worker| worker.reads.get() == 0);
@@ -167,7 +167,7 @@ impl Future for Stopping {
             waiting.1.insert(key, cx.waker().clone());
             self.waits = Some((key, cx.waker().clone()));
         }
-        // Checked again after the waker is registered, because `begin` sets the flag before it takes the wakers.
+        // This is read again after the waker is registered: `begin` sets the flag first, and then takes the wakers.
         if !shared.draining.has_begun() {
             return Poll::Pending;
         }
@@ -203,7 +203,7 @@ pub struct Ended {
 }
 
 impl Runtime {
-    /// Returns the number of this runtime's tasks that were spawned and have not ended.
+    /// Returns how many tasks of this runtime were spawned and have not ended.
     ///
     /// ```
     /// let runtime = arachne::Runtime::new(1);
@@ -215,14 +215,15 @@ impl Runtime {
         self.shared().live()
     }
 
-    /// Ends the runtime in order: lets its tasks finish until the deadline, and drops those that have not finished by
-    /// then.
+    /// Ends the runtime in order. Waits until its tasks have finished, or until the deadline, and then drops all tasks
+    /// that are left.
     ///
     /// From this call on, `stopping` is ready, and `accept` of a listener fails after it has accepted all connections
-    /// that had arrived. Tasks of `spawn_background` aren't waited for. A poll in progress at the deadline is waited
-    /// for. Blocking work that still runs at the deadline continues without the runtime, and the tasks that it spawns
-    /// after that are cancelled; `aborted` doesn't count this work. With `Duration::MAX` there is no deadline. If a
-    /// task calls this function, the call waits for that task too, until the deadline, and `aborted` counts it.
+    /// that had arrived. The call doesn't wait for tasks of `spawn_background`. If a poll is in progress at the
+    /// deadline, the call waits until that poll is over. Blocking work that still runs at the deadline continues
+    /// without the runtime, and the tasks that it spawns after that are cancelled; `aborted` doesn't count this work.
+    /// With `Duration::MAX` there is no deadline. If a task calls this function, the call waits for that task too,
+    /// until the deadline, and `aborted` counts it.
     ///
     /// ```
     /// use std::time::Duration;
@@ -248,8 +249,8 @@ impl Runtime {
     }
 }
 
-/// A signal of the operating system that this process catches, instead of its previous action; tasks and threads can
-/// wait for it.
+/// Catches a signal of the operating system, in place of the signal's previous action. Tasks and threads can wait for
+/// the signal.
 ///
 /// ```no_run
 /// # fn main() -> std::io::Result<()> {
@@ -296,7 +297,7 @@ impl Signal {
         Ok(Signal(Async::new(Event(event))?))
     }
 
-    /// Waits until the signal comes, or returns at once if the signal has come since the last wait.
+    /// Waits for the signal. Returns at once if the signal has come since the last wait.
     ///
     /// In tasks, use `recv`: `wait` blocks its thread and, even in `spawn_blocking`, would delay the runtime's end. If
     /// several tasks wait, one of them gets the signal. Like a socket, a `Signal` belongs to the runtime in which it
@@ -319,16 +320,16 @@ impl Signal {
         self.0.read_with(take).await
     }
 
-    /// Blocks the calling thread until the signal comes, or returns at once if the signal has come since the last wait.
+    /// Blocks the calling thread until the signal comes. Returns at once if the signal has come since the last wait.
     ///
-    /// Returns true, or false if the wait fails. In a task use `recv`. See the example at `heard`.
+    /// Returns false if the wait fails, otherwise true. In a task use `recv`. See the example at `heard`.
     pub fn wait(&self) -> bool {
         sys::await_event(self.0.get_ref().0)
     }
 }
 
-/// A limit on the number of uses of something that are in progress at once. If that many are in progress, `enter`
-/// returns None without waiting.
+/// Limits how many uses of something are in progress at once, requests for example. At the limit, `enter` returns None
+/// without waiting.
 ///
 /// ```
 /// let limit = arachne::Limit::new(1);
@@ -340,7 +341,7 @@ impl Signal {
 #[derive(Clone, Debug)]
 pub struct Limit(Arc<(AtomicUsize, usize)>);
 
-/// One use in progress under a `Limit`, which ends when the ticket is dropped; see `Limit::enter`.
+/// One use in progress under a `Limit`; see `Limit::enter`. Dropping the ticket ends the use.
 ///
 /// ```
 /// let limit = arachne::Limit::new(8);
@@ -367,7 +368,7 @@ impl Limit {
         Limit(Arc::new((AtomicUsize::new(0), most)))
     }
 
-    /// Begins a use, or returns None if as many uses as the limit allows are in progress.
+    /// Begins a use. Returns None if as many uses as the limit allows are in progress already.
     ///
     /// ```
     /// let limit = arachne::Limit::new(100);

@@ -12,9 +12,9 @@ pub(crate) const LINE: usize = 64;
 #[derive(Default)]
 pub(crate) struct Hand {
     pub(crate) next: Next,
-    /// Stolen jobs. They run before all other ready jobs of the worker.
+    /// Jobs that the worker has stolen. The worker runs them before all its other ready jobs.
     pub(crate) first: Jobs<FIRST>,
-    /// The worker's own jobs, which run after those that were ready before them.
+    /// The worker's own jobs, first in, first out. They run after the jobs that were ready before them.
     pub(crate) line: Jobs<LINE>,
 }
 
@@ -24,13 +24,13 @@ impl Hand {
         self.next.is_empty() && self.waits() == 0
     }
 
-    /// Returns the number of jobs in the queues, without the job that runs next.
+    /// Returns the number of jobs in the queues, without the job in `next` (the one to run next).
     pub(crate) fn waits(&self) -> usize {
         self.first.len() + self.line.len()
     }
 
-    /// Takes the first job behind the one that runs next. If there is none and `next` is true, takes the job that runs
-    /// next.
+    /// Takes the first stolen job or, if there is none, the first job of the line. If both queues are empty and `next`
+    /// is true, takes the job that runs next.
     pub(crate) fn take(&self, next: bool) -> Option<Job> {
         let behind = self.first.take(false).or_else(|| self.line.take(false));
         behind.or_else(|| if next { self.next.take(false) } else { None })
@@ -59,10 +59,10 @@ impl Slot {
     }
 }
 
-/// Takes the job in `slot` by advancing `count` from `seen`. The error is the current count, if another thread was
-/// faster.
+/// Takes the job in `slot` by advancing `count` from `seen` by one. If another thread has advanced it first, returns
+/// the current count as the error.
 ///
-/// If `alone` is true, no other thread ever takes a job, and a plain store suffices.
+/// If `alone` is true, no other thread takes jobs, so a plain store suffices.
 ///
 /// The slot must be read before the count is advanced. The count only grows, and the worker writes a slot again only
 /// after it has seen that the count was advanced past the slot's job. So a thread that advances the count has read one
@@ -84,7 +84,7 @@ fn take(count: &AtomicU64, seen: u64, slot: &Slot, alone: bool) -> Result<Job, u
 #[derive(Default)]
 #[repr(align(128))]
 pub(crate) struct Next {
-    /// The number of puts and takes together; it is odd while the slot has a job.
+    /// The number of puts plus the number of takes. It is odd while a job is in the slot.
     steps: AtomicU64,
     slot: Slot,
 }

@@ -1,4 +1,4 @@
-//! A handle by which any thread spawns tasks on a runtime, and which may outlive the runtime.
+//! A handle on a runtime. Any thread can spawn tasks with it, and it may outlive the runtime.
 
 use crate::runtime::{Runtime, Stats};
 use crate::shared::{here, Shared};
@@ -10,15 +10,15 @@ use std::fmt;
 use std::future::Future;
 use std::panic::Location;
 
-/// The amount that each call in progress adds to the word of a `Door`. The bits from `TURN` on count how often the door
-/// was opened or closed.
+/// Each call in progress adds this to the word of a `Door`. The bits from `TURN` on count how often the door was opened
+/// or closed.
 const CALL: u64 = 1;
 const TURN: u64 = 1 << 32;
 
-/// Lets the calls of a `Handle` through only while its runtime exists.
+/// Lets a `Handle` use its runtime's shared state only while that runtime exists.
 ///
-/// A later runtime uses again the state that this runtime's threads share, and old handles must not reach it. So each
-/// handle stores the count of turns (how often this door was opened or closed) at which it was made.
+/// The state is reused by a later runtime, which old handles must not reach. So each handle stores the value that
+/// `turns` (how often this door was opened or closed) had when the handle was made.
 #[derive(Default)]
 pub(crate) struct Door(AtomicU64);
 
@@ -35,8 +35,8 @@ impl Door {
         }
     }
 
-    /// Returns how often the door was opened or closed. So two runtimes that use the same state, one after the other,
-    /// have different counts.
+    /// Returns how often the door was opened or closed. The count differs between two runtimes that use the same state
+    /// one after the other.
     pub(crate) fn turns(&self) -> u64 {
         self.0.load(SeqCst) / TURN
     }
@@ -45,7 +45,7 @@ impl Door {
     ///
     /// `turns` counts how often the door was opened or closed, so it is odd while the door is open.
     ///
-    /// This call must be counted as in progress before the counts are compared: `close` changes the door's count first,
+    /// The call must be counted as in progress before `turns` is compared: `close` first changes the count of turns,
     /// and then waits for the calls in progress.
     fn within<T>(&self, turns: u64, call: impl FnOnce() -> T) -> Option<T> {
         struct Leave<'a>(&'a AtomicU64);
@@ -60,7 +60,7 @@ impl Door {
     }
 }
 
-/// A handle on a runtime, by which any thread can spawn.
+/// A handle on a runtime, with which any thread can spawn tasks.
 ///
 /// A task that the handle spawns after the runtime has ended is dropped at once, and fails with `JoinError::Cancelled`.
 ///
@@ -87,7 +87,7 @@ impl Handle {
         Handle { shared, turns: shared.door.turns() }
     }
 
-    /// Returns a handle on the runtime in whose task, `block_on` or `enter` this is called.
+    /// Returns a handle on the current runtime, in whose task, `block_on` or `enter` this is called.
     ///
     /// ```
     /// let runtime = arachne::Runtime::new(1);
@@ -103,7 +103,7 @@ impl Handle {
         Handle::try_current().expect("Handle::current outside of a runtime")
     }
 
-    /// Like `current`, or returns None outside of a runtime.
+    /// Returns a handle on the current runtime, as `current` does. Returns None outside of a runtime.
     ///
     /// ```
     /// assert!(arachne::Handle::try_current().is_none());
@@ -156,8 +156,8 @@ impl Handle {
         }
     }
 
-    /// Spawns a task, or returns the future in the error. The error means that no task slot is free, that other tasks
-    /// wait for one, or that the runtime has ended.
+    /// Spawns a task. Returns the future in the error if no task slot is free, if other tasks wait for a slot, or if
+    /// the runtime has ended.
     ///
     /// ```
     /// let runtime = arachne::Runtime::new(1);
@@ -213,7 +213,7 @@ impl Handle {
     }
 }
 
-/// Returns the handle of a new task that is cancelled before it begins.
+/// Makes a task that is cancelled before it begins, and returns the handle on its output.
 fn cancelled<F>(future: F, about: About) -> JoinHandle<F::Output>
 where
     F: Future + Send + 'static,

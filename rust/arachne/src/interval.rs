@@ -1,4 +1,4 @@
-//! An interval: a task waits for its next tick, at a fixed period.
+//! An interval, by which a task waits for one tick after another, at a fixed period.
 
 use crate::block_on::poll_fn;
 use crate::sync::Instant;
@@ -8,18 +8,18 @@ use std::pin::Pin;
 use std::task::{Context, Poll};
 use std::time::Duration;
 
-/// A tick that comes this late counts as missed.
+/// A tick counts as missed if it comes later than this after the time at which it was due.
 const LATE: Duration = Duration::from_millis(5);
 
-/// Added instead of a period that would exceed the clock's range: thirty years, for which no process waits.
+/// Thirty years, used instead of a period that would exceed the clock's range.
 const NEVER: Duration = Duration::from_secs(30 * 365 * 86_400);
 
-/// Returns the time that is `period` after `moment`.
+/// Returns the time `moment + period`, or `moment` plus thirty years if that sum is out of range.
 fn later(moment: Instant, period: Duration) -> Instant {
     moment.checked_add(period).unwrap_or_else(|| moment + NEVER)
 }
 
-/// Says when the ticks after a missed tick come; see `Interval::set_missed_tick_behavior`.
+/// When the next ticks come after a tick was missed; see `Interval::set_missed_tick_behavior`.
 ///
 /// ```
 /// use arachne::MissedTickBehavior;
@@ -37,12 +37,12 @@ fn later(moment: Instant, period: Duration) -> Instant {
 /// ```
 #[derive(Clone, Copy, PartialEq, Eq, Debug, Default)]
 pub enum MissedTickBehavior {
-    /// The missed ticks come at once, one after another.
+    /// All missed ticks come at once, one after the other, until the interval has caught up.
     #[default]
     Burst,
-    /// The next tick comes a period after the late tick.
+    /// The next tick comes one period after the late tick was returned.
     Delay,
-    /// The missed ticks are left out. The next tick comes at its original time.
+    /// The missed ticks are left out. The next tick comes a whole number of periods after the late one was due.
     Skip,
 }
 
@@ -168,7 +168,8 @@ impl Interval {
         self.period
     }
 
-    /// Sets when the ticks after a missed tick come: `Burst` by default. See the example at `MissedTickBehavior`.
+    /// Sets when the next ticks come after a tick was missed: by default `Burst`. See the example at
+    /// `MissedTickBehavior`.
     pub fn set_missed_tick_behavior(&mut self, behavior: MissedTickBehavior) {
         self.missed = behavior;
     }

@@ -11,13 +11,14 @@ use std::fmt;
 use std::future::Future;
 use std::task::{Context, Poll, Wake, Waker};
 
-/// The numbers of the set's tasks that have ended, and the waker of the task that waits in `join_next`.
+/// The numbers (keys in the set) of the tasks that have ended, and the waker of the task that waits in `join_next`.
 struct Ended {
     numbers: Mutex<VecDeque<u64>>,
     waits: Slot,
 }
 
-/// The waker that a task of the set wakes at its end: the wake records that the task has ended.
+/// The waker that a task of the set wakes when it ends. The wake records the task's number, and wakes whoever waits in
+/// `join_next`.
 struct Tells {
     number: u64,
     ended: Arc<Ended>,
@@ -81,19 +82,20 @@ impl<T> JoinSet<T> {
         JoinSet { tasks: BTreeMap::new(), made: 0, ended }
     }
 
-    /// Returns the number of tasks whose output has not been taken; see the example at `new`.
+    /// Returns the number of tasks in the set, including those that have ended but were not joined; see the example at
+    /// `new`.
     #[must_use]
     pub fn len(&self) -> usize {
         self.tasks.len()
     }
 
-    /// Returns true if the set has no task whose output has not been taken; see the example at `new`.
+    /// Returns true if no task is in the set, not even one that has ended but was not joined; see the example at `new`.
     #[must_use]
     pub fn is_empty(&self) -> bool {
         self.tasks.is_empty()
     }
 
-    /// Spawns a task of this set, as the function `spawn` does.
+    /// Spawns a task in this set, as the function `spawn` does. Returns a handle that can abort the task.
     ///
     /// ```
     /// arachne::Runtime::new(1).block_on(async {
@@ -123,7 +125,7 @@ impl<T> JoinSet<T> {
         handle
     }
 
-    /// Waits until a task has ended, removes it and returns its output; returns None if the set is empty.
+    /// Waits until any task of the set has ended, removes it and returns its output. Returns None if the set is empty.
     ///
     /// No output is lost if this future is dropped. See the example at `JoinSet`.
     pub async fn join_next(&mut self) -> Option<Result<T, JoinError>> {
@@ -148,14 +150,14 @@ impl<T> JoinSet<T> {
             return Poll::Ready(None);
         }
         self.ended.waits.set(cx.waker());
-        // Checked again after the waker is registered, because a task may have ended before it could see the waker.
+        // This second try is needed after the waker is registered: a task may have ended before, without waking it.
         match self.try_join_next() {
             Some(output) => Poll::Ready(Some(output)),
             None => Poll::Pending,
         }
     }
 
-    /// Like `join_next`, but returns None if no task has ended.
+    /// Returns the output of a task that has ended, and removes the task. Returns None if no task of the set has ended.
     ///
     /// ```
     /// arachne::Runtime::new(1).block_on(async {
@@ -175,7 +177,7 @@ impl<T> JoinSet<T> {
         }
     }
 
-    /// Aborts all tasks of the set. The tasks stay in the set until they are joined.
+    /// Aborts all tasks of the set. The set still contains them: `join_next` returns an error for each.
     ///
     /// ```
     /// arachne::Runtime::new(1).block_on(async {
@@ -204,7 +206,7 @@ impl<T> JoinSet<T> {
         while self.join_next().await.is_some() {}
     }
 
-    /// Removes all tasks from the set without aborting them.
+    /// Removes all tasks from the set without aborting them. They run on, and their outputs are lost.
     ///
     /// ```
     /// arachne::Runtime::new(1).block_on(async {

@@ -32,8 +32,8 @@
 //! ```
 //!
 //! The core is proved: no two workers hold one task at a time, and a waker of a task that has ended wakes no other
-//! task. While no call of the core is in progress, the workers can find every ready task that none of them holds. The
-//! rest of this crate, which decides which worker runs which task and when a worker sleeps, is tested but not proved.
+//! task. Whenever no call of the core is in progress, the workers can find every ready task that none of them holds.
+//! The rest of this crate decides which worker runs which task and when a worker sleeps; it is tested, but not proved.
 //! `docs/rust.md` lists the rules that the crate must keep for the proofs to apply to a program.
 //!
 //! Most names are tokio's, or std's. Outside of a runtime `spawn` and `sleep` panic, and a socket that has to wait

@@ -1,4 +1,5 @@
-//! A lock for tasks and threads. The core decides who holds the lock, and who gets it next: whoever has waited longest.
+//! A lock for tasks and threads. The executor's core decides who holds the lock, and who gets it next: whoever has
+//! waited longest.
 
 use crate::core::{Asked, Freed, LockCore};
 use crate::reactor::Slot;
@@ -12,14 +13,14 @@ use std::ops::{Deref, DerefMut};
 use std::pin::Pin;
 use std::task::{Context, Poll};
 
-/// A task or thread that waits for the lock, or holds it. The core's queue keeps a counted reference (an `Arc`) to the
-/// node, as a number.
+/// A task or thread that waits for the lock, or holds it. The queue of waiters stores a counted reference (an `Arc`) to
+/// this node, as a number.
 struct Node {
     granted: AtomicBool,
     slot: Slot,
 }
 
-/// A lock around a value, for tasks and threads. The guard of a lock may be held across `await`.
+/// A lock around a value, for tasks and threads. A task may keep the guard across an `await`.
 ///
 /// Waiters get the lock in the order in which they asked for it.
 ///
@@ -36,9 +37,9 @@ pub struct Lock<T: ?Sized> {
     value: UnsafeCell<T>,
 }
 
-// SAFETY: the value goes with the lock, and the core has one holder at a time.
+// SAFETY: whoever has the lock has the value, and only one task or thread has the lock at a time.
 unsafe impl<T: ?Sized + Send> Send for Lock<T> {}
-// SAFETY: the same; a shared lock gives the value to one holder at a time, on any thread.
+// SAFETY: as above; the holder, on whatever thread, is the only one with access to the value.
 unsafe impl<T: ?Sized + Send> Sync for Lock<T> {}
 
 impl<T> Lock<T> {
@@ -73,7 +74,7 @@ impl<T: ?Sized> fmt::Debug for Lock<T> {
 }
 
 impl<T: ?Sized> Lock<T> {
-    /// Waits for the lock, in the order of the requests. A future that is dropped while it waits leaves the queue.
+    /// Waits for the lock. The waiters get it in the order of their requests; dropping the future ends its wait.
     ///
     /// ```
     /// let lock = arachne::Lock::new(1);
@@ -110,11 +111,12 @@ impl<T: ?Sized> Lock<T> {
     fn free(&self, who: u64) {
         if let Freed::HandedOn(next) = self.core.free(who) {
             if next % 2 == 1 {
-                // The waiter is a `try_ask` that is just withdrawing its request: it will see that it holds the lock.
+                // The next waiter is in the middle of `try_ask`, which now finds that it has the lock; it needs no
+                // wake.
                 return;
             }
-            // SAFETY: a waiter leaves one count of its node's `Arc` with the core, for the holder that hands the lock
-            // on to the waiter.
+            // SAFETY: each waiter has left one count of its node's `Arc` in the queue. The holder that passes the lock
+            // on to the waiter takes over this count.
             let node = unsafe { Arc::from_raw(next as usize as *const Node) };
             node.granted.store(true, SeqCst);
             node.slot.wake();
@@ -168,7 +170,7 @@ impl<'a, T: ?Sized> Future for Locking<'a, T> {
                 Poll::Pending
             }
             Asked::Granted => {
-                // SAFETY: this is the count that was left above. The core has not kept it, as nobody had to wait.
+                // SAFETY: this is the count that was left above. The queue doesn't have it, since the lock was free.
                 drop(unsafe { Arc::from_raw(who) });
                 Poll::Ready(Guard { lock, who: who as usize as u64, _node: Some(node) })
             }
@@ -181,10 +183,10 @@ impl<T: ?Sized> Drop for Locking<'_, T> {
         if let Some(node) = self.node.take() {
             let who = Arc::as_ptr(&node);
             if self.lock.core.withdraw(who as usize as u64) {
-                // SAFETY: this is the count that the core's queue had; the waiter has left the queue.
+                // SAFETY: this is the count that was in the queue, which the waiter has left.
                 drop(unsafe { Arc::from_raw(who) });
             } else {
-                // The lock was handed to this waiter meanwhile, so this waiter must free it.
+                // This waiter got the lock before it could leave the queue, so it must free the lock.
                 self.lock.free(who as usize as u64);
             }
         }
@@ -203,7 +205,7 @@ impl<T: ?Sized> Drop for Locking<'_, T> {
 pub struct Guard<'a, T: ?Sized> {
     lock: &'a Lock<T>,
     who: u64,
-    /// Keeps the node alive, because the core knows the holder by the node's address.
+    /// Keeps the node allocated: its address is the name under which the lock is held.
     _node: Option<Arc<Node>>,
 }
 // SAFETY: the guard is the only access to the value, on whatever thread.

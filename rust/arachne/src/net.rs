@@ -1,7 +1,7 @@
 //! Sockets and other descriptors: a task that can't read or write yet waits for an event of the runtime's epoll.
 //!
-//! A socket belongs to the runtime in which it first waits. Once that runtime has ended, each wait for the socket
-//! fails, in any runtime; `from_std(socket.into_std()?)` makes a new socket from it.
+//! A socket belongs to the runtime in which it first had to wait. After that runtime has ended, each wait for the
+//! socket fails, in every runtime; `from_std(socket.into_std()?)` makes a new socket from it.
 //!
 //! Names are those of std. `bind` and `from_std` don't wait, so they aren't `async`. Reads and writes take `&self`, so
 //! tasks may share a socket (by an `Arc`, say). Any number of tasks may wait for one socket in its methods; an event
@@ -51,21 +51,23 @@ pub use unix::{UnixListener, UnixStream};
 #[derive(Clone)]
 struct Registered {
     shared: &'static Shared,
-    /// The count of the runtime's `Door`, which lets calls in only while the runtime exists: how often it had been
-    /// opened or closed. A later runtime that uses the same state has a different count.
+    /// How often the runtime's `Door` had been opened or closed when this entry was made. If the door's count is
+    /// another one, that runtime has ended.
     turns: u64,
     io: Arc<Io>,
     key: Key,
 }
 
-/// A descriptor and, after its first wait, its entry in a runtime's reactor (its epoll).
+/// A descriptor together with its entry in the epoll of a runtime. The entry is made when the descriptor first has to
+/// be waited for.
 struct Registration {
     fd: RawFd,
     at: once::Once<Registered>,
     registering: Mutex<()>,
 }
 
-/// The part of a future that waits until it can read or write a socket. Any number of futures may wait at once.
+/// The part of a future that waits until a socket can be read (or written, if `READS` is false). Any number of futures
+/// may wait for one socket.
 struct Waiting<'a, const READS: bool> {
     of: &'a Registration,
     key: u64,
@@ -102,7 +104,7 @@ impl Drop for Registration {
     }
 }
 
-/// A socket with its registration, which is dropped before the socket is closed.
+/// A socket with its entry in the epoll. The entry is dropped before the socket is closed.
 struct Source<S: AsRawFd> {
     of: Registration,
     socket: S,
@@ -152,10 +154,11 @@ mod once {
     }
 }
 
-/// Returns true if the task that polls now may read its socket. If not, the task must first return to its worker.
+/// Returns true if the task that is polled now may read its socket. If not, the task must first return to its worker,
+/// and may read in its next poll.
 ///
-/// A task may always read once per poll, and more often until its worker must check for events again. If `waker` isn't
-/// the task's own, as in a `block_on`, the result is true, because such a poll doesn't return to the worker.
+/// A task may read once per poll, and more often until its worker must check for events again. If `waker` isn't the
+/// task's own, as in a `block_on`, returns true, because such a poll doesn't return to the worker.
 #[inline]
 fn may_read(waker: &Waker) -> bool {
     Worker::with(|worker| match worker {
@@ -170,12 +173,12 @@ impl<S: AsRawFd> Source<S> {
         Source { of, socket }
     }
 
-    /// Returns the socket, after removing it from its reactor (its epoll).
+    /// Removes the socket from its runtime's epoll, and returns it.
     fn into_inner(self) -> S {
         self.socket
     }
 
-    /// Returns the socket's entry in its reactor (its epoll). The first call makes the entry, in the current runtime.
+    /// Returns the socket's entry in its runtime's epoll. The first call makes the entry, in the current runtime.
     fn registered(&self) -> io::Result<&Registered> {
         let Registration { at, registering, .. } = &self.of;
         if let Some(at) = at.get() {
@@ -197,7 +200,8 @@ impl<S: AsRawFd> Source<S> {
         Waiting { of: &self.of, key: 0 }
     }
 
-    /// Repeats an operation until it returns anything but `WouldBlock`, and waits between the attempts; see `attempt`.
+    /// Attempts an operation until it returns anything but `WouldBlock`. Between two attempts it waits until the socket
+    /// is ready; see `attempt`.
     #[inline]
     fn wait<'a, const READS: bool, T>(
         &'a self,
@@ -214,8 +218,8 @@ impl<S: AsRawFd> Source<S> {
         })
     }
 
-    /// Polls the operation; see `attempt`. If several tasks poll one direction (reading or writing), only the last of
-    /// them is woken.
+    /// Makes one poll of an operation on the socket; see `attempt`. If several tasks poll one direction (reading or
+    /// writing), only the last of them is woken.
     #[inline]
     fn poll<T>(
         &self,
@@ -262,8 +266,8 @@ impl<S: AsRawFd> Source<S> {
         let mut untold = false;
         loop {
             if state & (ready | closed) == 0 {
-                // Registered before the state is read again: an event first changes the state, and then wakes whoever
-                // is registered.
+                // The waker is registered before the readiness is read again: an event first changes the readiness, and
+                // then wakes the registered wakers.
                 register(io, cx.waker());
                 state = io.state.load(SeqCst);
                 if state & (ready | closed) == 0 {
@@ -271,8 +275,8 @@ impl<S: AsRawFd> Source<S> {
                         let ended = io::Error::new(io::ErrorKind::Other, "the runtime of this socket has ended");
                         return Poll::Ready(Err(ended));
                     }
-                    // Once the runtime's end has begun, one attempt is made to read data whose event has not been
-                    // delivered yet.
+                    // After `shutdown_within` was called, one more attempt is made, to read data whose event has not
+                    // been delivered yet.
                     if untold || !reads || !at.shared.draining.has_begun() {
                         return Poll::Pending;
                     }
@@ -299,7 +303,7 @@ impl<S: AsRawFd> Source<S> {
     }
 }
 
-/// Looks up a host's addresses, on the runtime's blocking pool.
+/// Looks up the addresses of a host, on a thread for blocking work.
 ///
 /// ```
 /// # fn main() -> std::io::Result<()> {
@@ -316,11 +320,12 @@ pub async fn lookup_host(host: impl ToSocketAddrs + Send + 'static) -> io::Resul
     crate::spawn_blocking(move || host.to_socket_addrs().map(Iterator::collect)).await?
 }
 
-/// The backlog of a listener. std's is 128; a client that finds the backlog full tries again after a second.
+/// The backlog of a listener: the most connections that wait to be accepted. std's is 128; a client that finds the
+/// backlog full tries again after a second.
 const BACKLOG: i32 = 4096;
 
-/// Polls for a new connection of `listener`. Fails if the runtime's end has begun and all connections that had arrived
-/// by then are accepted.
+/// Polls for a new connection of `listener`. After `shutdown_within` was called, fails once all connections that had
+/// arrived by then are accepted.
 fn poll_accept<S: AsRawFd, T>(
     listener: &Source<S>,
     cx: &mut Context<'_>,
@@ -335,19 +340,19 @@ fn poll_accept<S: AsRawFd, T>(
             return polled;
         }
         if in_own_poll(cx.waker(), |worker| worker.put_off.get()) {
-            // The attempt was put off, and will be made in the next poll.
+            // The attempt was delayed: the task makes it in its next poll, for which it is woken here.
             cx.waker().wake_by_ref();
             return Poll::Pending;
         }
         if was_stopping {
-            // All connections that had arrived before the end are accepted.
+            // No connection is left of those that had arrived before `shutdown_within` was called.
             return Poll::Ready(Err(io::Error::new(io::ErrorKind::Other, "the runtime is about to end")));
         }
-        // The end has begun during the attempt, so one more attempt is made.
+        // `shutdown_within` was called during the attempt, so one more attempt is made.
     }
 }
 
-/// Waits for a new connection. The task is also woken when the runtime's end begins.
+/// Waits for a new connection. The task is also woken when `shutdown_within` is called.
 async fn accept<S: AsRawFd, T>(listener: &Source<S>, accept: impl Fn(&S) -> io::Result<T>) -> io::Result<T> {
     let (mut stopping, mut waiting) = (crate::drain::stopping(), listener.waiting());
     poll_fn(|cx: &mut Context<'_>| {
@@ -397,7 +402,7 @@ impl<S: AsRawFd> Async<S> {
         Ok(Async(Source::new(source)))
     }
 
-    /// Returns the inner value, for calls that don't wait; see the example at `new`.
+    /// Returns the wrapped value. Use it for calls that don't wait; see the example at `new`.
     pub fn get_ref(&self) -> &S {
         &self.0.socket
     }
@@ -416,7 +421,7 @@ impl<S: AsRawFd> Async<S> {
         self.0.into_inner()
     }
 
-    /// Calls `attempt` whenever there may be something to read, until the call returns anything but `WouldBlock`.
+    /// Calls `attempt` now and whenever the descriptor may be readable, until it returns anything but `WouldBlock`.
     ///
     /// See the example at `Async`.
     pub async fn read_with<T>(&self, attempt: impl FnMut(&S) -> io::Result<T>) -> io::Result<T> {
@@ -424,7 +429,7 @@ impl<S: AsRawFd> Async<S> {
         self.0.wait::<true, _>(0, attempt, |_| 0).await
     }
 
-    /// Calls `attempt` whenever there may be room to write, until the call returns anything but `WouldBlock`.
+    /// Calls `attempt` now and whenever the descriptor may be writable, until it returns anything but `WouldBlock`.
     ///
     /// ```
     /// use std::{io::{Read, Write}, os::unix::net::UnixStream};
@@ -501,7 +506,7 @@ macro_rules! socket {
                 Ok($name(Source::new(socket)))
             }
 
-            /// Returns the socket as std's type; it stays non-blocking; see the example at `from_std`.
+            /// Returns the socket as std's type. The socket stays non-blocking; see the example at `from_std`.
             pub fn into_std(self) -> io::Result<$std> {
                 Ok(self.0.into_inner())
             }
@@ -521,7 +526,7 @@ macro_rules! socket {
             }
         }
 
-        /// Like `AsRawFd`.
+        /// Gives access to socket options, as `AsRawFd` does.
         impl AsFd for $name {
             fn as_fd(&self) -> BorrowedFd<'_> {
                 self.0.socket.as_fd()
@@ -578,7 +583,7 @@ macro_rules! stream {
                 self.0.poll(cx, false, bytes.len(), |mut socket| socket.write(bytes), |&n| n)
             }
 
-            /// Polls a write of several pieces in a row; see `poll_write`.
+            /// Polls a write of several buffers, one after the other; see `poll_write`.
             ///
             /// ```
             /// # fn main() -> std::io::Result<()> {
@@ -594,7 +599,7 @@ macro_rules! stream {
             }
 
             /// Waits until there are bytes to read, and reads at most `buffer.len()` of them. Returns the number of
-            /// bytes read, which is 0 at the connection's end.
+            /// bytes read. It is 0 if the other side has ended the connection.
             ///
             /// ```
             /// # fn main() -> std::io::Result<()> {
@@ -634,7 +639,7 @@ macro_rules! stream {
                 Ok(())
             }
 
-            /// Waits until there is room, and writes at least one of the bytes. Returns the number of bytes written.
+            /// Waits until bytes can be written, and writes at least one of them. Returns the number of bytes written.
             ///
             /// ```
             /// # fn main() -> std::io::Result<()> {

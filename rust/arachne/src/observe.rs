@@ -1,6 +1,6 @@
-//! Records the states of a runtime's tasks and how long ready tasks have waited, and calls hooks.
+//! Records the state of each task of a runtime, and how long ready tasks have waited for a worker. Also calls hooks.
 //!
-//! A runtime built without `Builder::observed` records none of this, and makes only one test per step of a task.
+//! If a runtime is built without `Builder::observed`, nothing is recorded: each step of a task only tests for that.
 
 use crate::core::Job;
 use crate::shared::Shared;
@@ -12,10 +12,11 @@ use std::panic::Location;
 use std::ptr;
 use std::time::Duration;
 
-/// Functions that the runtime calls at the steps of tasks, for a tracing library, say; see `Builder::hooks`.
+/// Functions that the runtime calls when a task is spawned, polled, woken or ended. A tracing library can use them; see
+/// `Builder::hooks`.
 ///
-/// Each hook is called on the thread that makes the step, and must not panic. `_id` is a number that no other task of
-/// the runtime ever has.
+/// Each function is called on the thread that spawns, polls, wakes or ends the task, and must not panic. `_id` is a
+/// number that no other task of the runtime ever has.
 ///
 /// ```
 /// use std::sync::{Arc, atomic::{AtomicUsize, Ordering::SeqCst}};
@@ -36,28 +37,28 @@ pub trait Hooks: Send + Sync {
     fn spawned(&self, _about: &About) {}
     /// Called when a poll of this task begins.
     fn poll_begins(&self, _id: u64, _about: &About) {}
-    /// Called when the poll is over. If the task has ended, a call of `ended` follows.
+    /// Called when a poll of this task is over. If the task has ended, a call of `ended` follows.
     fn poll_ends(&self, _id: u64) {}
-    /// Called when the waiting task in the slot with index `_place` was made ready.
+    /// Called when a task that waited was made ready. `_place` is the index of its task slot.
     fn woken(&self, _place: usize) {}
     /// Called when the task has ended on a worker.
     fn ended(&self, _id: u64) {}
 }
 
-/// The number of buckets of the histogram; see `Stats::ready_to_taken`.
+/// The number of elements of the histogram that `Stats::ready_to_taken` has.
 pub(crate) const HISTOGRAM: usize = 24;
 
 #[derive(Default)]
 struct Record {
     spawned: AtomicPtr<Location<'static>>,
     label: AtomicPtr<Label>,
-    /// The core's name of the slot's task (its slot and generation) plus one, or 0 if the slot has no task.
+    /// The name of the slot's task (its slot and generation) plus one; 0 if there is no task in the slot.
     name: AtomicU64,
-    /// The time at which the task began to wait, or 0 if it doesn't wait.
+    /// The time (in nanoseconds of the monotonic clock) at which the task began to wait; 0 if it doesn't wait.
     waits_since: AtomicU64,
-    /// The time at which the task became ready, or 0 if it isn't ready.
+    /// The time (in nanoseconds) at which the task became ready; 0 if it isn't ready.
     ready_since: AtomicU64,
-    /// The time at which the task's poll began, or 0 if it isn't polled now.
+    /// The time (in nanoseconds) at which the current poll of the task began; 0 if it isn't polled now.
     runs_since: AtomicU64,
 }
 
@@ -68,19 +69,19 @@ pub(crate) struct Observer {
     histogram: [AtomicU64; HISTOGRAM],
 }
 
-/// A task's current state; see the example at `Runtime::tasks`.
+/// A task's current state: it waits, is ready or runs. See the example at `Runtime::tasks`.
 #[derive(Clone, Copy, PartialEq, Eq, Debug)]
 #[non_exhaustive]
 pub enum Doing {
     /// The task waits to be woken.
     Waits,
-    /// The task waits for a worker.
+    /// The task is ready to run, and waits until a worker takes it.
     Ready,
     /// A worker polls the task now.
     Runs,
 }
 
-/// A task in progress; see the example at `Runtime::tasks`.
+/// A task that has not ended, as listed by `Runtime::tasks`; see the example there.
 #[derive(Clone, Copy, Debug)]
 #[non_exhaustive]
 pub struct TaskInfo {
@@ -90,7 +91,7 @@ pub struct TaskInfo {
     pub about: About,
     /// The task's current state.
     pub doing: Doing,
-    /// The time for which the task has been in that state.
+    /// The time since the task came into the state `doing`.
     pub age: Duration,
 }
 
@@ -129,7 +130,7 @@ impl Observer {
         }
     }
 
-    /// Records that the job's poll begins.
+    /// Records that a poll of the job's task begins, and calls the hook for it.
     #[inline]
     pub(crate) fn begins(&self, job: &Job, about: &About) {
         if self.is_on() {
@@ -153,7 +154,7 @@ impl Observer {
         self.tell(|hooks| hooks.poll_begins(job.name, about));
     }
 
-    /// Records that the job's poll has ended.
+    /// Records that the poll of the job's task is over. `ended` is true if the task has ended.
     #[inline]
     pub(crate) fn stops(&self, job: &Job, ended: bool) {
         if self.is_on() {
@@ -185,7 +186,7 @@ impl Observer {
         std::array::from_fn(|i| self.histogram[i].load(Relaxed))
     }
 
-    /// Returns all tasks in progress, each with its state at the moment when the list reaches it.
+    /// Returns all tasks that have not ended. Each is listed with the state that it has while the list is made.
     pub(crate) fn tasks(&self) -> Vec<TaskInfo> {
         let now = now();
         self.records.iter().filter_map(|record| record.info(now)).collect()
@@ -214,7 +215,8 @@ impl Record {
 }
 
 impl Shared {
-    /// Returns the task that a worker polls now: its name in the core, and its description.
+    /// Returns the name (slot and generation) of the task that the worker with this number polls now, and its
+    /// description.
     pub(crate) fn running(&self, worker: usize) -> Option<(u64, About)> {
         let worker = &self.workers[worker].0;
         let name = worker.running.load(Relaxed);

@@ -1,12 +1,12 @@
-//! The epoll of a runtime: the events of its sockets, and the waking of the worker that sleeps there.
+//! The epoll of a runtime, which reports the events of its sockets. A worker can sleep there, until it is woken.
 //!
-//! Only one worker at a time waits in the epoll. The tasks that these events wake go into the local queues of the
-//! worker that waited, in the order of the events. So a worker asks for only as many events as its local queues have
-//! room for (`asks` in worker.rs): at most 8, and fewer if 8 polls take more than about 100 us. A worker that is the
-//! only active one asks for more events. The other events stay in the kernel for the next worker that polls the epoll,
-//! so that they aren't stuck with a worker that loses its processor; if there may be more events, the worker wakes a
-//! sleeping one. A worker that has ready jobs of its own polls the epoll too; the tasks that it wakes then become ready
-//! in their blocks, unless it is the only active worker.
+//! Only one worker at a time waits in the epoll. The tasks that wait for the events that it gets go into its local
+//! queues, in the order of the events. So a worker asks for only as many events as its local queues have room for
+//! (`asks` in worker.rs): at most 8, and fewer if 8 polls of tasks take more than about 100 us. The only active worker
+//! asks for more. All other events stay in the kernel for the next worker that polls the epoll, so that they needn't
+//! wait for a worker that loses its processor; if there may be more events, the worker wakes a sleeping one. A worker
+//! that has ready jobs of its own polls the epoll too. The tasks that it wakes then become ready in their task slots,
+//! unless it is the only active worker.
 
 use crate::sync::atomic::{AtomicU64, AtomicUsize, Ordering::*};
 use crate::sync::{Arc, Condvar, Mutex};
@@ -22,15 +22,15 @@ pub(crate) const WRITE: u64 = 2;
 pub(crate) const READ_CLOSED: u64 = 4;
 pub(crate) const WRITE_CLOSED: u64 = 8;
 const TICK: u64 = 256;
-/// Stored instead of a task's name (its slot and generation) if a waker doesn't belong to a task of this runtime.
+/// Stored instead of a task's name (slot and generation) if a waker isn't that of a task of this runtime.
 const OTHER: u64 = NOBODY - 1;
 /// The epoll key of the eventfd that ends a wait.
 const WOKEN: u64 = 0;
 /// The most events that one poll of the epoll returns.
 pub(crate) const EVENTS: usize = 64;
 
-/// A waker that is registered for one event. A waker of a task of this runtime is kept in one word, without a lock. Any
-/// other waker is kept under a lock.
+/// A waker that waits for one event. For a task of this runtime, only the task's name is stored, in one word and
+/// without a lock. Any other waker is stored under a lock.
 pub(crate) struct Slot {
     table: usize,
     name: AtomicU64,
@@ -95,12 +95,12 @@ pub(crate) struct Io {
 /// The futures that wait for one direction (reading or writing) of a descriptor. An event wakes all of these futures.
 pub(crate) struct Waiters {
     table: usize,
-    /// The core's name of one task of this runtime that waits; it is accessed without a lock. The future of the task
-    /// with this name may have been dropped.
+    /// The name (slot and generation) of one task of this runtime that waits, stored without a lock. It may remain
+    /// after the task's future was dropped.
     first: AtomicU64,
-    /// The number of the other wakers.
+    /// The number of wakers in `others`.
     count: AtomicUsize,
-    /// The next key to give out, and the other wakers with their keys.
+    /// The key that the next waker gets, and the other wakers with their keys.
     others: Mutex<(u64, Vec<(u64, Waker)>)>,
 }
 
@@ -109,10 +109,10 @@ impl Waiters {
         Waiters { table, first: AtomicU64::new(NOBODY), count: AtomicUsize::new(0), others: Mutex::default() }
     }
 
-    /// Registers a future's waker. The caller must pass a `key` of 0 at first; the call sets it, and it stays the
-    /// future's key until `leave`.
+    /// Registers a future's waker. The caller must pass a `key` of 0 at first, and later the value that the previous
+    /// call has left in it.
     ///
-    /// The caller must read the descriptor's state after this call, because an event changes the state before it wakes.
+    /// The caller must read the descriptor's state after this call: an event first changes the state, and then wakes.
     #[inline]
     pub(crate) fn join(&self, key: &mut u64, waker: &Waker) {
         if *key == 0 {
@@ -189,7 +189,7 @@ impl Io {
         }
     }
 
-    /// Clears `bits` in the state, unless there was an event after `seen` was read. Returns the state after the call.
+    /// Clears `bits` in the state, unless an event came after the caller had read `seen`. Returns the new state.
     #[inline]
     pub(crate) fn clear(&self, seen: u64, bits: u64) -> u64 {
         match self.state.compare_exchange(seen, seen & !bits, SeqCst, SeqCst) {
@@ -225,15 +225,15 @@ impl Io {
     }
 }
 
-/// The descriptors that are registered, by key. A key contains a use count, so that a late event of a removed
-/// descriptor finds no descriptor.
+/// The registered descriptors, by key. Each use of an index has its own key, so a late event of a removed descriptor
+/// finds none.
 #[derive(Default)]
 struct Sources {
     all: Vec<(u32, Option<Arc<Io>>)>,
     free: Vec<u32>,
 }
 
-/// The events that one poll of the epoll returned. Events beyond the number asked for stay in the kernel, in order.
+/// The events that one call of epoll_wait has returned. All other events stay in the kernel, in their order.
 pub(crate) struct Found {
     events: [Event; EVENTS],
     count: usize,
@@ -261,13 +261,13 @@ impl Found {
 
 pub(crate) struct Reactor {
     epoll: RawFd,
-    /// The eventfd by which `notify` ends a wait. The eventfd stays raised until a waiter has seen it.
+    /// The eventfd by which `notify` ends a wait in the epoll. It stays raised until the worker that waits has seen it.
     event: RawFd,
     used: AtomicUsize,
     sources: Mutex<Sources>,
 }
 
-/// The number by which a reactor finds a descriptor: its index, and a count of the index's uses.
+/// The key of a descriptor in a reactor: an index, and how often that index was used before.
 #[derive(Clone, Copy)]
 pub(crate) struct Key(u64);
 
@@ -283,7 +283,7 @@ impl Reactor {
         self.used.load(Relaxed) != 0
     }
 
-    /// Ends the wait of the worker that waits in this epoll or, if none waits, the next wait.
+    /// Wakes the worker that waits in this epoll. If none waits, the next wait ends at once.
     pub(crate) fn notify(&self) {
         sys::raise(self.event);
     }
@@ -332,7 +332,7 @@ impl Reactor {
         io.as_ref().filter(|_| *uses as u64 == data >> 32).cloned()
     }
 
-    /// Wakes all tasks that wait for any descriptor, without an event.
+    /// Wakes all tasks that wait for any descriptor of this reactor, although there was no event.
     pub(crate) fn wake_all(&self) {
         let sources: Vec<_> = self.sources.lock().unwrap().all.iter().filter_map(|(_, io)| io.clone()).collect();
         for io in sources {
@@ -341,15 +341,15 @@ impl Reactor {
         }
     }
 
-    /// Returns at most `most` of the events that have occurred, without waiting.
+    /// Returns at most `most` of the events that have occurred. Doesn't wait.
     pub(crate) fn look(&self, most: usize) -> Found {
         Found::of(self.epoll, 0, most)
     }
 
     /// Waits for events or for `notify`, for at most `timeout` milliseconds (-1: for ever).
     ///
-    /// Only one worker at a time may wait. If the event of `notify` is beyond the `most` events asked for, the event
-    /// ends the next wait too.
+    /// Only one worker at a time may wait. If more than `most` events have occurred, the event of `notify` may not be
+    /// among the returned ones; then it ends the next wait, too.
     pub(crate) fn wait(&self, timeout: i32, most: usize) -> Found {
         let found = Found::of(self.epoll, timeout, most);
         if found.events[..found.count].iter().any(|event| event.data == WOKEN) {
@@ -358,7 +358,7 @@ impl Reactor {
         found
     }
 
-    /// Wakes the tasks that wait for the events `found`. Returns the number of descriptors that had an event.
+    /// Wakes the tasks that wait for the events `found`. Returns how many descriptors had an event.
     pub(crate) fn tell(&self, found: &Found) -> usize {
         let sockets = found.events[..found.count].iter().filter(|event| event.data != WOKEN);
         sockets
@@ -378,7 +378,7 @@ pub(crate) struct Bell {
 }
 
 impl Bell {
-    /// Ends the current wait or, if there is none, the next one.
+    /// Wakes the worker that sleeps on this bell. If it doesn't sleep, its next sleep ends at once.
     pub(crate) fn ring(&self) {
         *self.rung.lock().unwrap() = true;
         self.heard.notify_one();

@@ -23,11 +23,11 @@ use std::mem::ManuallyDrop;
 use std::panic::Location;
 use std::time::Duration;
 
-/// The most jobs that a worker may hold: the job that runs, the next job and a job that it displaces, the jobs in its
-/// local queue, and the stolen jobs.
+/// The most jobs (tasks) that a worker may hold at a time: the one that runs, the next one and one that takes its
+/// place, and those in the worker's two local queues.
 const HANDS: usize = 3 + crate::worker::HAND + crate::hand::FIRST;
 
-/// The function of `Builder::on_worker_start`, which each thread that polls tasks calls before its first task.
+/// The closure given to `Builder::on_worker_start`. Each thread that polls tasks calls it before its first task.
 type Starts = Arc<dyn Fn() + Send + Sync>;
 
 /// Configures a runtime, and builds it.
@@ -88,11 +88,11 @@ impl Builder {
         }
     }
 
-    /// Sets the number of task slots, which is the most tasks in progress at a time: 65,536 by default, at most
-    /// 1,048,576.
+    /// Sets the number of task slots, which is the most tasks that can run or wait at a time. The default is 65,536,
+    /// the maximum 1,048,576.
     ///
-    /// The number is rounded up so that each worker has a multiple of 4,096 slots. Tasks beyond this number wait in a
-    /// queue until another task ends; `try_spawn` refuses them instead.
+    /// The number is rounded up so that each worker has a multiple of 4,096 slots. A task for which no slot is free
+    /// waits in a queue until another task ends; `try_spawn` returns an error instead.
     ///
     /// ```
     /// let runtime = arachne::Builder::new(1).places(4096).build().unwrap();
@@ -122,10 +122,10 @@ impl Builder {
     /// Shares the machine's processors with other processes, through the daemon (`rust/arbiter`) that listens at
     /// `path`.
     ///
-    /// The daemon, called the *arbiter*, grants processors, and each worker waits until it has one; the first worker
-    /// also runs without. The runtime asks the arbiter for as many processors as its policy wants or, without a policy,
-    /// for one per worker. `priority` is from 0 (served first) to 7. The runtime gets up to `reserved` cores (at most
-    /// 65,535) before other runtimes get more than their own reserves.
+    /// The daemon, called the *arbiter*, grants processors, and each worker waits until it has one; only the first
+    /// worker also runs without. The runtime asks the arbiter for as many processors as its policy wants or, without a
+    /// policy, for one per worker. `priority` is from 0 (served first) to 7. Until the runtime has `reserved`
+    /// processors (at most 65,535), other runtimes get no more than their own reserves.
     ///
     /// If no arbiter listens at `path`, or if the arbiter refuses, the runtime works as without this call, and tries
     /// again each second.
@@ -140,7 +140,8 @@ impl Builder {
         self
     }
 
-    /// If `pin` is true, keeps each worker on a processor of its own, unless there is an arbiter, which then does that.
+    /// If `pin` is true, keeps each worker on a processor of its own. With an arbiter this has no effect, as the
+    /// arbiter does that.
     ///
     /// ```
     /// let runtime = arachne::Builder::new(2).pinned(true).build().unwrap();
@@ -200,7 +201,8 @@ impl Builder {
         self
     }
 
-    /// Like `observed`, and also calls `hooks` at each step of each task; see `Hooks`.
+    /// Records as `observed` does, and also calls the functions of `hooks` when tasks are spawned, polled, woken or
+    /// ended; see `Hooks`.
     ///
     /// ```
     /// struct Prints;
@@ -262,8 +264,8 @@ impl Builder {
     /// Starts the workers, and returns the runtime.
     ///
     /// Fails if memory, descriptors or threads are refused, or if the process has 32 runtimes already. A runtime that
-    /// has ended still counts, until a runtime with the same number of cores and places and the same `observed` reuses
-    /// its state.
+    /// has ended still counts until another one reuses its memory, which needs the same number of workers and of task
+    /// slots and the same `observed`.
     ///
     /// ```
     /// # fn main() -> std::io::Result<()> {
@@ -285,7 +287,7 @@ impl Builder {
             shared.arbiter.open(self.cores)?;
         }
         let cpus = if self.pin && !shares { sys::affinity() } else { Vec::new() };
-        // The watcher calls the core too, so it gets handles of its own, the last ones of the crew.
+        // The watcher calls the core too, so it needs handles of its own: the last ones made here.
         let crew = shared.root.lock().unwrap().crew(self.cores + self.slow.is_some() as usize, HANDS);
         let mut crew = crew.ok_or(io::ErrorKind::OutOfMemory)?;
         let watches = crew.drain(self.cores..).next();
@@ -333,7 +335,7 @@ impl Builder {
     }
 }
 
-/// The counts of a runtime; see `Runtime::stats`.
+/// The counts of a runtime since it began; see `Runtime::stats`.
 ///
 /// ```
 /// let runtime = arachne::Runtime::new(2);
@@ -345,10 +347,10 @@ impl Builder {
 #[derive(Clone, Debug, Default)]
 #[non_exhaustive]
 pub struct Stats {
-    /// The number of active cores (workers that may run tasks). With an arbiter it is at least 1, even if the first
-    /// worker has no core of its own.
+    /// The number of active workers (those that may run tasks). With an arbiter it is at least 1, even if the first
+    /// worker has no processor of its own.
     pub active: usize,
-    /// True if an arbiter decides how many cores may be active.
+    /// True if an arbiter decides now how many workers may be active.
     pub arbiter: bool,
     /// The number of polls of tasks since the runtime began.
     pub polls: u64,
@@ -360,7 +362,7 @@ pub struct Stats {
     pub parks: u64,
     /// The number of tasks that had to wait for a free task slot.
     pub queued: u64,
-    /// The number of times that the policy asked for a core.
+    /// The number of times that the policy asked for one more core.
     pub adds: u64,
     /// The number of times that the policy gave a core back.
     pub removes: u64,
@@ -380,7 +382,7 @@ pub struct Stats {
     pub ready_to_taken: Vec<u64>,
 }
 
-/// The counts of one worker; see `Stats::workers`.
+/// The counts of one worker since the runtime began; see `Stats::workers`.
 ///
 /// ```
 /// let runtime = arachne::Runtime::new(1);
@@ -443,7 +445,8 @@ impl Runtime {
         Builder::new(cores).build().expect("a runtime")
     }
 
-    /// Spawns a task on this runtime, from any thread. Returns a handle, which is a future of the task's output.
+    /// Spawns a task on this runtime; any thread may call this. Returns a handle, which is a future of the task's
+    /// output.
     ///
     /// ```
     /// let runtime = arachne::Runtime::new(2);
@@ -524,7 +527,7 @@ impl Runtime {
         self.shared.try_spawn_task(future, About { spawned: Location::caller(), name: None })
     }
 
-    /// Returns a handle that can spawn from any thread, and may outlive the runtime.
+    /// Returns a handle on this runtime, with which any thread can spawn tasks, and which may outlive the runtime.
     ///
     /// ```
     /// let runtime = arachne::Runtime::new(1);
@@ -537,9 +540,9 @@ impl Runtime {
         Handle::of(self.shared)
     }
 
-    /// Runs a future on the calling thread, with this runtime for its spawns, sockets and timers.
+    /// Runs a future on the calling thread. Its spawns, sockets and timers belong to this runtime.
     ///
-    /// Within a task the call blocks the worker; see the function `block_on`.
+    /// In a task use `await` instead: this call would block the task's worker. See the function `block_on`.
     ///
     /// ```
     /// let runtime = arachne::Runtime::new(2);
@@ -550,7 +553,7 @@ impl Runtime {
         entered(self.shared, || block_on(future))
     }
 
-    /// Calls `f` on this thread, with this runtime for the spawns, sockets and timers of `f`.
+    /// Calls `f` on this thread. The spawns, sockets and timers of `f` belong to this runtime.
     ///
     /// ```
     /// let runtime = arachne::Runtime::new(1);
@@ -561,7 +564,7 @@ impl Runtime {
         entered(self.shared, f)
     }
 
-    /// Returns what the workers have counted until now.
+    /// Returns what the workers have counted since the runtime began.
     ///
     /// ```
     /// let runtime = arachne::Runtime::new(2);
@@ -604,8 +607,8 @@ impl Runtime {
         }
     }
 
-    /// Returns all tasks in progress, with their current states. The list is empty unless the runtime is observed
-    /// (`Builder::observed` or `Builder::hooks`).
+    /// Returns all tasks that have not ended, with their current states. The list is empty unless the runtime was built
+    /// with `Builder::observed` or `Builder::hooks`.
     ///
     /// ```
     /// let runtime = arachne::Builder::new(1).observed().build().unwrap();
@@ -623,7 +626,7 @@ impl Runtime {
         self.shared.observer.tasks()
     }
 
-    /// From now on, writes the list of `tasks` to the standard error stream whenever the process gets `signal` (10 is
+    /// Makes the process write the list of `tasks` to its standard error stream whenever it gets `signal` (10 is
     /// SIGUSR1).
     ///
     /// ```no_run
@@ -665,8 +668,8 @@ impl Runtime {
         drop(self);
     }
 
-    /// Ends the runtime, as `shutdown` does. If `until` is given, returns at that time even if work on the blocking
-    /// pool still runs.
+    /// Ends the runtime as `shutdown` does. If `until` is given, returns at that time at the latest, even if blocking
+    /// work still runs.
     pub(crate) fn end(&mut self, until: Option<Instant>) {
         if self.ended {
             return;
@@ -690,8 +693,8 @@ impl Runtime {
             end_spawned(shared);
             if left().is_zero() {
                 shared.door.close();
-                // Another thread waits for the blocking work that still runs, and then gives the state back. If no
-                // thread can be started, the state is never used again.
+                // Another thread waits for the blocking work that still runs, and then lets a later runtime reuse this
+                // runtime's state. If no thread can be started, the state is never used again.
                 let _ = thread::Builder::new().name("arachne-end".into()).spawn(move || end_later(shared));
                 return;
             }
@@ -705,8 +708,8 @@ impl Runtime {
 /// The time between two searches for tasks that blocking work has spawned since the runtime's end.
 const LOOK: Duration = Duration::from_millis(10);
 
-/// Waits for the blocking work that outlives its runtime. The runtime's state is given back, for use by a later
-/// runtime, only after this wait.
+/// Waits until the blocking work that outlives its runtime has ended. Only then may a later runtime reuse the state of
+/// this one.
 fn end_later(shared: &'static Shared) {
     while !shared.blocking.wait_for_end(LOOK) {
         end_spawned(shared);
@@ -715,7 +718,7 @@ fn end_later(shared: &'static Shared) {
     shared.give();
 }
 
-/// Ends the tasks that blocking work has spawned since the runtime's end, since the work may wait for them.
+/// Ends the tasks that blocking work has spawned after the runtime's end, since that work may wait for them.
 fn end_spawned(shared: &'static Shared) {
     if shared.live() != 0 {
         entered(shared, || end_all(shared));
@@ -727,7 +730,7 @@ impl Drop for Runtime {
         if self.ended || !is_own(self.shared) {
             return self.end(None);
         }
-        // A thread can't join itself. If no other thread can be started, the runtime isn't ended, and runs on.
+        // A thread can't join itself. If no other thread can be started, the runtime isn't ended: its workers run on.
         let threads = std::mem::take(&mut self.threads);
         let rest = ManuallyDrop::new(Runtime { shared: self.shared, threads, ended: self.ended });
         let ends = move || drop(ManuallyDrop::into_inner(rest));
@@ -735,7 +738,8 @@ impl Drop for Runtime {
     }
 }
 
-/// Aborts the process if a panic drops this value: a panic in a worker's own loop would lose the jobs that it holds.
+/// Aborts the process if it is dropped by a panic. A panic in a worker's own loop would lose the jobs that the worker
+/// holds.
 struct EndsTheProcess;
 impl Drop for EndsTheProcess {
     fn drop(&mut self) {
@@ -759,7 +763,7 @@ fn end_all(shared: &'static Shared) {
     }
 }
 
-/// Ends the tasks in the queue, which never got a task slot.
+/// Ends the tasks that wait in the queue and never got a task slot.
 fn end_queued(shared: &'static Shared) {
     loop {
         let raw = match shared.queue.lock().unwrap().pop_front() {

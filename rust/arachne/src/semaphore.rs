@@ -1,4 +1,4 @@
-//! A semaphore, whose permits are given in the order of the requests. Names and results are tokio's.
+//! A semaphore that gives its permits in the order of the requests. Its names and results are those of tokio's.
 
 use crate::reactor::Slot;
 use crate::shared::here;
@@ -23,7 +23,7 @@ struct State {
     line: VecDeque<Arc<Node>>,
 }
 
-/// A number of permits, which tasks take and give back.
+/// A number of permits that tasks can take and give back. A task that wants more than there are waits.
 ///
 /// ```
 /// use std::sync::Arc;
@@ -108,7 +108,7 @@ impl Semaphore {
         Semaphore { state: Mutex::new(State { permits, ..State::default() }) }
     }
 
-    /// Returns the number of available permits, even if a task waits for more than that; see the example at `new`.
+    /// Returns how many permits are left, even if a task waits for more than that; see the example at `new`.
     #[must_use]
     pub fn available_permits(&self) -> usize {
         self.state.lock().unwrap().permits
@@ -127,7 +127,8 @@ impl Semaphore {
         self.acquire_many(1)
     }
 
-    /// Waits for `wants` permits at once, in the order of the requests. Fails if the semaphore is closed.
+    /// Waits until it can take `wants` permits together, in the order of the requests. Fails if the semaphore is
+    /// closed.
     ///
     /// ```
     /// let permits = arachne::Semaphore::new(5);
@@ -156,12 +157,12 @@ impl Semaphore {
         Ok(OwnedSemaphorePermit { semaphore: self, count: wants as usize })
     }
 
-    /// Takes a permit if one is available and nobody waits; see the example at `TryAcquireError`.
+    /// Takes a permit if one is left and no task waits for permits; see the example at `TryAcquireError`.
     pub fn try_acquire(&self) -> Result<SemaphorePermit<'_>, TryAcquireError> {
         self.try_acquire_many(1)
     }
 
-    /// Takes `wants` permits if they are available and nobody waits; see the example at `TryAcquireError`.
+    /// Takes `wants` permits if they are left and no task waits for permits; see the example at `TryAcquireError`.
     pub fn try_acquire_many(&self, wants: u32) -> Result<SemaphorePermit<'_>, TryAcquireError> {
         let count = wants as usize;
         self.take(count).map(|()| SemaphorePermit { semaphore: self, count })
@@ -203,7 +204,7 @@ impl Semaphore {
         Ok(())
     }
 
-    /// Adds `count` permits, and wakes the waiting tasks for which there are enough permits now.
+    /// Adds `count` permits, and wakes the waiting tasks whose requests can be served now.
     ///
     /// ```
     /// let permits = std::sync::Arc::new(arachne::Semaphore::new(0));
@@ -227,9 +228,9 @@ impl Semaphore {
         self.grant(state);
     }
 
-    /// Closes the semaphore: every request for permits, waiting or later, gets an error.
+    /// Closes the semaphore. Tasks that wait for permits get an error, and so do later requests.
     ///
-    /// Permits that were given stay valid.
+    /// Permits that tasks already have stay valid.
     ///
     /// ```
     /// let permits = arachne::Semaphore::new(1);
@@ -250,8 +251,8 @@ impl Semaphore {
         self.state.lock().unwrap().closed
     }
 
-    /// Gives permits to the first waiters, as long as there are enough, and wakes these waiters after the lock is
-    /// released.
+    /// Gives the permits in `state` to the first waiters, as long as they suffice, releases the lock, and then wakes
+    /// these waiters.
     fn grant(&self, mut state: crate::sync::MutexGuard<'_, State>) {
         let mut granted = Vec::new();
         while state.line.front().map_or(false, |node| node.wants <= state.permits) {
@@ -375,7 +376,8 @@ macro_rules! permit {
         }
 
         impl $($permit)* {
-            /// Drops this value without giving its permits back; see the example at `SemaphorePermit`.
+            /// Drops this value, but keeps its permits from the semaphore for ever; see the example at
+            /// `SemaphorePermit`.
             pub fn forget(mut self) {
                 self.count = 0;
             }

@@ -37,44 +37,46 @@ const NO_TABLE: AtomicPtr<Shared> = AtomicPtr::new(ptr::null_mut());
 static ALL: [AtomicPtr<Shared>; TABLES] = [NO_TABLE; TABLES];
 /// The number of `Shared` made so far, and those of them that no runtime uses now.
 ///
-/// A `Shared` is never freed, because a waker may be kept for ever.
+/// A `Shared` is never freed, because a program may keep a waker for ever.
 static POOL: Mutex<(usize, Vec<&'static Shared>)> = Mutex::new((0, Vec::new()));
 
-/// The state that a runtime's kernel threads share: the core, the epoll, the workers, and which of them sleep.
+/// The state that a runtime's kernel threads share: the job table, the epoll, the workers, and which of them sleep.
 pub(crate) struct Shared {
     pub(crate) table: usize,
     pub(crate) root: Mutex<Root>,
     pub(crate) workers: Box<[Line<Worker>]>,
     pub(crate) reactor: Reactor,
-    /// The worker that waits in the epoll, or `NO_ONE`.
+    /// The number of the worker that waits in the epoll; `NO_ONE` if none waits there.
     pub(crate) waits: Line<AtomicUsize>,
-    /// The deputy, or `NO_ONE`: the worker that polls the epoll now and then while the worker in `waits` runs tasks.
+    /// The number of the *deputy*, the worker that polls the epoll now and then while the worker in `waits` runs tasks;
+    /// `NO_ONE` if there is none.
     pub(crate) deputy: Line<AtomicUsize>,
-    /// The time at which a worker that runs tasks last polled the epoll.
+    /// The time, in nanoseconds, at which a worker that runs tasks last polled the epoll.
     pub(crate) looked: Line<AtomicU64>,
     /// Milliseconds between two checks of the other workers by the *deputy*, the worker that polls the epoll now and
     /// then.
     pub(crate) rests: AtomicI32,
     /// Milliseconds between two checks of the other workers by the worker that waits in the epoll.
     pub(crate) pauses: AtomicI32,
-    /// Nanoseconds between two checks of the first worker by the second, if only the first has a core; else 0.
+    /// Nanoseconds between two checks of the first worker by the second, while only the first has a processor;
+    /// otherwise 0.
     pub(crate) covers: Line<AtomicU64>,
-    /// For each shard (64 blocks of task slots), a bit mask of its blocks that may have a free slot.
+    /// For each shard (64 blocks of 64 task slots), a bit mask of its blocks that may have a free slot.
     pub(crate) roomy: Box<[Line<AtomicU64>]>,
-    /// For each task slot, the core's name of the last task that waited there, so that this task can be ended with the
-    /// runtime.
+    /// For each task slot, the name (slot and generation) of the last task that waited there. The runtime's end finds
+    /// the waiting tasks by these names.
     pub(crate) names: Box<[AtomicU64]>,
-    /// A bit mask of the workers that sleep. The mask only serves to choose which worker to wake.
+    /// A bit mask of the workers that sleep. It is used only to choose which worker to wake.
     pub(crate) sleepers: Line<AtomicU64>,
-    /// The number of workers that search for work. The number only serves to decide whether to wake another worker.
+    /// The number of workers that search for work. It is used only to decide if another worker must be woken.
     pub(crate) searching: Line<AtomicUsize>,
-    /// The number of active workers.
+    /// The number of workers that may run tasks: the first `active` ones.
     pub(crate) active: Line<AtomicUsize>,
     /// Tasks that wait for a free task slot, and have not begun.
     pub(crate) queue: Mutex<VecDeque<Raw>>,
     /// The number of tasks in `queue`.
     pub(crate) queued: Line<AtomicUsize>,
-    /// True if no task in `queue` can get a slot until another task ends.
+    /// True if no task in `queue` can get a task slot before another task ends.
     pub(crate) clogged: AtomicBool,
     pub(crate) stop: AtomicBool,
     pub(crate) next_home: AtomicUsize,
@@ -86,10 +88,11 @@ pub(crate) struct Shared {
     pub(crate) door: Door,
     /// The number of tasks that were spawned by threads that are not workers.
     pub(crate) spawned: Line<AtomicU64>,
-    /// Background tasks, for which an orderly end doesn't wait: the number spawned, and the number of their futures
-    /// that were dropped.
+    /// Two counts of background tasks, for which `shutdown_within` doesn't wait: those that were spawned, and those
+    /// whose future was dropped.
     pub(crate) background: (AtomicU64, AtomicU64),
-    /// The arbiter by which processes share the machine's cores, if this runtime has one.
+    /// The runtime's connections to an arbiter, by which processes share the machine's processors; unused without an
+    /// arbiter.
     pub(crate) arbiter: Client,
     pub(crate) counts: Counts,
 }
@@ -110,20 +113,21 @@ pub(crate) struct Worker {
     pub(crate) bell: Bell,
     pub(crate) hand: Hand,
     pub(crate) timers: Timers,
-    /// True while the worker's core is given back, and the condition variable on which the worker then waits.
+    /// True while the worker's core is given back to the policy or the arbiter. The worker then waits on the condition
+    /// variable.
     pub(crate) given_back: (Mutex<bool>, Condvar),
-    /// True if the worker has made all jobs in its local queues ready, and waits for its core.
+    /// True if the worker has no core, and has made all jobs in its local queues ready for other workers.
     pub(crate) away: AtomicBool,
-    /// The shards (64 blocks of 64 task slots each) whose jobs the worker runs. To the core, each shard has a worker
-    /// number: the shard's index modulo `NUMBERS`.
+    /// The shards (64 blocks of 64 task slots each) whose jobs this worker runs. In the calls of the core, a shard is
+    /// named by its index modulo `NUMBERS`.
     pub(crate) shards: Box<[usize]>,
-    /// The number of the worker's shards (groups of task slots), counted from the first, that have ever had a task.
-    /// This number only grows. Searches for jobs leave out the shards beyond this number.
+    /// The number of the worker's shards (groups of 4,096 task slots), counted from the first, that have ever had a
+    /// task. The number only grows. Searches for jobs skip the other shards.
     pub(crate) used: AtomicUsize,
     /// The index of the block (of 64 task slots) in which the next task gets its slot, if the block has a free one.
     pub(crate) roomy: Line<AtomicUsize>,
-    /// The rights to park, one for each worker number of this worker's shards (their indexes modulo `NUMBERS`). Any
-    /// thread that runs the jobs of these shards takes the lock.
+    /// The core's handles by which the worker asks if it may sleep, one for each shard number (index modulo `NUMBERS`)
+    /// of its shards. Another thread that runs this worker's jobs uses them too, so there is a lock.
     pub(crate) parking: Mutex<Vec<Parking>>,
     pub(crate) polls: AtomicU64,
     pub(crate) spawned: AtomicU64,
@@ -131,22 +135,22 @@ pub(crate) struct Worker {
     pub(crate) takes: AtomicU64,
     pub(crate) wakes: AtomicU64,
     pub(crate) parks: AtomicU64,
-    /// The number of times that the worker has counted its ready jobs, for the policy.
+    /// How often the worker has counted its ready jobs for the policy.
     pub(crate) scans: AtomicU64,
-    /// The sum of all these counts of ready jobs.
+    /// The sum of the ready jobs in all the counts of `scans`.
     pub(crate) runnable: AtomicU64,
-    /// The nanoseconds for which the worker had no work.
+    /// For how many nanoseconds the worker had no work, since the runtime began.
     pub(crate) idle: AtomicU64,
-    /// The time at which the worker ran out of work; 0 if it has work.
+    /// The time, in nanoseconds, at which the worker ran out of work; 0 if it has work.
     pub(crate) idle_since: AtomicU64,
-    /// The file `schedstat` in `/proc` of the worker's thread: for how long the thread ran, and for how long it waited
-    /// for a processor.
+    /// The file `schedstat` of the worker's thread in `/proc`: it shows for how long the thread ran, and for how long
+    /// it waited for a processor.
     pub(crate) account: Mutex<Option<File>>,
-    /// For the watcher of slow polls: the core's name of the task that is polled now.
+    /// The name (slot and generation) of the task that is polled now. The watcher of slow polls reads it.
     pub(crate) running: AtomicU64,
-    /// For the watcher: the line of code that spawned that task.
+    /// The line of code that spawned the task in `running`. The watcher of slow polls reads it.
     pub(crate) site: AtomicPtr<Location<'static>>,
-    /// For the watcher: the label (the name given by the program) of that task.
+    /// The label (the name given by the program) of the task in `running`. The watcher of slow polls reads it.
     pub(crate) label: AtomicPtr<Label>,
 }
 
@@ -185,7 +189,7 @@ impl Worker {
         }
     }
 
-    /// Records the task whose poll begins, so that the watcher can report it.
+    /// Records which task this worker begins to poll, so that the watcher of slow polls can report it.
     #[inline]
     pub(crate) fn begins(&self, name: u64, about: &About) {
         self.site.store(about.spawned as *const _ as *mut _, Relaxed);
@@ -193,13 +197,13 @@ impl Worker {
         self.running.store(name, Relaxed);
     }
 
-    /// Returns the worker's shards (groups of task slots) that may have tasks.
+    /// Returns the worker's shards (groups of 4,096 task slots) in which there may be tasks.
     #[inline]
     pub(crate) fn used_shards(&self) -> &[usize] {
         &self.shards[..self.used.load(Relaxed)]
     }
 
-    /// Returns the nanoseconds for which the worker has had no work, until `now`.
+    /// Returns for how many nanoseconds the worker had no work, from the runtime's beginning until `now`.
     pub(crate) fn idle_time(&self, now: u64) -> u64 {
         let since = self.idle_since.load(Relaxed);
         self.idle.load(Relaxed) + if since == 0 { 0 } else { now.saturating_sub(since) }
@@ -222,7 +226,7 @@ impl Worker {
     }
 }
 
-/// Returns the `Shared` with the number `table`, if it was ever made.
+/// Returns the `Shared` whose index in the table of runtimes is `table`; None if it was never made.
 #[inline]
 pub(crate) fn shared_of(table: usize) -> Option<&'static Shared> {
     // SAFETY: a `Shared` that was stored there is never freed.
@@ -230,9 +234,10 @@ pub(crate) fn shared_of(table: usize) -> Option<&'static Shared> {
 }
 
 impl Shared {
-    /// Returns an unused `Shared` with these numbers of workers and shards: that of an ended runtime, or a new one.
+    /// Returns a `Shared` with these numbers of workers and shards that no runtime uses: one of an ended runtime, or a
+    /// new one.
     ///
-    /// Fails if all 32 are in use or have other numbers, or if memory or descriptors are refused.
+    /// Fails if there are 32 and none of them is unused and of that size, or if memory or descriptors are refused.
     pub(crate) fn get(workers: usize, shards: usize, observed: bool) -> io::Result<&'static Shared> {
         let mut pool = POOL.lock().unwrap();
         let alike =
@@ -337,34 +342,36 @@ impl Shared {
         (self.spawned.0.load(SeqCst) + self.sum(|worker| &worker.spawned)) as i64
     }
 
-    /// Returns the number of tasks that were spawned and have not ended.
+    /// Returns how many tasks of the runtime were spawned and have not ended.
     pub(crate) fn live(&self) -> u64 {
         let ended = self.ended();
         (self.spawned() - ended).max(0) as u64
     }
 
-    /// Returns the number of tasks for which an orderly end waits: all but those of `spawn_background`.
+    /// Returns how many tasks `shutdown_within` must wait for: all that have not ended, except those of
+    /// `spawn_background`.
     ///
-    /// The number is never too low, even while tasks begin and end: `spawned` counts a background task before
-    /// `background.0` does, and `background.1` counts it before `ended` does. So this function must read the counts in
-    /// the reverse order.
+    /// The number is never too low, even while tasks begin and end. A background task is counted in `spawned` before it
+    /// is counted in `background.0`, and in `background.1` before it is counted in `ended`. So this function must read
+    /// the counts in the reverse order.
     pub(crate) fn awaited(&self) -> u64 {
         let ended = self.ended() - self.background.1.load(SeqCst) as i64;
         let background = self.background.0.load(SeqCst) as i64;
         (self.spawned() - background - ended).max(0) as u64
     }
 
-    /// Returns true if the runtime that began at the count `turns` of the `Door` has ended, or is about to end, so that
-    /// nobody waits for its events any more.
+    /// Returns true if nobody waits for events of this runtime any more, because it has ended or is about to end. The
+    /// caller passes the count of its `Door` (how often it was opened or closed) from the runtime's beginning.
     ///
-    /// Returns false in a poll of one of that runtime's own tasks, because that task will be dropped instead.
+    /// In a poll of one of this runtime's own tasks, returns false for a runtime that is about to end: the task will be
+    /// dropped instead.
     pub(crate) fn has_ended(&self, turns: u64) -> bool {
         let in_own_task = || Context::with(|worker| worker.map_or(false, |worker| ptr::eq(worker.shared, self)));
         self.door.turns() != turns || self.stop.load(SeqCst) && !in_own_task()
     }
 
-    /// Wakes the tasks that still wait for this runtime's sockets and timers after its end; they run in another runtime
-    /// or in blocking work.
+    /// Wakes the tasks that still wait for sockets and timers of this runtime, which has ended. These tasks run in
+    /// another runtime or in blocking work.
     ///
     /// After this call, a wait for a socket of this runtime fails, and a sleep continues in the runtime that polls it.
     pub(crate) fn let_go(&self) {
@@ -375,8 +382,8 @@ impl Shared {
         }
     }
 
-    /// Gives this state back, so that a later runtime can use it. The caller must know that no thread of the ended
-    /// runtime uses the state any more.
+    /// Lets a later runtime use this state. The caller must make sure that no thread of the ended runtime uses it any
+    /// more.
     pub(crate) fn give(&'static self) {
         POOL.lock().unwrap().1.push(self);
     }
@@ -387,8 +394,8 @@ impl Shared {
         place / (BLOCK * SHARD) % NUMBERS % self.workers.len()
     }
 
-    /// Returns the worker that runs the jobs of `worker` and fires its timers: `worker` itself or, if it has no core,
-    /// another one.
+    /// Returns the worker that runs the jobs of `worker` and fires its timers. This is `worker` itself if it has a
+    /// core, and otherwise another worker.
     #[inline]
     pub(crate) fn keeper(&self, worker: usize) -> usize {
         let active = self.active.0.load(SeqCst);
@@ -400,7 +407,7 @@ impl Shared {
     }
 }
 
-/// A worker's own state, for calls from within its tasks.
+/// A worker's own state, for the calls that tasks make while this worker polls them.
 pub(crate) struct Context {
     pub(crate) shared: &'static Shared,
     pub(crate) me: usize,
@@ -408,21 +415,20 @@ pub(crate) struct Context {
     pub(crate) worker: &'static Worker,
     /// True if no other thread ever steals from this worker's local queues.
     pub(crate) alone: bool,
-    /// The core's name of the task that this worker polls now.
+    /// The name (slot and generation) of the task that this worker polls now.
     pub(crate) current: Cell<u64>,
-    /// True if the task that this worker polls now has woken itself.
+    /// True if the task that this worker polls now was woken by its own poll.
     pub(crate) woken: Cell<bool>,
-    /// The number of reads of sockets in the current poll.
+    /// The number of reads of sockets that the current poll has made.
     pub(crate) reads: Cell<u32>,
-    /// True if a read of a socket was put off in the current poll.
+    /// True if a read of a socket in the current poll was delayed to the task's next poll.
     pub(crate) put_off: Cell<bool>,
-    /// The time at which this worker last checked sockets, timers and other workers, or last had no work.
+    /// The time, in nanoseconds, at which this worker last checked sockets, timers and other workers, or had no work.
     pub(crate) looked: Cell<u64>,
-    /// True if a job that is woken on this worker is to run next on it. If false, `room` decides where a woken job
-    /// goes.
+    /// True if a job that this worker wakes runs next on this worker. If false, `room` decides where the job goes.
     pub(crate) keeps: Cell<bool>,
-    /// If `keeps` is false: the number of woken jobs that may still go into this worker's local queue, in order.
-    /// Further jobs become ready in their blocks (their task slots), without waking a worker to help.
+    /// If `keeps` is false: how many more woken jobs may go into this worker's local queue. All others become ready in
+    /// their task slots, and no worker is woken to help with them.
     pub(crate) room: Cell<usize>,
     random: Cell<u64>,
 }
@@ -453,7 +459,7 @@ impl Context {
         }
     }
 
-    /// Calls `call` with this thread's context, or with None if this thread is no worker.
+    /// Calls `call` with the context of the calling thread, or with None if the thread is no worker.
     #[inline]
     pub(crate) fn with<R>(call: impl FnOnce(Option<&Context>) -> R) -> R {
         let context = CONTEXT.with(Cell::get);
@@ -461,7 +467,7 @@ impl Context {
         call(unsafe { context.as_ref() })
     }
 
-    /// Calls `f` with this context as the thread's context.
+    /// Calls `f`; until it returns, this is the context of the calling thread.
     pub(crate) fn enter<R>(&self, f: impl FnOnce() -> R) -> R {
         struct Leave;
         impl Drop for Leave {
@@ -474,10 +480,10 @@ impl Context {
         f()
     }
 
-    /// Returns true if the current poll may read a socket: always once, and then until the worker must check for
-    /// events.
+    /// Returns true if the current poll may read a socket: it may do so once, and more often until the worker must
+    /// check for events.
     ///
-    /// So a socket that always has more data doesn't keep its worker busy for ever.
+    /// This keeps a task whose socket always has more data from occupying its worker for ever.
     #[inline]
     pub(crate) fn may_read(&self) -> bool {
         let reads = self.reads.replace(self.reads.get() + 1);
@@ -501,7 +507,7 @@ fn next_random(mut x: u64) -> u64 {
     x ^ x << 17
 }
 
-/// Returns the runtime that this thread has entered, or of which it is a worker.
+/// Returns the runtime of which this thread is a worker, or which it has entered; otherwise None.
 pub(crate) fn here() -> Option<&'static Shared> {
     ENTERED.with(Cell::get).or_else(|| Context::with(|worker| worker.map(|w| w.shared)))
 }
@@ -512,7 +518,7 @@ pub(crate) fn is_own(shared: &Shared) -> bool {
     is_it(ENTERED.with(Cell::get)) || is_it(Context::with(|worker| worker.map(|w| w.shared)))
 }
 
-/// Calls `f` with this runtime for the spawns, sockets and timers of `f`.
+/// Calls `f` on this thread. The spawns, sockets and timers of `f` belong to the runtime `shared`.
 pub(crate) fn entered<R>(shared: &'static Shared, f: impl FnOnce() -> R) -> R {
     struct Leave(Option<&'static Shared>);
     impl Drop for Leave {
@@ -524,7 +530,7 @@ pub(crate) fn entered<R>(shared: &'static Shared, f: impl FnOnce() -> R) -> R {
     f()
 }
 
-/// For each runtime of which this thread is no worker, the seat (a handle of the core) by which it calls the core.
+/// The handles (*seats*) by which a thread that is no worker calls the core, one for each runtime.
 struct Visitor {
     seats: Vec<Option<Hands>>,
 }
@@ -539,7 +545,7 @@ impl Drop for Visitor {
     }
 }
 
-/// Calls `call` with a seat (a handle of the core) of this thread, which is no worker of the runtime.
+/// Calls `call` with a handle of the core, for a thread that is no worker of the runtime.
 pub(crate) fn with_hands<R>(shared: &'static Shared, call: impl FnOnce(&Hands) -> R) -> R {
     let mut call = Some(call);
     let visited = SEATS.try_with(|visitor| {
@@ -557,7 +563,8 @@ pub(crate) fn with_hands<R>(shared: &'static Shared, call: impl FnOnce(&Hands) -
     match (visited, call) {
         (Ok(Some(result)), _) => result,
         (_, Some(call)) => {
-            // The thread is ending and its seats are gone, or they are in use, so seats are made for this call only.
+            // The thread is ending, so its handles are gone, or they are in use. In both cases new handles are made for
+            // this call only.
             let mut root = shared.root.lock().unwrap_or_else(|e| e.into_inner());
             let hands = root.crew(1, 1).and_then(|mut crew| crew.pop()).expect("no memory for a seat");
             let result = call(&hands);

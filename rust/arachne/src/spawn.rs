@@ -1,4 +1,4 @@
-//! The functions that spawn a task, and the choice of its task slot.
+//! The functions that spawn a task, and put it into a task slot.
 
 use crate::core::{Hands, Spawned, SHARD};
 use crate::shared::{add, here, with_hands, Context, Shared};
@@ -10,7 +10,7 @@ use std::panic::Location;
 use std::pin::Pin;
 use std::task::{self as std_task, Poll};
 
-/// The number of tasks from other threads that go to one worker before the next worker gets as many.
+/// A worker gets this many tasks from threads that are no workers, before the next worker gets as many.
 const IN_A_ROW: usize = 16;
 
 /// The error of `try_spawn`: no task slot is free. The error contains the future, which was not spawned.
@@ -38,7 +38,7 @@ impl<F> fmt::Debug for Refused<F> {
     }
 }
 
-/// The future of a background task; `Shared::background` counts it when it is dropped.
+/// The future of a background task. When it is dropped, it is counted in `Shared::background`.
 struct Background<F> {
     future: F,
     _counted: Counted,
@@ -61,10 +61,11 @@ impl<F: Future> Future for Background<F> {
 }
 
 impl Shared {
-    /// Puts a task into a free slot of the blocks (of 64 slots) of worker number `worker`.
+    /// Puts a task into a free task slot of the worker with the number `worker`. Returns `Full` if that worker has
+    /// none.
     ///
-    /// Consecutive tasks go to different blocks, in turn: the state words of neighbouring slots in a block share a
-    /// cache line, for which workers that wake two neighbours would contend.
+    /// Consecutive tasks go to different blocks of 64 slots: the state words of neighbouring slots share a cache line,
+    /// and two workers that wake the tasks there would contend for it.
     pub(crate) fn spawn_at(&self, hands: &Hands, worker: usize, raw: Raw, keep: bool) -> Spawned {
         let (shards, next) = (&*self.workers[worker].0.shards, &self.workers[worker].0.roomy.0);
         let hint = next.load(Relaxed);
@@ -87,8 +88,8 @@ impl Shared {
                 let (bit, at) = (bits & bits.wrapping_neg(), shard * SHARD + bits.trailing_zeros() as usize);
                 let mut spawned = hands.spawn(at, raw, keep);
                 if spawned == Spawned::Full {
-                    // The bit is cleared before the second try, because a thread that frees a slot sets the bit after
-                    // it has freed the slot.
+                    // The bit must be cleared before the second try: a thread that frees a slot first frees it, and
+                    // then sets the bit.
                     roomy.fetch_and(!bit, SeqCst);
                     spawned = hands.spawn(at, raw, keep);
                     if spawned != Spawned::Full {
@@ -105,10 +106,11 @@ impl Shared {
         Spawned::Full
     }
 
-    /// Puts a new task into a free task slot, or into the queue if no slot is free.
+    /// Puts a new task into a free task slot. If no slot is free, or if other tasks wait for one, puts it into the
+    /// queue.
     ///
-    /// The slot belongs to the worker that calls this. If `balanced` is true, or if the calling thread is no worker,
-    /// the slots of all workers are used in turn.
+    /// The slot is one of the calling worker's, if that worker has a free one. If `balanced` is true, or if the calling
+    /// thread is no worker, the workers get the tasks in turn.
     #[inline]
     pub(crate) fn spawn(&'static self, raw: Raw, balanced: bool) {
         if !self.place_new(raw, balanced) {
@@ -158,8 +160,8 @@ impl Shared {
         }
     }
 
-    /// Puts a new task into a slot of the first worker, from number `home` on, that has a free one. Returns false if no
-    /// worker has a free slot.
+    /// Puts a new task into a slot of the first worker that has a free one, starting at worker number `home`. Returns
+    /// false if no worker has a free slot.
     fn spawn_among(&self, hands: &Hands, home: usize, raw: Raw) -> bool {
         if self.queued.0.load(Relaxed) != 0 {
             return false;
@@ -181,8 +183,8 @@ impl Shared {
             self.queued.0.fetch_add(1, SeqCst);
         }
         self.counts.queued.fetch_add(1, Relaxed);
-        // A worker is woken only after the task was counted, because each worker checks the count last before it
-        // sleeps.
+        // The worker must be woken after the task was counted: before a worker sleeps, the last thing that it checks is
+        // this count.
         self.rouse_any();
     }
 
@@ -222,7 +224,7 @@ impl Shared {
             self.observer.spawns(&about);
             return Ok(handle);
         }
-        // `place_new` has counted the task as spawned.
+        // `place_new` has counted the task as spawned, so it must also be counted as ended.
         self.counts.ended_elsewhere.fetch_add(1, SeqCst);
         // SAFETY: nobody else has the task, and it was not polled.
         Err(Refused(unsafe { task::unmake(raw, handle) }))
@@ -232,7 +234,7 @@ impl Shared {
 /// Spawns a task on the runtime of the calling task or `block_on`. Returns a handle, which is a future of the task's
 /// output.
 ///
-/// The task runs next on this worker, or on another worker if the current poll goes on for long.
+/// The task runs next on this worker. If the current poll takes long, another worker may run it.
 ///
 /// ```
 /// let sum = arachne::Runtime::new(2).block_on(async {
@@ -255,7 +257,7 @@ where
     here().expect("spawn outside of a runtime").spawn_task(future, about, false)
 }
 
-/// Like `spawn`, with a name for the task, which appears in `Runtime::tasks` and in the reports of slow polls.
+/// Spawns a task as `spawn` does, and gives it a name for `Runtime::tasks` and the reports of slow polls.
 ///
 /// ```
 /// let name = arachne::Runtime::new(1).block_on(async { arachne::spawn_named("sweeper", async {}).about().name });
@@ -274,7 +276,8 @@ where
     here().expect("spawn outside of a runtime").spawn_task(future, about, false)
 }
 
-/// Like `spawn`, but gives the tasks to the workers in turn: for tasks that live long, such as those of connections.
+/// Spawns tasks as `spawn` does, but gives them to the workers in turn. Use it for tasks that live long, such as those
+/// of connections.
 ///
 /// ```
 /// # async fn serve(_: arachne::net::TcpStream) {}

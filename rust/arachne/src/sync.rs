@@ -1,6 +1,8 @@
-//! Atomics, locks and threads, of the standard library or of the explorer (a test). No other module names `std::sync`.
+//! The atomics, locks and threads of the standard library or, in a test, of the explorer. No other module names
+//! `std::sync`.
 //!
-//! With the feature `explore`, which is only for tests, each step asks the explorer's scheduler which thread runs next.
+//! The feature `explore` is only for that test: at each step of an atomic, a lock or a thread, the explorer decides
+//! which thread runs next.
 
 #[cfg(feature = "explore")]
 pub(crate) use explorer::{atomic, clock, thread, told, wait, Arc, Condvar, Instant, Mutex, MutexGuard, RwLock};
@@ -13,19 +15,19 @@ mod plain {
     pub(crate) use std::thread;
     pub(crate) use std::time::Instant;
 
-    /// Calls a function that reads the clock.
+    /// Returns `call()`, which reads the clock. (The explorer's version returns a virtual time.)
     #[inline(always)]
     pub(crate) fn clock(call: impl FnOnce() -> u64) -> u64 {
         call()
     }
 
-    /// Calls a function that waits in the epoll for `timeout` milliseconds.
+    /// Returns `call(timeout)`, which waits in the epoll for at most `timeout` milliseconds.
     #[inline(always)]
     pub(crate) fn wait(_epoll: i32, timeout: i32, mut call: impl FnMut(i32) -> usize) -> usize {
         call(timeout)
     }
 
-    /// Reports to the explorer that an epoll may have an event; here it does nothing.
+    /// Does nothing. (The explorer's version records that an epoll may have an event.)
     #[inline(always)]
     pub(crate) fn told() {}
 }

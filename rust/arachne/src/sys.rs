@@ -1,6 +1,6 @@
 //! The calls of Linux that the crate needs: epoll, eventfd, sockets, affinity, time slices, a shared page.
 //!
-//! The calls are declared by hand, as in Linux's C library on 64 bits. The functions around the calls are safe.
+//! The calls are declared by hand, with the types of Linux's C library on 64 bits. The functions around them are safe.
 
 use crate::sync::atomic::{AtomicI32, AtomicU32, Ordering::*};
 use crate::sync::{clock, told, wait as wait_in};
@@ -107,7 +107,7 @@ pub(crate) fn new_event() -> io::Result<RawFd> {
     checked(unsafe { eventfd(0, CLOSE_ON_EXEC | NON_BLOCKING) })
 }
 
-/// Returns a new eventfd, which is closed when the file is dropped.
+/// Returns a new eventfd as a file. Dropping the file closes the eventfd.
 pub(crate) fn new_event_file() -> io::Result<File> {
     // SAFETY: the descriptor is new, and nobody else has it.
     Ok(unsafe { File::from_raw_fd(new_event()?) })
@@ -163,7 +163,7 @@ pub(crate) fn set_nonblocking(fd: RawFd) -> io::Result<()> {
     checked(unsafe { fcntl(fd, SET_FLAGS, flags | NON_BLOCKING) }).map(drop)
 }
 
-/// Sets the backlog of a socket that is listening already.
+/// Changes the backlog (the most connections that wait to be accepted) of a socket that listens already.
 pub(crate) fn listen(fd: RawFd, backlog: i32) -> io::Result<()> {
     // SAFETY: all arguments are numbers.
     checked(unsafe { listen_call(fd, backlog) }).map(drop)
@@ -199,7 +199,7 @@ pub(crate) fn connect_unix(path: &Path) -> io::Result<RawFd> {
     begin_connect(1, &mut bytes[..3 + path.len()])
 }
 
-/// Starts a connection to an address in the layout of its `family`, whose first two bytes are the family.
+/// Starts a connection to the address in `address`. The first two bytes of `address` must be `family`.
 fn begin_connect(family: u16, address: &mut [u8]) -> io::Result<RawFd> {
     address[..2].copy_from_slice(&family.to_ne_bytes());
     // SAFETY: all arguments are numbers.
@@ -250,12 +250,12 @@ pub(crate) fn set_affinity(thread: u32, cpus: &[usize]) -> bool {
     unsafe { sched_setaffinity(thread as i32, 128, mask.as_ptr()) == 0 }
 }
 
-/// Returns the kernel's id of the calling thread.
+/// Returns the id by which the kernel knows the calling thread.
 pub(crate) fn thread_number() -> Option<u32> {
     std::fs::read_link("/proc/thread-self").ok()?.file_name()?.to_str()?.parse().ok()
 }
 
-/// Waits for 16 bytes, and returns them with the descriptor that was sent with them.
+/// Receives 16 bytes from a socket, and the descriptor that was sent with them, if there was one.
 pub(crate) fn receive_with(socket: RawFd) -> io::Result<([u8; 16], Option<File>)> {
     const ALL: i32 = 0x100;
     const CLOSE_FD_ON_EXEC: i32 = 0x4000_0000;
@@ -279,8 +279,8 @@ pub(crate) fn receive_with(socket: RawFd) -> io::Result<([u8; 16], Option<File>)
     Ok((bytes, has_fd.then(|| unsafe { File::from_raw_fd(rights.fd) })))
 }
 
-/// Maps the first number of a file that another process writes, over the page that an earlier call of this function
-/// mapped at `at`.
+/// Maps the first number of a file that another process writes. The new page replaces the one at `at`, which an earlier
+/// call of this function has mapped.
 ///
 /// If `at` is null, the kernel chooses the address.
 pub(crate) fn map_page(file: &File, at: *mut AtomicU32) -> io::Result<*mut AtomicU32> {
@@ -298,7 +298,7 @@ pub(crate) fn map_page(file: &File, at: *mut AtomicU32) -> io::Result<*mut Atomi
     Ok(mapped as *mut AtomicU32)
 }
 
-/// The initial value of each element; rustc 1.63 doesn't accept the expression within the array.
+/// A value for the array below; rustc 1.63 doesn't accept the expression there.
 #[allow(clippy::declare_interior_mutable_const)]
 const NO_EVENT: AtomicI32 = AtomicI32::new(-1);
 /// For each signal, the eventfd that its handler raises, or -1.
@@ -311,13 +311,13 @@ extern "C" fn handler(number: i32) {
     }
 }
 
-/// The signals of faults: SIGILL, SIGBUS, SIGFPE and SIGSEGV.
+/// The signals that a fault raises: SIGILL, SIGBUS, SIGFPE and SIGSEGV.
 ///
 /// If a handler of such a signal returned, the failed instruction would be executed again, for ever.
 const FAULTS: [i32; 4] = [4, 7, 8, 11];
 
-/// Makes the signal `number` raise the event `event`, instead of its previous action or event. Fails for a signal of a
-/// fault.
+/// Makes the signal `number` raise the eventfd `event`, in place of its previous action. Fails for a signal that a
+/// fault raises.
 pub(crate) fn raise_at(number: i32, event: RawFd) -> io::Result<()> {
     const INVALID: i32 = 22;
     if FAULTS.contains(&number) {
@@ -355,8 +355,8 @@ pub(crate) fn await_event(event: RawFd) -> bool {
     }
 }
 
-/// Waits until one of the two descriptors is readable or has failed, for at most `nanos` nanoseconds. Returns, for each
-/// descriptor, true if it is readable or has failed.
+/// Waits for at most `nanos` nanoseconds until one of two descriptors is readable or has failed. Returns for each of
+/// them if it is so.
 pub(crate) fn readable(fds: [RawFd; 2], nanos: u64) -> [bool; 2] {
     let mut polled = fds.map(|fd| Polled { fd, wanted: 1, found: 0 });
     let time = [nanos as i64 / 1_000_000_000, nanos as i64 % 1_000_000_000];
@@ -365,7 +365,8 @@ pub(crate) fn readable(fds: [RawFd; 2], nanos: u64) -> [bool; 2] {
     polled.map(|it| it.found != 0)
 }
 
-/// The numbers of the system calls `sched_setattr` and `sched_getattr`, on architectures for which they are known.
+/// The numbers of the system calls `sched_setattr` and `sched_getattr`; None on an architecture for which they aren't
+/// known here.
 #[cfg(target_arch = "x86_64")]
 const SCHEDULING: Option<(i64, i64)> = Some((314, 315));
 #[cfg(any(target_arch = "aarch64", target_arch = "riscv64"))]

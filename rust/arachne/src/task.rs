@@ -1,7 +1,7 @@
 //! A task: one allocation that contains the future, and later its output.
 //!
 //! The runtime owns the task until the task has ended, and each handle owns it until the handle is dropped. The last of
-//! these owners frees the task.
+//! these owners frees the allocation.
 
 use crate::sync::atomic::{AtomicU32, AtomicU64, Ordering::*};
 use crate::sync::Mutex;
@@ -16,22 +16,23 @@ use std::pin::Pin;
 use std::ptr::NonNull;
 use std::task::{Context, Poll, Waker};
 
-/// The task has ended, and its output is stored.
+/// State bit: the task has ended, and its output is stored.
 const COMPLETE: u32 = 1;
-/// Set as long as the task's `JoinHandle` exists.
+/// State bit: the task's `JoinHandle` exists.
 const JOINED: u32 = 2;
-/// The `JoinHandle` has stored its waker in `join_waker`. While this bit is set, only the thread that ends the task may
-/// read the waker.
+/// State bit: the `JoinHandle` has stored its waker in `join_waker`. While the bit is set, only the thread that ends
+/// the task may read the waker.
 const WAITING: u32 = 4;
-/// The thread that ended the task no longer accesses the task.
+/// State bit: the thread that has ended the task is done with it, and won't access it any more.
 const SETTLED: u32 = 8;
-/// The task was aborted: the worker that runs it next must end it.
+/// State bit: the task was aborted. The worker that takes it next must end it instead of polling it.
 const ABORTED: u32 = 16;
-/// Abort handles existed as the task ended, so the thread that ends the task may access it until it has set `SETTLED`.
+/// State bit: there were abort handles when the task ended. So the thread that ends the task may access it until it has
+/// set `SETTLED`.
 const SHARED: u32 = 32;
-/// One abort handle: this bit and the bits above it count the abort handles.
+/// Added to the state for each abort handle: this bit and the bits above it count the abort handles.
 const ONE: u32 = 64;
-/// Nonzero in a state if there is a `JoinHandle` or an abort handle.
+/// The bits of a state of which at least one is set while there is a `JoinHandle` or an abort handle.
 const HELD: u32 = JOINED | !(ONE - 1);
 
 /// The value with which a task panicked; see `JoinError::Panicked`.
@@ -70,7 +71,7 @@ impl fmt::Debug for Panic {
     }
 }
 
-/// The reason why a task has no output.
+/// The error of a task that has no output: it panicked, was aborted, or its runtime ended.
 ///
 /// ```
 /// let runtime = arachne::Runtime::new(1);
@@ -177,7 +178,7 @@ impl From<JoinError> for std::io::Error {
 }
 
 struct VTable {
-    /// Polls the future. Returns true if the future has ended; then its output is stored.
+    /// Polls the future. Returns true if the future is ready; its output is then stored in the task.
     poll: unsafe fn(*mut Header, &mut Context<'_>) -> bool,
     /// Drops the future, and stores this error as the task's output.
     cancel: unsafe fn(*mut Header, JoinError),
@@ -190,17 +191,17 @@ struct VTable {
 
 pub(crate) struct Header {
     state: AtomicU32,
-    /// The number of the runtime that polls the task. The number is written before the first poll.
+    /// The index of the runtime that polls the task. It is written before the first poll.
     table: AtomicU32,
-    /// The task's *name* in its runtime's core (its slot and generation), by which its wakers find it. The name is
-    /// written before the first poll.
+    /// The task's *name* in its runtime (its slot and generation), by which its wakers find it. It is written before
+    /// the first poll.
     name: AtomicU64,
     vtable: &'static VTable,
     join_waker: UnsafeCell<Option<Waker>>,
     about: About,
 }
 
-/// Describes a task: the line of code that spawned it, and its name if it has one.
+/// Describes a task, for reports: which line of code spawned it, and its name if it has one.
 ///
 /// ```
 /// let task = arachne::Runtime::new(1).spawn_named("greeter", async {});
@@ -229,7 +230,7 @@ pub struct Label(String);
 static LABELS: Mutex<Vec<&'static Label>> = Mutex::new(Vec::new());
 
 impl Label {
-    /// Returns the label whose text is `text`. The first call with a text makes its label; see the example at `Label`.
+    /// Returns the label with the text `text`, which the first call with this text makes; see the example at `Label`.
     pub fn of(text: &str) -> &'static Label {
         let mut labels = LABELS.lock().unwrap();
         if let Some(label) = labels.iter().find(|label| label.0 == text) {
@@ -272,11 +273,12 @@ struct Task<F: Future> {
     stage: UnsafeCell<Stage<F>>,
 }
 
-/// The runtime's pointer to a task, as the 64-bit number that the core stores: `new` makes it, and the task's end
-/// consumes it.
+/// A pointer to a task, as the 64-bit number that the core stores. `new` makes it, and whoever ends the task uses it
+/// up.
 pub(crate) type Raw = u64;
 
-/// Makes a task that runs `future`. Returns the runtime's pointer to the task, and the handle on the task's output.
+/// Makes a task that runs `future`. Returns the pointer by which the runtime owns the task, and the handle on the
+/// task's output.
 pub(crate) fn new<F>(future: F, about: About) -> (Raw, JoinHandle<F::Output>)
 where
     F: Future + Send + 'static,
@@ -321,11 +323,12 @@ fn at(raw: Raw) -> *mut Header {
     raw as usize as *mut Header
 }
 
-/// Polls a task, or ends it if it was aborted. Returns true if the task has ended: then its handle was woken, and `raw`
-/// must not be used again.
+/// Polls a task; if it was aborted, ends it instead. Returns true if the task has ended: then its handle was woken, and
+/// the caller must not use `raw` again.
 ///
 /// # Safety
-/// The caller must have `raw` from `new`, not yet consumed, and no other thread may poll or end the task meanwhile.
+/// `raw` must be from `new`, and its task must not have ended. No other thread may poll or end the task during the
+/// call.
 #[inline]
 pub(crate) unsafe fn run(raw: Raw, table: usize, name: u64, cx: &mut Context<'_>) -> bool {
     let header = at(raw);
@@ -343,26 +346,26 @@ pub(crate) unsafe fn run(raw: Raw, table: usize, name: u64, cx: &mut Context<'_>
     true
 }
 
-/// Cancels a task that has not ended, and consumes `raw`.
+/// Ends a task that has not ended, with the output `Cancelled`. The caller must not use `raw` again.
 ///
 /// # Safety
-/// The caller has the same duties for `raw` as in `run`.
+/// The caller must fulfil the conditions of `run`.
 pub(crate) unsafe fn end(raw: Raw) {
     let header = at(raw);
     ((*header).vtable.cancel)(header, JoinError::Cancelled);
     complete(header);
 }
 
-/// Returns the line that spawned the task, and the task's name.
+/// Returns the line of code that spawned the task, and the task's name.
 ///
 /// # Safety
-/// The caller has the same duties for `raw` as in `run`.
+/// The caller must fulfil the conditions of `run`.
 #[inline]
 pub(crate) unsafe fn about(raw: Raw) -> About {
     (*at(raw)).about
 }
 
-/// Marks a task as ended, wakes whoever waits for its output, and frees the task if there is no handle.
+/// Marks a task as ended, and wakes whoever waits for its output. If the task has no handle any more, frees it.
 unsafe fn complete(header: *mut Header) {
     let before = (*header).state.fetch_or(COMPLETE, AcqRel);
     if before & HELD == 0 {
@@ -384,12 +387,12 @@ unsafe fn complete(header: *mut Header) {
     // not be accessed from here on.
 }
 
-/// Returns true if the thread that ended a task with this `state` no longer accesses the task.
+/// Returns true if the thread that ended a task with the state `state` won't access the task any more.
 fn is_settled(state: u32) -> bool {
     state & COMPLETE != 0 && (state & (WAITING | SHARED) == 0 || state & SETTLED != 0)
 }
 
-/// Marks the task as aborted, and wakes it, so that a worker takes it and ends it.
+/// Marks the task as aborted, and wakes it. The worker that then takes the task ends it.
 fn abort(header: &Header) {
     header.state.fetch_or(ABORTED, SeqCst);
     let name = header.name.load(SeqCst);
@@ -420,8 +423,8 @@ unsafe fn cancel<F: Future>(header: *mut Header, why: JoinError) {
     lay((*task).stage.get(), Err(why));
 }
 
-/// Drops the future where it lies, and stores the output in its stead. If the drop panics, that panic is stored instead
-/// of an output that was Ok.
+/// Drops the future where it is stored, and stores `output` there. If the drop panics and `output` is Ok, stores that
+/// panic instead.
 unsafe fn lay<F: Future>(stage: *mut Stage<F>, output: Result<F::Output, JoinError>) {
     let dropped = catch_unwind(AssertUnwindSafe(|| std::ptr::drop_in_place(stage)));
     let output = match (dropped, output) {
@@ -456,7 +459,7 @@ unsafe fn free<F: Future>(header: *mut Header) {
 
 /// A handle on a task, which is also the future of the task's output. Dropping the handle leaves the task running.
 ///
-/// Polling the handle again after it was ready panics.
+/// Panics if it is polled again after it was ready.
 ///
 /// ```
 /// let runtime = arachne::Runtime::new(2);
@@ -469,8 +472,7 @@ pub struct JoinHandle<T> {
     at: NonNull<Header>,
     of: PhantomData<T>,
 }
-// SAFETY: the output is read and dropped only on the thread that has the handle, and all other access to the task is
-// atomic.
+// SAFETY: only the thread that has the handle reads or drops the output. All other accesses to the task are atomic.
 unsafe impl<T: Send> Send for JoinHandle<T> {}
 // SAFETY: a shared handle gives only atomic access.
 unsafe impl<T: Send> Sync for JoinHandle<T> {}
@@ -504,9 +506,9 @@ impl<T> JoinHandle<T> {
         self.header().state.load(Acquire) & COMPLETE != 0
     }
 
-    /// Aborts the task: its future is dropped when a worker runs it next, and the output is `JoinError::Aborted`.
+    /// Aborts the task. The worker that takes it next drops its future, and its output is `JoinError::Aborted`.
     ///
-    /// A task that has ended, or ends in the poll in progress, keeps its output. See the example at `JoinHandle`.
+    /// A task that has ended, or that ends in a poll which runs now, keeps its output. See the example at `JoinHandle`.
     pub fn abort(&self) {
         abort(self.header());
     }
@@ -531,12 +533,12 @@ impl<T> JoinHandle<T> {
 }
 
 impl<T> JoinHandle<T> {
-    /// Returns true if the task has ended. If not, stores `waker`, which the task's end will wake.
+    /// Returns true if the task has ended. Otherwise stores `waker`, to be woken when the task ends.
     pub(crate) fn is_there(&mut self, waker: &Waker) -> bool {
         let header = self.header();
         let mut state = header.state.load(Acquire);
         if state & (COMPLETE | WAITING) == WAITING {
-            // Claims the old waker back before it is replaced, unless the task ends first.
+            // The old waker must be claimed back before it is replaced, unless the task ends first and uses it.
             state = header.state.fetch_and(!WAITING, AcqRel);
             if state & COMPLETE != 0 {
                 header.state.fetch_or(WAITING, AcqRel);
@@ -592,8 +594,8 @@ impl<T> Drop for JoinHandle<T> {
     fn drop(&mut self) {
         let header = self.header();
         if header.state.load(Relaxed) & SHARED != 0 {
-            // If the task has ended, this handle drops the output; otherwise the thread that ends the task will drop
-            // it.
+            // If the task has ended, this handle must drop the output. Otherwise the thread that ends the task will do
+            // so.
             let leave = |state| (state & COMPLETE == 0).then_some(state & !JOINED);
             if header.state.fetch_update(AcqRel, Acquire, leave).is_ok() {
                 return;

@@ -1,4 +1,4 @@
-//! Sleeps and timeouts. Each worker has a queue of timers, which it checks when it polls the epoll.
+//! Sleeps and timeouts. Each worker has a queue of timers, and checks it whenever it polls the epoll.
 
 use crate::shared::{here, shared_of, Context as Worker, Shared};
 use crate::sync::atomic::{AtomicU64, Ordering::*};
@@ -22,9 +22,9 @@ struct Queue {
     made: u64,
 }
 
-/// The timers of one worker.
+/// A queue of timers: those of one worker, or those of all threads that are no workers.
 pub(crate) struct Timers {
-    /// The time at which the first timer is due; `u64::MAX` if there is none.
+    /// The time, in nanoseconds, at which the first timer is due; `u64::MAX` if there is no timer.
     next: AtomicU64,
     queue: Mutex<Queue>,
 }
@@ -41,7 +41,7 @@ impl Timers {
         self.next.load(SeqCst)
     }
 
-    /// Adds a timer. Returns the timer's key, and true if this timer is now the first that is due.
+    /// Adds a timer that is due at `at`. Returns its key, and true if no other timer is due before it.
     fn add(&self, at: u64, waker: Waker) -> (Key, bool) {
         let mut queue = self.queue.lock().unwrap();
         queue.made += 1;
@@ -54,7 +54,7 @@ impl Timers {
         (key, first)
     }
 
-    /// Replaces the waker of a timer. Returns false if the timer has fired.
+    /// Replaces the waker of the timer `key`. Returns false if the timer has fired already.
     fn renew(&self, key: Key, waker: &Waker) -> bool {
         let mut queue = self.queue.lock().unwrap();
         match queue.waiting.get_mut(&key) {
@@ -68,7 +68,7 @@ impl Timers {
         }
     }
 
-    /// Removes a timer. Returns the timer's waker, unless the timer has fired.
+    /// Removes the timer `key`. Returns its waker, or None if the timer has fired already.
     fn remove(&self, key: Key) -> Option<Waker> {
         let mut queue = self.queue.lock().unwrap();
         let waker = queue.waiting.remove(&key);
@@ -82,7 +82,7 @@ impl Timers {
         self.next.store(queue.waiting.keys().next().map_or(u64::MAX, |key| key.0), SeqCst);
     }
 
-    /// Fires the timers that are due at `now`. Returns the number of timers that fired.
+    /// Removes all timers that are due at `now`, and calls their wakers. Returns the number of these timers.
     pub(crate) fn fire(&self, now: u64) -> usize {
         let due = {
             let mut queue = self.queue.lock().unwrap();
@@ -97,7 +97,8 @@ impl Timers {
     }
 }
 
-/// A sleep's timer, and the core's name of the task whose waker the timer has, or `NOBODY` if the waker isn't a task's.
+/// A sleep's timer, with the name (slot and generation) of the task that it wakes; `NOBODY` if its waker isn't a
+/// task's.
 struct Waits {
     timers: &'static Timers,
     key: Key,
@@ -105,7 +106,7 @@ struct Waits {
     name: u64,
 }
 
-/// The future of `sleep`. The future may be moved between polls, so it needs no `pin!`.
+/// The future of `sleep`. It may be moved between polls, so it needs no `pin!`.
 ///
 /// ```
 /// use std::time::Duration;
@@ -156,7 +157,7 @@ impl fmt::Debug for Sleep {
 }
 
 impl Sleep {
-    /// Sets a new time for the sleep, even if a task already waits for it.
+    /// Changes the time at which the sleep ends, even if a task already waits for it.
     ///
     /// ```
     /// use std::{pin::Pin, time::{Duration, Instant}};
@@ -194,7 +195,7 @@ impl Future for Sleep {
             return Poll::Ready(());
         }
         match &mut self.waits {
-            // The task's own waker is registered already, so the queue needn't be locked.
+            // The timer already has this task's waker, so its queue needn't be locked.
             Some(waits) if name_in(cx.waker(), waits.table) == Some(waits.name) => {}
             Some(waits) if waits.timers.renew(waits.key, cx.waker()) => {
                 waits.name = name_in(cx.waker(), waits.table).unwrap_or(NOBODY);
@@ -278,15 +279,16 @@ impl<F: Future> Future for Timeout<F> {
     }
 }
 
-/// Returns the timers that futures on this thread use: those of its worker, or those of all threads that are no
-/// workers.
+/// Returns the timers for futures that this thread polls: those of its worker or, if it is no worker, those that all
+/// such threads share. Returns None outside of a runtime.
 pub(crate) fn of_this_thread() -> Option<&'static Timers> {
     let shared = here()?;
     let me = Worker::with(|worker| worker.filter(|w| std::ptr::eq(w.shared, shared)).map(|w| w.me));
     Some(me.map_or(&shared.visitors, |me| &shared.workers[me].0.timers))
 }
 
-/// Returns for how many milliseconds a worker that fires the timers of `workers` may sleep, or -1 for ever.
+/// Returns for how many milliseconds a worker may sleep until a timer of one of `workers` is due; -1 if there is no
+/// timer.
 pub(crate) fn rest(shared: &Shared, workers: impl Iterator<Item = usize>) -> i32 {
     let next = workers.map(|worker| shared.next_timer(worker)).min().unwrap_or(u64::MAX);
     if next == u64::MAX {

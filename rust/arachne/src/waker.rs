@@ -1,7 +1,7 @@
-//! Wakers of tasks: a waker's data pointer is only the task's name (its slot and generation), and each runtime has a
-//! table of functions (a vtable).
+//! Wakers of tasks. The data pointer of a waker is only the task's name (its slot and generation); for each runtime
+//! there is a table of functions (a vtable).
 //!
-//! So cloning and dropping a waker costs nothing, and the waker of a task that has ended wakes nobody.
+//! So cloning and dropping a waker does nothing, and the waker of a task that has ended wakes nobody.
 
 use crate::core::{place_of, Woken};
 use crate::hand::LINE;
@@ -30,8 +30,8 @@ macro_rules! tables {
 static VTABLES: [RawWakerVTable; TABLES] =
     tables!(0 1 2 3 4 5 6 7 8 9 10 11 12 13 14 15 16 17 18 19 20 21 22 23 24 25 26 27 28 29 30 31);
 
-/// Returns the waker of the task with the core's name `name`, of the runtime with number `table`. The waker need not be
-/// dropped.
+/// Returns the waker of the task with the name `name` (its slot and generation) in the runtime with the index `table`.
+/// The waker need not be dropped.
 #[inline]
 pub(crate) fn waker_of(table: usize, name: u64) -> ManuallyDrop<Waker> {
     // SAFETY: the functions of VTABLES take any word.
@@ -45,13 +45,14 @@ pub(crate) fn is_of_running(waker: &Waker, worker: &Worker) -> bool {
     name != NOBODY && waker.will_wake(&waker_of(worker.shared.table, name))
 }
 
-/// Returns `of(worker)` if this thread is a worker that now polls the task of `waker`; otherwise false.
+/// If this thread is a worker that now polls the task of `waker`, returns `of(worker)`; otherwise false.
 #[inline]
 pub(crate) fn in_own_poll(waker: &Waker, of: impl FnOnce(&Worker) -> bool) -> bool {
     Worker::with(|worker| worker.map_or(false, |worker| is_of_running(waker, worker) && of(worker)))
 }
 
-/// Returns the core's name of the task of `waker`, if that task belongs to the runtime with number `table`.
+/// Returns the name (slot and generation) of the task that `waker` wakes, if it is a task of the runtime with the index
+/// `table`.
 #[inline]
 pub(crate) fn name_in(waker: &Waker, table: usize) -> Option<u64> {
     Worker::with(|worker| {
@@ -60,7 +61,8 @@ pub(crate) fn name_in(waker: &Waker, table: usize) -> Option<u64> {
     })
 }
 
-/// Wakes the task with the core's name `name`, of the runtime with number `table`, unless it has ended.
+/// Wakes the task with the name `name` (its slot and generation) of the runtime with the index `table`, unless it has
+/// ended.
 pub(crate) fn wake_name(table: usize, name: u64) {
     let shared = match shared_of(table) {
         Some(shared) => shared,
@@ -69,7 +71,7 @@ pub(crate) fn wake_name(table: usize, name: u64) {
     Worker::with(|worker| match worker {
         Some(worker) if worker.shared.table == table => {
             if worker.current.get() == name {
-                // The task is being polled by this worker, which will make it ready again after the poll.
+                // This worker is polling the task now, and will make it ready again after the poll.
                 worker.woken.set(true);
                 return;
             }

@@ -1,4 +1,5 @@
-//! The watcher of slow polls: reports them, and meanwhile runs the ready tasks, sockets and timers of their workers.
+//! The watcher: a thread that reports slow polls. While a worker is in one, the watcher runs its ready tasks, sockets
+//! and timers.
 
 use crate::core::{Hands, Job, Rested, SHARD};
 use crate::reactor::EVENTS;
@@ -10,7 +11,8 @@ use crate::timer::now;
 use crate::waker::{waker_of, NOBODY};
 use std::time::Duration;
 
-/// The nanoseconds for which the watcher stands in for workers that are stuck in a poll, before it searches for others.
+/// For this many nanoseconds the watcher does the work of workers that are stuck in a poll. Then it looks for others
+/// that are stuck.
 const TURN: u64 = 2_000_000;
 
 struct Seen {
@@ -26,7 +28,7 @@ pub(crate) fn run(shared: &'static Shared, hands: Hands, longer: Duration, log: 
     let longer = longer.as_nanos() as u64;
     let mut seen: Vec<Seen> =
         shared.workers.iter().map(|_| Seen { polls: 0, name: NOBODY, since: 0, told: false }).collect();
-    // A bit mask of the workers in a long poll. The watcher takes over their blocks (task slots) and timers.
+    // A bit mask of the workers in a long poll, whose ready tasks and timers the watcher takes over.
     let mut stuck = 0;
     while !shared.stop.load(SeqCst) {
         if stuck == 0 {
@@ -54,7 +56,8 @@ pub(crate) fn run(shared: &'static Shared, hands: Hands, longer: Duration, log: 
     shared.root.lock().unwrap().join(hands);
 }
 
-/// Returns for how many nanoseconds the watcher has seen the worker in its current poll; 0 if it is in no poll.
+/// Returns for how many nanoseconds, as far as the watcher has seen, the worker has been in its current poll; 0 if it
+/// is in none.
 fn age_of_poll(shared: &Shared, worker: usize, seen: &mut Seen, now: u64) -> u64 {
     let counts = &shared.workers[worker].0;
     let (polls, name) = (counts.polls.load(Relaxed), counts.running.load(Relaxed));
@@ -74,8 +77,8 @@ fn tell(shared: &Shared, worker: usize, age: u64, log: bool) {
     }
 }
 
-/// Stands in for workers that are stuck in a poll: polls the epoll, fires their timers, and wakes another worker for
-/// their ready jobs.
+/// Does the work of the workers in `stuck` (a bit mask), which are stuck in a poll: polls the epoll, fires their
+/// timers, and wakes another worker for their ready jobs.
 ///
 /// If all workers are stuck, the watcher runs these jobs itself. Returns when no worker is stuck any more, or after
 /// `TURN` nanoseconds.
@@ -112,7 +115,7 @@ fn rescue(shared: &'static Shared, hands: &Hands, stuck: u64) {
     }
 }
 
-/// Runs up to 64 ready jobs of the blocks (the task slots) of one worker. Returns the number of jobs that ran.
+/// Runs up to 64 ready jobs in the task slots of one worker. Returns how many it has run.
 fn run_some(shared: &'static Shared, hands: &Hands, worker: usize) -> usize {
     let mut ran = 0;
     for &shard in shared.workers[worker].0.used_shards() {

@@ -1,34 +1,33 @@
-//! A worker's loop: it runs ready jobs (tasks, as the core stores them), polls the epoll and its timers, steals from
-//! other workers, and parks.
+//! A worker's loop: it runs ready jobs (tasks, as the core stores them), polls the epoll and its timers, steals jobs
+//! from other workers, and sleeps.
 //!
 //! The core decides which worker gets a job and whether a worker may park. This module decides where a worker searches
 //! next, and which sleeping worker to wake.
 //!
-//! **Next.** A job that the running job spawns or makes ready runs next on the same worker, up to `NEXTS` in a row. If
-//! another such job displaces it before it runs, it becomes ready in its block (a group of 64 task slots), from which
-//! any worker can take it. A job that yields, or that would exceed `NEXTS`, goes into the worker's *line*, its local
-//! queue.
+//! **Next.** If the running job spawns a job or wakes one, that job runs next on the same worker, up to `NEXTS` jobs in
+//! a row (a *chain*). If a second such job comes before the first has run, the first becomes ready in its block (a
+//! group of 64 task slots), from which any worker can take it. A job that yields, or that would make the chain too
+//! long, goes into the worker's *line*, its local queue.
 //!
-//! **Order.** After that the worker sweeps its blocks with ready jobs: it runs each job that was ready as the sweep of
-//! its block began, once. At the end of a round over its blocks, the worker runs all jobs in its local queue, in order.
-//! So a job that is ready again and again makes no other job wait for more than a round.
+//! **Order.** After a chain the worker *sweeps* its blocks: of each block it runs, once, every job that was ready when
+//! the sweep of that block began. After all its blocks (a *round*), the worker runs all jobs in its line, in order. So
+//! a job that is ready again and again makes no other job wait for more than a round.
 //!
 //! **Checks.** After `LOOK_OUT` polls of tasks, or after some time if polls are long, a worker checks its timers, the
-//! epoll, and which other workers make no progress. It takes up to two jobs from each worker that makes no progress,
-//! out of that worker's blocks and local queues. If a check is due because time has passed, it includes the epoll only
-//! if no other worker has polled the epoll lately. If polls are long (fewer than `FEW` fit into `LOOK_TIME`), another
-//! worker counts as making no progress for as long as it is in one poll. To run its own jobs too, the checking worker
-//! then takes more jobs only after it has run those that it has stolen and one of its own. While it runs the jobs of
-//! its line, it takes none, unless the other worker has been in its poll for `LONG_POLL`. When `LONG` checks in a row
-//! have found the same worker without progress, the checking worker fires that worker's timers too.
+//! epoll, and which other workers make no progress (no new poll since the last check). From each such worker it takes
+//! up to two jobs, out of that worker's blocks and local queues. If the check is due because of the time, the epoll is
+//! left out if another worker has polled it lately. If polls are long (fewer than `FEW` fit into `LOOK_TIME`), another
+//! worker counts as making no progress for as long as it is in one poll. The checking worker must run its own jobs too:
+//! it takes more jobs only after it has run those that it has stolen and one of its own. While it runs the jobs of its
+//! line, it takes none, unless the other worker has been in its poll for `LONG_POLL`. After `LONG` checks in a row that
+//! found the same worker without progress, it fires that worker's timers too.
 //!
-//! **Stealing.** Any worker without work can take any ready job, also from another worker's local queues: first the job
-//! that would run first. An idle worker takes half of another worker's ready jobs or, if it finds none, half of the
-//! jobs in that worker's local queues behind the next one. If there is only one such job, it takes the job only if that
-//! worker sleeps or makes no progress. Stolen jobs run before all jobs that are ready on the worker that stole them,
-//! and may be stolen again. A worker sleeps only if no other worker has two or more jobs that it could take over. While
-//! any worker is idle, the others keep only as many jobs in their local queues as run in about `LOOK_TIME`, and wake
-//! the idle worker for more.
+//! **Stealing.** A worker without work can take any ready job, also out of another worker's local queues: first the job
+//! that would run first there. It takes half of another worker's ready jobs or, if it finds none, half of the jobs in
+//! that worker's local queues behind the next one. A worker's only such job is taken only if that worker sleeps or
+//! makes no progress. Stolen jobs run before all other ready jobs of the thief, and may be stolen again. A worker
+//! sleeps only if no other worker has two or more jobs that it could take over. While any worker is idle, each other
+//! worker keeps only as many jobs in its local queues as run in about `LOOK_TIME`, and wakes the idle worker for more.
 
 use crate::core::{place_of, Hands, Job, Rested, Spawned, BLOCK, SHARD};
 use crate::cores::Judge;
@@ -44,7 +43,7 @@ mod sleepers;
 
 pub(crate) use sleepers::Ends;
 
-/// The longest chain of jobs that run one after the other because each was made ready by the one before.
+/// The most jobs that run in a row, each of them made ready by the one before (a *chain*).
 const NEXTS: u32 = 128;
 
 /// After `LOOK_OUT` polls, or `LOOK_TIME` nanoseconds, a worker checks the epoll, its timers and other workers, even if
@@ -53,76 +52,76 @@ const NEXTS: u32 = 128;
 const LOOK_OUT: u32 = 64;
 pub(crate) const LOOK_TIME: u64 = 100_000;
 /// Nanoseconds between two checks of the epoll and the timers by the only active worker: nobody else could run the jobs
-/// that they make ready. If such a check is due because of the time, it polls the epoll only every `LONELY_LOOK`
-/// nanoseconds: the jobs that it finds run behind those in the local queues.
+/// that it finds. A check that is due because of the time polls the epoll only every `LONELY_LOOK` nanoseconds, as the
+/// jobs that it finds run behind those in the local queues.
 const LONELY_TIME: u64 = 500_000;
 const LONELY_LOOK: u64 = 2_000_000;
-/// The worker that applies the core policy reads its clock once per this many polls.
+/// The worker that decides for the policy reads its clock only once in this many polls.
 const JUDGED: u32 = 8;
-/// After this many checks in a row that found another worker without progress, a worker fires that worker's timers.
+/// A worker fires the timers of another worker after this many checks in a row have found no new poll of that worker.
 const LONG: u32 = 8;
-/// Nanoseconds in one poll, after which a busy worker also takes the job that would run next on the worker in that
-/// poll.
+/// If another worker has been in one poll for this many nanoseconds, a busy worker takes even the job that was to run
+/// next on it.
 const LONG_POLL: u64 = 1_000_000;
-/// After a sweep has found this many empty blocks (of task slots) whose bits in the summary word are still set, the
-/// worker clears those bits.
+/// A worker clears the summary bits of empty blocks (of task slots) after its sweeps have found this many such blocks.
 const STALE: u32 = 16;
-/// The most jobs in a worker's local queues that come from one poll of the epoll or from another worker. While any
-/// worker is idle, the most jobs there in all.
+/// The most jobs that one poll of the epoll, or one theft from another worker, may put into a worker's local queues.
+/// While any worker is idle, it is the most jobs there in all.
 const FEW: usize = 8;
-/// The most jobs in a worker's line (its local queue): `KEPT` that yielded or ended a chain or, if there is only one
-/// worker, `HAND` of any kind.
+/// The most jobs in a worker's line (its local queue). There may be `KEPT` jobs that yielded or would make a chain too
+/// long; if there is only one worker, `HAND` jobs of any kind.
 const KEPT: usize = 16;
 pub(crate) const HAND: usize = 48;
-/// If a worker finds this many more events and timers than its local queues have room for, it wakes another worker to
-/// help.
+/// If this many more events and timers are found than the worker's local queues have room for, the worker wakes another
+/// one to help.
 const MANY: usize = 4;
 
-/// The core policy counts at most this many ready jobs per worker.
+/// For the policy, a worker counts at most this many of its ready jobs.
 const CROWD: u32 = 128;
 
-/// A worker's position in its rounds, and the progress that it has seen other workers make.
+/// How far a worker is in its round over its blocks, and the progress that it has seen other workers make.
 pub(crate) struct Turn {
-    /// The number of stolen jobs that are left to run. Other workers may have taken some of these jobs.
+    /// The number of stolen jobs that this worker must still run. Other workers may have taken some of these jobs
+    /// meanwhile.
     first: usize,
-    /// The number of jobs of the line (the local queue) to run before the next sweep. Other workers may have taken some
-    /// of these jobs.
+    /// The number of jobs of the line (the local queue) that this worker must still run before its next sweep. Other
+    /// workers may have taken some of them meanwhile.
     line_left: usize,
     /// The block (of 64 task slots) that is being swept.
     block: usize,
-    /// The slots of `block` that had ready jobs when its sweep began and were not swept yet, as a bit mask.
+    /// A bit mask of the slots of `block` whose jobs were ready when the sweep began, and are still to be taken.
     wanted: u64,
     /// The index of the block (of 64 task slots) to sweep next.
     next: usize,
-    /// The number of empty blocks that sweeps have found although the summary word (a bit for each block with ready
-    /// jobs) still shows them.
+    /// The number of empty blocks that sweeps have found although the blocks' bits in the summary word are set.
     stale: u32,
     chain: u32,
-    /// The number of tasks polled since this worker last checked the epoll and the other workers, or was idle.
+    /// The number of tasks that this worker has polled since it last checked the epoll and the other workers, or was
+    /// idle.
     polls: u32,
-    /// An estimate of how many polls take `LOOK_TIME` together.
+    /// About how many polls of tasks take `LOOK_TIME` nanoseconds together.
     most: u32,
-    /// True if each call of `look_out` also counts the ready jobs for the policy, and checks if the arbiter wants the
-    /// core back.
+    /// True if each call of `look_out` must also count the ready jobs for the policy, and check if the arbiter wants
+    /// the core back.
     counts: bool,
-    /// For each other worker, the number of polls that it had made when this worker last checked whether it makes
-    /// progress.
+    /// For each other worker, how many polls it had made when this worker last checked its progress.
     seen: Vec<u64>,
-    /// For each other worker, the number of checks in a row that found no new poll of it, modulo `LONG`.
+    /// For each other worker, the number of checks in a row in which it had made no new poll, modulo `LONG`.
     stood: Vec<u32>,
-    /// For each worker, the time since which this worker has seen no new poll of it.
+    /// For each worker, the time (in nanoseconds) since which this worker has seen no new poll of it.
     since: Vec<u64>,
-    /// For each other worker, the number of polls that it had made when this worker last checked it before a sleep.
+    /// For each other worker, how many polls it had made when this worker last checked it before going to sleep.
     met: Vec<u64>,
-    /// The time of this worker's last check of the others before a sleep.
+    /// The time (in nanoseconds) at which this worker last checked the others before going to sleep.
     looked: u64,
-    /// Milliseconds between this worker's checks of the others while it sleeps.
+    /// While this worker sleeps, it checks the others each time that this many milliseconds have passed.
     rests: i32,
     /// The number of polls that all workers together had made when `rests` was last set.
     watched: u64,
-    /// True if the last call of `look_at_others` left the worker with stolen jobs to run.
+    /// True if the last call of `look_at_others` has stolen jobs, which this worker must run.
     helps: bool,
-    /// True if the worker woke from a sleep unasked, and has neither run a job nor called `goes_on` since then.
+    /// True if this worker woke without being woken by another one, and has neither run a job nor called `goes_on`
+    /// since then.
     unsaid: bool,
 }
 
@@ -151,8 +150,8 @@ impl Turn {
         }
     }
 
-    /// Estimates how many polls take `LOOK_TIME`, from the polls since this function was last called. Starts the next
-    /// measurement at `now`.
+    /// Estimates how many polls take `LOOK_TIME`, from the polls and the time since this function was last called. The
+    /// next estimate begins at `now`.
     fn pace(&mut self, context: &Context, now: u64) {
         if self.polls != 0 {
             let fitting = self.polls as u64 * LOOK_TIME / now.saturating_sub(context.looked.get()).max(1);
@@ -162,16 +161,16 @@ impl Turn {
         context.looked.set(now);
     }
 
-    /// Returns true if enough time has passed to check the epoll, the timers and the other workers again. Reads the
-    /// clock, so it is only worth calling if polls are long.
+    /// Returns true if the next check of the epoll, the timers and the other workers is due because of the time. As it
+    /// reads the clock, call it only if polls are long.
     #[inline]
     fn is_over(&self, context: &Context, alone: bool) -> bool {
         let time = if alone { LONELY_TIME } else { LOOK_TIME };
         now().saturating_sub(context.looked.get()) >= time
     }
 
-    /// Returns how many jobs this worker keeps in its local queues while another worker is idle. These are as many as
-    /// it will run before its next check of the other workers.
+    /// Returns how many jobs this worker may keep in its local queues while another worker is idle: as many as it will
+    /// run before its next check of the other workers.
     #[inline]
     fn few(&self) -> usize {
         FEW.min(self.most as usize)
@@ -181,10 +180,10 @@ impl Turn {
 impl Shared {
     // --------------------------------------------------------------------------------------- whom to wake
 
-    /// Wakes a worker for a job that has become ready in its block (a group of 64 slots).
+    /// Wakes a worker because a job has become ready in its block (a group of 64 slots).
     ///
-    /// If `unpark` is true, wakes the worker that owns the block; otherwise, unless `quiet` is true, wakes any sleeping
-    /// worker, to help.
+    /// If `unpark` is true, wakes the worker that owns the block. Otherwise wakes any sleeping worker, to help; if
+    /// `quiet` is true, wakes none.
     #[inline]
     pub(crate) fn published(&self, name: u64, unpark: bool, quiet: bool) {
         if unpark {
@@ -201,8 +200,8 @@ impl Shared {
         self.published(job.name, unpark, false);
     }
 
-    /// Makes `job` the job that runs next on this worker. A job that was to run next before becomes ready, so that any
-    /// worker can take it.
+    /// Makes `job` the job that runs next on this worker. The job that was to run next until now becomes ready, so that
+    /// any worker can take it.
     #[inline]
     pub(crate) fn set_next(&self, context: &Context, job: Job) {
         if !context.worker.hand.next.put(job) {
@@ -210,7 +209,7 @@ impl Shared {
         }
     }
 
-    /// The rare part of `set_next`, not inlined.
+    /// Does what `set_next` does if there is a next job already. It is rare, so it isn't inlined.
     #[inline(never)]
     fn displace_next(&self, context: &Context, job: Job) {
         if let Some(waits) = context.worker.hand.next.take(context.alone) {
@@ -235,18 +234,18 @@ impl Shared {
         if self.sleepers.0.load(SeqCst) & bit == 0 || self.sleepers.0.fetch_and(!bit, SeqCst) & bit == 0 {
             return false;
         }
-        // The worker counts as searching before it wakes, so that no second worker is woken until this one has
-        // searched.
+        // The worker is counted as searching before it wakes. So no second worker is woken until this one has searched
+        // for work.
         self.searching.0.fetch_add(1, SeqCst);
         self.ring(worker);
         true
     }
 
-    /// Ends the current sleep of `worker`, or its next one.
+    /// Wakes `worker` from its sleep. If it doesn't sleep, its next sleep ends at once.
     ///
-    /// If the worker begins to wait in the epoll after this call has read `waits`, it doesn't notice its bell (its
-    /// condition variable). The worker still finds work that the caller has published before this call, since it
-    /// registers as the worker in the epoll before its last check for work.
+    /// If the worker begins to wait in the epoll just after this call has read `waits`, it doesn't see that its bell
+    /// (its condition variable) was rung. It still finds the work that the caller has made ready before this call: it
+    /// registers as the worker in the epoll first, and then checks for work a last time.
     pub(crate) fn ring(&self, worker: usize) {
         if self.waits.0.load(SeqCst) == worker {
             self.reactor.notify();
@@ -255,8 +254,8 @@ impl Shared {
         }
     }
 
-    /// Wakes a sleeping worker, unless some worker is already searching for work. If possible, it is neither the worker
-    /// that waits in the epoll nor the *deputy*, which polls the epoll in that worker's stead.
+    /// Wakes a sleeping worker, unless another worker is searching for work already. If it can, it spares the worker
+    /// that waits in the epoll and the *deputy*, which polls the epoll in that worker's stead.
     #[inline]
     pub(crate) fn rouse_any(&self) {
         let sleepers = self.sleepers.0.load(SeqCst);
@@ -269,11 +268,11 @@ impl Shared {
         }
     }
 
-    /// Ends this worker's search for work; the worker stays awake. If no other worker is still searching, wakes another
-    /// worker for work that may be left.
+    /// Records that this worker no longer searches for work (it stays awake). If no other worker searches, wakes one if
+    /// there seems to be more work.
     ///
-    /// While this worker searched, no other worker was woken for new work, so `searching` must be decreased before the
-    /// check for work that is left.
+    /// While this worker searched, no worker was woken for new work. So `searching` must be decreased first, and then
+    /// the check for more work made.
     fn stop_looking(&self, hands: &Hands) {
         if self.searching.0.fetch_sub(1, SeqCst) != 1 {
             return;
@@ -288,7 +287,7 @@ impl Shared {
         }
     }
 
-    /// Marks this worker as awake again, after a sleep or an attempt to sleep. Returns true if another worker woke it.
+    /// Records that this worker is awake, after it slept or tried to. Returns true if another worker has woken it.
     fn awake(&self, context: &Context) -> bool {
         let bit = 1 << context.me;
         let roused = self.sleepers.0.load(SeqCst) & bit == 0 || self.sleepers.0.fetch_and(!bit, SeqCst) & bit == 0;
@@ -298,7 +297,8 @@ impl Shared {
         roused
     }
 
-    /// Returns true if no worker waits in the epoll, and none is the deputy, which polls it in that worker's stead.
+    /// Returns true if nobody will see the epoll's events: no worker waits in it, and there is no deputy, which polls
+    /// it instead.
     fn is_unattended(&self) -> bool {
         self.waits.0.load(SeqCst) == NO_ONE && self.deputy.0.load(SeqCst) == NO_ONE
     }
@@ -313,13 +313,12 @@ impl Shared {
         self.queued.0.load(SeqCst) != 0 && !self.clogged.load(SeqCst)
     }
 
-    /// Returns the number of jobs that seem ready in the blocks (the task slots) of `worker`. The count stops at eight.
+    /// Returns about how many jobs are ready in the task slots of `worker`, counting to eight at most.
     pub(crate) fn ready(&self, hands: &Hands, worker: usize) -> u32 {
         self.ready_up_to(hands, worker, 8)
     }
 
-    /// Returns the number of jobs that seem ready in the blocks (the task slots) of `worker`. The count stops at
-    /// `most`.
+    /// Returns about how many jobs are ready in the task slots of `worker`, counting to `most` at most.
     fn ready_up_to(&self, hands: &Hands, worker: usize, most: u32) -> u32 {
         let mut count = 0;
         for &shard in self.workers[worker].0.used_shards() {
@@ -335,7 +334,7 @@ impl Shared {
 
     // --------------------------------------------------------------------------------------- one task
 
-    /// Polls the task of `job`, which this worker holds. Afterwards ends the job, or puts it back as ready or blocked.
+    /// Polls the task of `job`, which this worker must hold. Then ends the job, or puts it back as ready or as blocked.
     #[inline]
     fn run(&self, context: &Context, turn: &mut Turn, job: Job) {
         let name = job.name;
@@ -363,13 +362,14 @@ impl Shared {
         self.rest(context, job);
     }
 
-    /// Puts back `job`, whose poll is over and which has not ended. The job becomes blocked or, if it was woken during
-    /// the poll, goes behind all jobs that are ready on this worker.
+    /// Puts back `job` after a poll in which it has not ended. It becomes blocked. If it was woken during the poll, it
+    /// goes behind all ready jobs of this worker instead.
     #[inline]
     fn rest(&self, context: &Context, job: Job) {
         let name = job.name;
         if !context.woken.get() {
-            // Written before the job is blocked, since the runtime's end finds blocked jobs by these names.
+            // The name must be written before the job is blocked: the runtime's end finds the blocked jobs by these
+            // names.
             let kept = &self.names[job.place()];
             if kept.load(Relaxed) != name {
                 kept.store(name, Relaxed);
@@ -388,7 +388,7 @@ impl Shared {
     }
 
     /// Ends a job, and frees its slot. The slot must be free before `roomy` and `clogged` are read: `spawn_at` clears a
-    /// block's bit in `roomy` before it tries the block again, and `begin_queued` sets `clogged` before its second try.
+    /// block's bit in `roomy`, and `begin_queued` sets `clogged`, before they try a second time to find a free slot.
     #[inline]
     fn finish(&self, context: &Context, job: &Job) {
         context.hands.finish(job);
@@ -399,7 +399,7 @@ impl Shared {
         }
     }
 
-    /// Marks a block (of 64 task slots) as one that may have a free slot.
+    /// Records that a block (of 64 task slots) may have a free slot.
     #[inline]
     pub(crate) fn show_room(&self, block: usize) {
         let (word, bit) = (&self.roomy[block / SHARD].0, 1 << (block % SHARD));
@@ -410,8 +410,8 @@ impl Shared {
 
     // --------------------------------------------------------------------------------------- what is next
 
-    /// Takes the job that this worker runs next. If a check is due, first checks the epoll, the timers and other
-    /// workers.
+    /// Takes the job that this worker runs next. If a check of the epoll, the timers and the other workers is due,
+    /// makes that check first. Returns None if there is no job.
     #[inline]
     fn pick(&'static self, context: &Context, turn: &mut Turn) -> Option<Job> {
         let is_over = |turn: &Turn| turn.most < LOOK_OUT && turn.polls >= 1 && turn.is_over(context, self.is_alone());
@@ -425,8 +425,8 @@ impl Shared {
         self.pick_next(context, turn).or_else(|| self.pick_ready(context, turn))
     }
 
-    /// Takes the job that the last job made ready; if too many such jobs ran in a row, puts it into the line (the local
-    /// queue) instead.
+    /// Takes the job that was spawned or woken last. If too many such jobs have run in a row, puts it into the line
+    /// (the local queue) instead, and returns None.
     #[inline]
     fn pick_next(&self, context: &Context, turn: &mut Turn) -> Option<Job> {
         if let Some(job) = context.worker.hand.next.take(context.alone) {
@@ -441,8 +441,8 @@ impl Shared {
         None
     }
 
-    /// Puts a job behind all jobs that are ready on this worker. The job goes into the line (the local queue) or, if
-    /// `most` jobs are there already, becomes ready in its block (its task slot).
+    /// Puts a job behind all ready jobs of this worker: into the line (the local queue) or, if `most` jobs are there
+    /// already, into its task slot as ready.
     #[inline]
     pub(crate) fn set_behind(&self, context: &Context, job: Job, most: usize) {
         if !context.worker.hand.line.put(job, most) {
@@ -450,8 +450,8 @@ impl Shared {
         }
     }
 
-    /// Returns how many jobs that yielded or ended a chain may be in the line (the local queue): only one while any
-    /// worker is idle.
+    /// Returns how many jobs that yielded, or would make a chain too long, may be in the line (the local queue). While
+    /// any worker is idle, it is only one.
     #[inline]
     fn kept(&self) -> usize {
         match self.all_busy() {
@@ -498,8 +498,8 @@ impl Shared {
         }
     }
 
-    /// Takes the next ready job of this worker's blocks (of task slots), which are swept in turn. At the end of a round
-    /// over the blocks, takes the jobs of the line (the local queue) first.
+    /// Takes the next ready job in the task slots of this worker, block by block. Returns None if no job is ready, or
+    /// after the last block if jobs in the line (the local queue) or tasks without a slot come first.
     #[inline]
     fn sweep(&self, context: &Context, turn: &mut Turn) -> Option<Job> {
         loop {
@@ -527,8 +527,8 @@ impl Shared {
 
     /// Finds the first block (of 64 task slots) with ready jobs of the worker `owner`, from block index `from` on.
     ///
-    /// Returns the index of the block after it, the block itself, and the slots with ready jobs, as a bit mask. Adds to
-    /// `stale` the number of empty blocks that the summary word (a bit for each block with ready jobs) still shows.
+    /// Returns the index at which the next search begins, the block, and a bit mask of its slots with ready jobs. Adds
+    /// to `stale` the number of empty blocks on the way whose summary bit is still set.
     #[inline]
     fn find_block(&self, hands: &Hands, owner: usize, from: usize, stale: &mut u32) -> Option<(usize, usize, u64)> {
         let first = from / SHARD;
@@ -551,15 +551,16 @@ impl Shared {
         None
     }
 
-    /// Puts the first queued task into a free slot of this worker, or else of another worker. Returns `None` if no slot
-    /// is free; otherwise the job if this worker now holds it, and `Some(None)` if another worker will run it.
+    /// Puts the first task of the queue into a free slot, of this worker if possible. Returns `None` if no task is
+    /// queued or no slot is free, `Some(Some(job))` if this worker now holds the job, and `Some(None)` if another
+    /// worker will run it.
     fn begin_queued(&'static self, context: &Context) -> Option<Option<Job>> {
         let raw = self.pop_queued()?;
         if let Some(job) = self.place(context, raw) {
             return Some(job);
         }
-        // The flag must be set before the second try: whoever frees a slot later clears the flag, and a slot that was
-        // freed earlier is found.
+        // The flag must be set before the second try. Then a slot that was freed earlier is found by that try, and
+        // whoever frees one later clears the flag.
         self.clogged.store(true, SeqCst);
         if let Some(job) = self.place(context, raw) {
             self.clogged.store(false, SeqCst);
@@ -597,22 +598,22 @@ impl Shared {
 
     // --------------------------------------------------------------------------------------- others
 
-    /// Returns the workers without a core whose jobs and timers the worker `me` looks after.
+    /// Returns the workers without a core whose jobs the worker `me` runs, and whose timers it fires.
     fn lodgers(&self, me: usize) -> impl Iterator<Item = usize> {
         let active = self.active.0.load(SeqCst);
         (active..self.workers.len()).filter(move |&other| other % active == me)
     }
 
-    /// Checks the epoll, the timers and the other workers, even if there are jobs to run. Returns false if the arbiter
-    /// wants this worker's core back.
+    /// Checks the epoll, the timers and the other workers, although this worker may have jobs to run. Returns false if
+    /// the arbiter wants this worker's core back.
     #[inline(never)]
     fn look_out(&self, context: &Context, turn: &mut Turn, by_time: bool) -> bool {
         if context.worker.hand.line.len() > turn.few() && !self.all_busy() {
             self.rouse_any();
         }
-        // The jobs that this check finds must not run before those that are ready on this worker nor, if polls are
-        // long, before those in its line. The only active worker takes them anyway, since it runs all jobs in that
-        // order.
+        // The jobs that this check finds must not run before the ready jobs of this worker; if polls are long, they
+        // must not run before the jobs in its line either. The only active worker takes all of them anyway, as it runs
+        // all jobs in that order.
         let (alone, lasts) = (self.is_alone(), turn.few() < FEW);
         let first = |turn: &Turn| turn.wanted == 0 && !self.mine(context);
         let takes = alone || (context.worker.hand.line.is_empty() || !lasts) && first(turn);
@@ -637,9 +638,9 @@ impl Shared {
 
     /// Takes jobs from workers that make no progress (no new poll since the last check), and fires their timers.
     fn look_at_others(&self, context: &Context, turn: &mut Turn) {
-        // If polls are long, a worker within a poll counts as making no progress. More jobs are taken from that worker
-        // only after the jobs taken before and one of this worker's own have run, and after this worker's line too
-        // unless the poll is very long.
+        // If polls are long, a worker that is in a poll counts as making no progress. Before this worker takes more
+        // jobs from it, it must have run those that it took before and one of its own. It must also have run the jobs
+        // of its line, unless the other worker's poll is very long.
         let (active, long_polls) = (self.active.0.load(Relaxed), turn.few() < FEW);
         for other in 0..self.workers.len() {
             let worker = &self.workers[other].0;
@@ -667,8 +668,8 @@ impl Shared {
             if !gets_on && !sleeps && may_help {
                 self.take_out(context, turn, other, 2, lasts);
             }
-            // A sleeping worker's blocks are checked only now and then: when a job becomes ready there, some worker is
-            // woken anyway.
+            // The blocks of a sleeping worker are checked only now and then: a worker is woken anyway when a job
+            // becomes ready there.
             if (long || !sleeps) && may_help && self.ready(&context.hands, other) != 0 {
                 self.help(context, turn, other, 2);
             }
@@ -676,7 +677,7 @@ impl Shared {
         turn.helps = turn.first != 0;
     }
 
-    /// Takes up to `most` ready jobs from one block (64 task slots) of the worker `other`. The jobs run next on this
+    /// Takes up to `most` ready jobs from one block (64 task slots) of the worker `other`, to run them next on this
     /// worker. Returns true if it took any.
     fn help(&self, context: &Context, turn: &mut Turn, other: usize, most: usize) -> bool {
         let (hands, stale) = (&context.hands, &mut 0);
@@ -688,8 +689,8 @@ impl Shared {
         self.has_taken(context, turn, got)
     }
 
-    /// Takes up to `most` jobs from the local queues of the worker `other`. The jobs run next on this worker. If `next`
-    /// is true, also takes the job that would run next on the other worker. Returns true if it took any.
+    /// Takes up to `most` jobs from the local queues of the worker `other`, to run them next on this worker. If `next`
+    /// is true, also takes the job that was to run next on `other`. Returns true if it took any.
     fn take_out(&self, context: &Context, turn: &mut Turn, other: usize, most: usize, next: bool) -> bool {
         let most = most.min(FIRST - context.worker.hand.first.len());
         let jobs = (0..most).map_while(|_| self.workers[other].0.hand.take(next));
@@ -701,7 +702,7 @@ impl Shared {
         self.has_taken(context, turn, got)
     }
 
-    /// Puts a stolen job before all jobs that are ready on this worker.
+    /// Makes a stolen job run before all other ready jobs of this worker.
     fn set_first(&self, context: &Context, job: Job) {
         if !context.worker.hand.first.put(job, FIRST) {
             self.make_ready(context, &job);
@@ -716,17 +717,17 @@ impl Shared {
         got != 0
     }
 
-    /// Returns how many more jobs may go into this worker's local queues when events wake their tasks.
+    /// Returns how many jobs that events wake may still go into this worker's local queues.
     fn room(&self, context: &Context, turn: &Turn) -> usize {
         let most = if self.is_alone() { HAND } else { turn.few() };
         most.saturating_sub(context.worker.hand.line.len())
     }
 
-    /// Returns how many events to ask the epoll for, which is as many as this worker's local queues have room for.
+    /// Returns how many events to ask the epoll for: as many as this worker's local queues have room for.
     ///
-    /// The other events stay in the kernel, in their order, for the next worker that polls the epoll. If this worker
-    /// took them too, their tasks would be stuck whenever it loses its processor, and would run before the jobs in its
-    /// line. A worker without room asks for a few events, whose tasks other workers can take.
+    /// All other events stay in the kernel, in their order, for the next worker that polls the epoll. If this worker
+    /// took them too, their tasks would have to wait whenever this worker loses its processor, and would run before the
+    /// jobs in its line. A worker without room asks for a few events, whose tasks other workers can take.
     fn asks(&self, room: usize) -> usize {
         match room {
             0 if self.is_alone() => EVENTS,
@@ -740,16 +741,17 @@ impl Shared {
         self.active.0.load(Relaxed) == 1
     }
 
-    /// Polls the epoll, and fires the timers that are due. Returns the number of events and timers together.
+    /// Polls the epoll, and fires the timers that are due. Returns how many events and timers there were.
     fn look_at_events(&self, context: &Context, room: usize) -> usize {
         let found = if self.reactor.is_used() { self.reactor.look(self.asks(room)) } else { Found::NOTHING };
         self.hear(context, &found, room)
     }
 
-    /// Wakes the tasks of the events `found`, and fires the timers that are due. Returns the number of events and
-    /// timers together.
+    /// Wakes the tasks that wait for the events `found`, and fires the timers that are due. Returns how many events and
+    /// timers there were.
     ///
-    /// The first `room` of these tasks go into this worker's local queues, without waking another worker.
+    /// The first `room` of the woken tasks go into this worker's local queues, and no worker is woken to help with
+    /// them.
     fn hear(&self, context: &Context, found: &Found, room: usize) -> usize {
         context.keeps.set(false);
         context.room.set(room);
@@ -765,8 +767,8 @@ impl Shared {
         heard
     }
 
-    /// Fires the due timers of the worker `other`, which is in a long poll or has no processor, without waking other
-    /// workers. Returns the number of timers fired.
+    /// Fires the due timers of the worker `other`, which is in a long poll or has no processor. No worker is woken to
+    /// help. Returns how many timers fired.
     fn fire_quietly(&self, context: &Context, other: usize) -> usize {
         context.keeps.set(false);
         let fired = self.fire(other);
@@ -774,7 +776,7 @@ impl Shared {
         fired
     }
 
-    /// Fires the due timers of the worker `owner`. Returns the number of timers fired.
+    /// Fires the timers of the worker `owner` that are due. Returns how many there were.
     pub(crate) fn fire(&self, owner: usize) -> usize {
         if self.next_timer(owner) == u64::MAX {
             return 0;
@@ -784,7 +786,8 @@ impl Shared {
         fire(&self.workers[owner].0.timers) + if owner == 0 { fire(&self.visitors) } else { 0 }
     }
 
-    /// Returns the time at which the first timer of the worker `owner` is due; `u64::MAX` if there is none.
+    /// Returns the time (in nanoseconds) at which the first timer of the worker `owner` is due; `u64::MAX` if it has
+    /// none.
     #[inline]
     pub(crate) fn next_timer(&self, owner: usize) -> u64 {
         let own = self.workers[owner].0.timers.next();
@@ -795,11 +798,11 @@ impl Shared {
         }
     }
 
-    /// Steals half of another worker's ready jobs or, if `last` is true, half of the jobs in its local queues behind
-    /// the next one.
+    /// Steals half of another worker's ready jobs. If it has none and `last` is true, steals half of the jobs in that
+    /// worker's local queues instead, but not the one that runs next.
     ///
-    /// If that worker has only one job to steal, takes it only if that worker sleeps or has made no new poll since the
-    /// last check. Returns true if any job was stolen.
+    /// A worker's only job is stolen only if that worker sleeps or has made no new poll since the last check. Returns
+    /// true if any job was stolen.
     fn steal(&self, context: &Context, turn: &mut Turn, last: bool) -> bool {
         let count = self.workers.len();
         let offset = context.random() as usize % count;
@@ -821,7 +824,7 @@ impl Shared {
 
     // --------------------------------------------------------------------------------------- the loop
 
-    /// Runs a worker until the runtime stops.
+    /// The loop of a worker's thread, which ends when the runtime stops.
     pub(crate) fn work(&'static self, context: &Context, mut judge: Option<Judge>, counts: bool) {
         let mut turn = Turn::new(self, counts);
         let worker = context.worker;
@@ -857,8 +860,8 @@ impl Shared {
         self.lay_down(context, &mut turn);
     }
 
-    /// Polls the epoll, unless another worker waits in it, and fires the timers that are due. Returns the number of
-    /// events and timers together.
+    /// Polls the epoll, unless another worker waits in it, and fires the timers that are due. Returns how many events
+    /// and timers there were.
     fn look_when_idle(&self, context: &Context, turn: &mut Turn) -> usize {
         let room = self.room(context, turn);
         if self.waits.0.load(Relaxed) != NO_ONE {
@@ -866,16 +869,15 @@ impl Shared {
         }
         let heard = self.look_at_events(context, room);
         if heard != 0 && self.is_alone() {
-            // This worker's local queues may be full now, so a check by time would find no room before these jobs have
-            // run.
+            // This worker's local queues may be full now. The next check must not be due before these jobs have run, as
+            // it would find no room.
             turn.pace(context, now());
             self.looked.0.store(context.looked.get(), Relaxed);
         }
         heard
     }
 
-    /// Takes ready jobs of the workers without a core that this worker stands in for (whose jobs it runs). Returns true
-    /// if any job was taken.
+    /// Takes ready jobs of the workers without a core for which this worker works. Returns true if it took any.
     fn help_lodgers(&self, context: &Context, turn: &mut Turn) -> bool {
         self.lodgers(context.me)
             .any(|other| self.ready(&context.hands, other) != 0 && self.help(context, turn, other, FEW))

@@ -1,5 +1,5 @@
-//! Futures, tasks and runtimes that are dropped, aborted or ended early: nothing leaks, and no task or thread waits for
-//! ever.
+//! Tests of futures, tasks and runtimes that are dropped, aborted or ended early: nothing leaks, and no task or thread
+//! waits for ever.
 use arachne::{
     block_on, channel, net, sleep, spawn, spawn_blocking, stopping, timeout, yield_now, Builder, JoinError, Lock,
     Runtime, Semaphore, Signal,
@@ -45,8 +45,8 @@ impl Drop for OnDrop {
     }
 }
 
-/// Polls a future with a counted waker, makes the future ready by `let_it`, and polls it until it is ready. After that
-/// the waker must have been freed.
+/// Polls a future with a waker whose references are counted, makes the future ready by `let_it`, and polls it until it
+/// is ready. Checks that the future has then dropped the waker.
 fn frees_its_waker(runtime: &Runtime, what: &str, future: impl Future, let_it: impl FnOnce()) {
     let (mut future, counted, start) = (Box::pin(future), Arc::new(Nobody), Instant::now());
     let mut poll = || {
@@ -65,7 +65,8 @@ fn frees_its_waker(runtime: &Runtime, what: &str, future: impl Future, let_it: i
     }
 }
 
-/// Polls a future with a counted waker, and drops the future while it waits. Then the waker must have been freed.
+/// Polls a future with a waker whose references are counted, and drops the future while it waits. Checks that the waker
+/// was dropped too.
 fn frees_its_waker_at_drop(runtime: &Runtime, what: &str, future: impl Future) {
     let (mut future, counted) = (Box::pin(future), Arc::new(Nobody));
     let waker = counted.clone().into();
@@ -98,8 +99,8 @@ fn wakers_of_others_are_freed() {
     frees_its_waker(&runtime, "a handle", task, || gate.add_permits(1));
 }
 
-/// If a future is dropped after it was given its turn and before it noticed, the next future in the queue gets the
-/// turn.
+/// A waiting future is woken because it is its turn, and is dropped before it is polled. Then the next future in the
+/// queue is woken.
 #[test]
 fn a_turn_that_was_given_is_handed_on_at_drop() {
     let (sender, receiver) = channel(1);
@@ -124,7 +125,8 @@ fn a_turn_that_was_given_is_handed_on_at_drop() {
     assert_eq!(semaphore.available_permits(), 2);
 }
 
-/// Each end of a channel sees that the other is gone, and values that nobody can receive are dropped.
+/// A waiting sender or receiver is woken when the other end of the channel is dropped. Values that nobody can receive
+/// any more are dropped.
 #[test]
 fn whoever_waits_hears_that_the_other_end_is_gone() {
     let runtime = Runtime::new(1);
@@ -164,7 +166,7 @@ fn what_is_aborted_before_it_begins_never_runs() {
             thread::yield_now();
         }
     };
-    // The only worker, or the only thread of the blocking pool, is busy until the task or work was aborted.
+    // The only worker, or the only thread of the blocking pool, is kept busy until the task or the work was aborted.
     for blocking in [false, true] {
         (runs.store(false, SeqCst), gate.store(false, SeqCst));
         let (first, began) = (busy.clone(), Arc::new(AtomicBool::new(false)));
@@ -200,7 +202,7 @@ fn a_timer_wakes_once() {
         is_due = is_due || Pin::new(&mut sleeps).poll(cx).is_ready();
         Poll::<()>::Pending
     }));
-    // One after the other, so that a busy machine doesn't merge several wakes into one.
+    // The sleeps follow one another, so that a busy machine doesn't merge several wakes into one.
     (0..8).for_each(|_| block_on(runtime.spawn(sleep(4 * MS))).unwrap());
     assert!(polls.load(SeqCst) <= 2, "{} polls", polls.load(SeqCst));
     task.abort();
@@ -211,7 +213,7 @@ fn a_sleep_wakes_whoever_polled_it_last() {
     let runtime = Runtime::new(2);
     let (sender, receiver) = channel(1);
     let (back, comes) = channel(1);
-    // One task polls the sleep twice, with its own waker. A second task polls it and hands it to this thread, which
+    // One task polls the sleep twice, with its own waker. A second task polls it and sends it to this thread, which
     // polls it and moves it to a third task.
     runtime.spawn(async move {
         let mut sleeps = sleep(150 * MS);
@@ -261,7 +263,7 @@ fn the_end_waits_for_work_that_blocks() {
     assert_eq!(runtime.shutdown_within(LONG).aborted, 0);
     assert_eq!(done.load(SeqCst), 5);
     all.into_iter().for_each(|task| assert!(block_on(task).is_ok()));
-    // If no time is left, work that has not begun is cancelled, and so is work that is requested later.
+    // If no time is left, the runtime cancels work that has not begun, and also work that is requested later.
     let runtime = Builder::new(1).blocking_threads(1).build().unwrap();
     let (dropped, began) = (Arc::new(AtomicUsize::new(0)), Arc::new(AtomicBool::new(false)));
     let (seen, begins, kept) = (dropped.clone(), began.clone(), OnDrop(dropped));
@@ -283,8 +285,8 @@ fn the_end_waits_for_work_that_blocks() {
     assert!(matches!(block_on(block_on(asks_late).unwrap()), Err(JoinError::Cancelled)));
 }
 
-/// Blocking work that doesn't end delays `shutdown_within` only until the deadline, and no later runtime gets the tasks
-/// of that work.
+/// Blocking work that never ends delays `shutdown_within` only until the deadline. No later runtime gets the tasks that
+/// this work spawns.
 #[test]
 fn the_end_leaves_work_that_blocks_for_ever() {
     let (release, blocks) = std::sync::mpsc::channel::<()>();
@@ -309,7 +311,8 @@ fn the_end_leaves_work_that_blocks_for_ever() {
     assert_eq!(next.live(), 0);
 }
 
-/// Blocking work that waits for a task which it has spawned after the end began doesn't delay the end.
+/// After the runtime has begun to end, blocking work spawns a task and waits for it. This doesn't delay the runtime's
+/// end.
 #[test]
 fn the_end_cancels_what_work_that_blocks_has_spawned() {
     let runtime = Runtime::new(1);
@@ -327,7 +330,8 @@ fn the_end_cancels_what_work_that_blocks_has_spawned() {
     assert!(matches!(block_on(work).unwrap(), Err(JoinError::Cancelled)));
 }
 
-/// The only worker is in a poll that doesn't end: timers of other threads fire, and so do the worker's in a `block_on`.
+/// While the only worker is in a poll that doesn't end, the timers of other threads fire, and so do those of a
+/// `block_on` in that poll.
 #[test]
 fn timers_of_other_threads_fire_while_the_worker_blocks() {
     let (runtime, blocks) = (Runtime::new(1), Arc::new(AtomicBool::new(true)));
@@ -381,7 +385,8 @@ fn who_waits_for_the_end_may_change() {
     assert_eq!(woken, [0, 0, 1]);
 }
 
-/// A wake reaches the sleeping worker if the other worker is in an endless poll, whichever worker owns the task's slot.
+/// While one worker is in an endless poll, a wake reaches the other worker, which sleeps; the woken task's slot may
+/// belong to either worker.
 #[test]
 fn a_sleeper_is_woken_beside_a_busy_worker() {
     let runtime = Runtime::new(2);
@@ -463,7 +468,7 @@ fn a_panic_leaks_nothing_and_is_told() {
     assert_eq!(dropped.load(SeqCst), 2);
 }
 
-/// If no task slot is free, `try_spawn` returns the future, and doesn't put the task into the queue.
+/// If no task slot is free, `try_spawn` returns the future instead of putting the task into the queue.
 #[test]
 fn what_has_no_place_comes_back() {
     let runtime = Builder::new(1).places(1).build().unwrap();
@@ -497,7 +502,8 @@ fn what_has_no_place_at_the_end_is_cancelled() {
     tasks.into_iter().for_each(|task| assert!(matches!(block_on(task), Err(JoinError::Cancelled))));
 }
 
-/// The runtime's end finds tasks that the watcher was the first to run, for a worker in a long poll.
+/// While the only worker is in a long poll, the watcher is the first to run some tasks. The runtime's end must find
+/// these tasks, too.
 #[test]
 fn what_the_watcher_ran_ends_with_the_runtime() {
     let runtime = Builder::new(1).watch_polls(5 * MS, false).build().unwrap();
@@ -522,8 +528,7 @@ fn what_the_watcher_ran_ends_with_the_runtime() {
     waiting.into_iter().for_each(|task| assert!(matches!(block_on(task), Err(JoinError::Cancelled))));
 }
 
-/// A task that waits for a socket of a runtime that ends gets an error, if it runs in another runtime or in blocking
-/// work.
+/// A task of another runtime, or blocking work, waits for a socket of a runtime that ends: it gets an error.
 #[test]
 fn a_socket_of_an_ended_runtime_keeps_nobody_waiting() {
     let (ends, runtime) = (Runtime::new(1), Runtime::new(2));
@@ -548,7 +553,7 @@ fn a_socket_of_an_ended_runtime_keeps_nobody_waiting() {
     }
 }
 
-/// A sleep that began in a runtime which has ended continues in whichever runtime polls it.
+/// A sleep begins in a runtime that ends. The sleep continues in whichever runtime polls it next.
 #[test]
 fn a_sleep_outlives_its_runtime() {
     let (ends, runtime) = (Runtime::new(1), Runtime::new(2));
@@ -562,7 +567,7 @@ fn a_sleep_outlives_its_runtime() {
     runtime.block_on(moved);
 }
 
-/// A later runtime of the same size uses the state of an ended one again. No other test has a runtime of 7 workers.
+/// A later runtime of the same size reuses the state of an ended one. This size is used in no other test: 7 workers.
 #[test]
 fn a_socket_of_an_ended_runtime_waits_in_no_later_one() {
     let (ends, signal) = (Runtime::new(7), Signal::heard(10).unwrap());

@@ -1,8 +1,8 @@
-//! The declarations in Rust are those of the header: codes, fields with their types and order, and signatures.
+//! Checks that the declarations in Rust agree with the header: codes, types and order of fields, and signatures.
 use std::collections::BTreeMap;
 use std::path::PathBuf;
 
-/// Returns the header beside the archive, or else the repository's.
+/// Returns the text of the header that is beside the archive or, if there is none, of the repository's.
 fn header() -> Option<String> {
     let beside = std::env::var("ARACHNE_LIBS").ok().map(|folder| PathBuf::from(folder).join("arachne_exec.h"));
     // In the folder of scripts/release, and in the repository.
@@ -46,7 +46,7 @@ fn rust_type(c: &str) -> String {
     .to_string()
 }
 
-/// Returns the type and the name of a declaration such as `uint64_t at`, `void *opaque` or `const T *to`.
+/// Returns the type and the name in a declaration such as `uint64_t at`, `void *opaque` or `const T *to`.
 fn declared(text: &str) -> (String, String) {
     let text = text.trim();
     let at = text.rfind(|c: char| !(c.is_alphanumeric() || c == '_')).expect("a type and a name");

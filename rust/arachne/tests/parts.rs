@@ -1,4 +1,5 @@
-//! Each part of the crate: abort, time, channel, semaphore, limits, the runtime's end, blocking work, observation.
+//! Tests of each part of the crate: abort, time, channel, semaphore, limits, the runtime's end, blocking work,
+//! observation.
 use arachne::{
     block_on, channel, net, sleep, spawn, spawn_background, spawn_blocking, spawn_named, stopping, timeout, yield_now,
     Builder, Doing, Elapsed, Hooks, JoinError, Limit, Lock, Policy, Runtime, Semaphore, SendError, Signal,
@@ -107,7 +108,7 @@ fn sleeps_end_in_order_and_not_early() {
         })
         .collect();
     tasks.into_iter().for_each(|task| block_on(task).unwrap());
-    // From outside of the runtime, by block_on.
+    // The same from outside of the runtime, by `block_on`.
     let start = Instant::now();
     runtime.block_on(sleep(5 * MS));
     assert!(start.elapsed() >= 5 * MS);
@@ -122,7 +123,7 @@ fn a_timeout_gives_the_output_or_elapsed() {
     assert_eq!(runtime.block_on(timeout(5 * MS, std::future::pending::<()>())), Err(Elapsed));
     let task = runtime.spawn(async { timeout(5 * MS, sleep(LONG)).await });
     assert_eq!(block_on(task).unwrap(), Err(Elapsed));
-    // As the error of a read or write that took too long.
+    // `Elapsed` converts to an `io::Error`, for a read or write that took too long.
     let late = async { std::io::Result::Ok(timeout(MS, std::future::pending::<()>()).await?) };
     assert_eq!(runtime.block_on(late).unwrap_err().kind(), std::io::ErrorKind::TimedOut);
 }
@@ -282,7 +283,7 @@ fn work_that_blocks_has_threads_of_its_own() {
 #[test]
 fn two_hundred_block_at_once() {
     let runtime = Runtime::new(1);
-    // None of them ends before all have begun.
+    // No piece of work ends before all have begun.
     let all = Arc::new(std::sync::Barrier::new(200));
     let work = |_| {
         let all = all.clone();
@@ -371,7 +372,7 @@ fn what_has_come_when_the_end_begins_is_read() {
             spawn(async move {
                 let (mut end, mut buffer) = (stopping(), [0; 16]);
                 loop {
-                    // Half of them check for the runtime's end before they check the socket.
+                    // Half of the connections' tasks check for the runtime's end before they check the socket.
                     let first = arachne::poll_fn(|cx| match std::pin::Pin::new(&mut end).poll(cx) {
                         Poll::Ready(()) => Poll::Ready(Ok(0)),
                         Poll::Pending => stream.poll_read(cx, &mut buffer),
@@ -396,7 +397,8 @@ fn what_has_come_when_the_end_begins_is_read() {
     let streams: Vec<_> = (0..COUNT).map(|_| std::net::TcpStream::connect(to).unwrap()).collect();
     streams.iter().for_each(|stream| ask(stream, 1));
     streams.iter().for_each(|stream| assert_eq!(answer(stream).unwrap(), 1));
-    // The only worker checks no socket until the end has begun, and then reads the data that have arrived meanwhile.
+    // The only worker checks no socket until the runtime has begun to end. Then it reads the data that arrived
+    // meanwhile.
     let near = std::net::TcpListener::bind("127.0.0.1:0").unwrap();
     let far = std::net::TcpStream::connect(near.local_addr().unwrap()).unwrap();
     let near = net::TcpStream::from_std(near.accept().unwrap().0).unwrap();
@@ -439,7 +441,7 @@ fn the_end_waits_for_nothing_in_the_background() {
     };
     let first = runtime.spawn_background(sweeps(OnDrop(dropped.clone())));
     let (at, ends) = (OnDrop(dropped.clone()), ended.clone());
-    // A task that takes a while to end, and meanwhile spawns tasks in the background; some of these end too.
+    // This task takes a while to end, and spawns background tasks meanwhile; some of these also end.
     runtime.spawn(async move {
         drop(spawn_background(sweeps(at)));
         for _ in 0..300 {
@@ -472,7 +474,7 @@ fn a_signal_is_heard() {
     assert!(signal.wait());
 }
 
-/// If a program could catch the signal of a fault, the fault would be raised again and again.
+/// A caught signal of a fault would be raised again and again, because the failed instruction is repeated.
 #[test]
 fn signals_of_faults_are_refused() {
     let error = |number| Signal::heard(number).unwrap_err().raw_os_error();
@@ -524,7 +526,7 @@ fn an_observed_runtime_lists_its_tasks() {
     while runtime.tasks().iter().filter(|task| waits(task)).count() < 5 {
         thread::sleep(MS);
     }
-    // Without the call, that signal would end this process.
+    // Without this call the signal that is raised next would end the process.
     runtime.list_tasks_at(10).unwrap();
     raise("USR1");
     for task in runtime.tasks() {
@@ -616,7 +618,8 @@ fn cores_are_given_back_and_asked_for() {
     busy.into_iter().for_each(|task| block_on(task).unwrap());
 }
 
-/// While other tasks yield for ever, ready tasks are polled, events of the epoll are seen, and timers fire.
+/// Some tasks yield for ever. Meanwhile, other ready tasks are polled, events of the epoll are handled, and timers
+/// fire.
 #[test]
 fn tasks_that_yield_for_ever_hold_nobody_up() {
     // With only one worker, no other worker can check its epoll.
@@ -659,7 +662,7 @@ fn echo_beside_yields(cores: usize) {
     busy.into_iter().for_each(|task| block_on(task).unwrap());
 }
 
-/// Many more tasks than there are blocks (of task slots) become ready again and again: no task runs twice as often as
+/// Far more tasks than there are blocks (of 64 task slots) become ready again and again. No task runs twice as often as
 /// another.
 #[test]
 fn tasks_that_yield_for_ever_run_equally_often() {
@@ -687,8 +690,8 @@ fn tasks_that_yield_for_ever_run_equally_often() {
     }
 }
 
-/// While all workers are busy, one worker keeps many tasks in its local queues. When another worker becomes idle, the
-/// first makes most of these tasks ready.
+/// While all workers are busy, one worker has many tasks in its local queues. As soon as another worker becomes idle,
+/// the first makes most of these tasks ready, so that the other can take them.
 #[test]
 fn what_is_in_hand_is_for_whoever_has_nothing_to_do() {
     let runtime = Runtime::new(2);
@@ -731,7 +734,7 @@ fn what_is_in_hand_is_for_whoever_has_nothing_to_do() {
     block_on(other).unwrap();
 }
 
-/// A socket that always has more data doesn't keep its worker busy for ever, whether it is new or was waited for
+/// A socket that always has more data doesn't occupy its worker for ever, whether or not a task has waited for it
 /// before.
 #[test]
 fn a_socket_that_always_has_more_holds_nobody_up() {
@@ -773,7 +776,7 @@ fn a_socket_that_always_has_more_holds_nobody_up() {
     }
 }
 
-/// A connection that always has more data is served until the deadline, and not for ever.
+/// A connection always has more data. It is served until the deadline, and not longer.
 #[test]
 fn what_always_has_more_ends_at_the_deadline() {
     let (runtime, (near, mut far)) = (Runtime::new(2), std::os::unix::net::UnixStream::pair().unwrap());
@@ -790,7 +793,7 @@ fn what_always_has_more_ends_at_the_deadline() {
     assert!(begin.elapsed() < LONG / 2);
 }
 
-/// All data that have arrived before the end begins are read, even if that takes longer than a poll may read.
+/// When the runtime begins to end, data that arrived before is still read, even if one poll can't read all of it.
 #[test]
 fn what_was_put_off_is_read_before_the_end() {
     const LEN: usize = 40_000;
@@ -858,8 +861,8 @@ fn what_is_read_within_block_on_in_a_task_is_not_put_off() {
     assert_eq!(block_on(task).unwrap(), 50);
 }
 
-/// The tasks of the sockets run in the order of the events, even if there are more tasks than fit into a worker's local
-/// queues.
+/// The tasks that wait for sockets run in the order of the events, even if the tasks are more than fit into a worker's
+/// local queues.
 #[test]
 fn sockets_are_heard_in_the_order_in_which_they_were_told_of() {
     for count in [8, 200] {
@@ -884,7 +887,7 @@ fn sockets_are_heard_in_the_order_in_which_they_were_told_of() {
                 thread::sleep(MS / 4);
             }
         };
-        // The worker has seen the event that each socket is writable, and sleeps.
+        // Here the worker has handled the events that say that the sockets are writable, and sleeps.
         until(&|| {
             waiting.load(SeqCst) == count && {
                 let parks = runtime.stats().parks;
@@ -914,7 +917,7 @@ fn a_burst_of_connections_waits_to_be_accepted() {
     let runtime = Runtime::new(2);
     let listener = net::TcpListener::bind("127.0.0.1:0").unwrap();
     let to = listener.local_addr().unwrap();
-    // Nobody accepts yet: a client for whom the backlog has no room would not be connected at all.
+    // No task accepts yet, so a client for which the backlog has no room would not be connected at all.
     let connect = |_| std::net::TcpStream::connect_timeout(&to, 10_000 * MS).expect("there is no room for it");
     let begun: Vec<_> = (0..count).map(connect).collect();
     let accepts = runtime.spawn(async move {
@@ -1004,7 +1007,7 @@ fn a_panic_is_an_error_and_can_go_on() {
 fn other_descriptors_are_awaited() {
     use std::os::unix::net::UnixStream;
     let runtime = Runtime::new(2);
-    // A megabyte, there and back, through a Unix socket whose buffer is smaller.
+    // A megabyte is sent there and back through a Unix socket, whose buffer is smaller.
     let (near, far) = UnixStream::pair().unwrap();
     let bytes: Vec<u8> = (0..1_000_000u32).map(|i| (i % 251) as u8).collect();
     let echoes = runtime.spawn(async move {
@@ -1095,7 +1098,7 @@ fn what_is_public_is_shown_and_sockets_have_descriptors() {
     let stream = runtime.block_on(net::TcpStream::connect(listener.local_addr().unwrap())).unwrap();
     let (_, from) = runtime.block_on(listener.accept()).unwrap();
     assert_eq!((from, listener.local_addr().unwrap()), (stream.local_addr().unwrap(), stream.peer_addr().unwrap()));
-    // Options are set by the descriptor.
+    // A socket's options can be set through a copy of its descriptor.
     let options = std::net::TcpStream::from(stream.as_fd().try_clone_to_owned().unwrap());
     options.set_ttl(17).unwrap();
     assert_eq!(options.ttl().unwrap(), 17);

@@ -1,4 +1,5 @@
-//! Ready tasks behind a long poll: a free worker runs them, in whichever local queue or task slot they are.
+//! A long poll keeps a worker busy. A free worker must run the ready tasks behind that poll, in whichever local queue
+//! or task slot they are.
 use arachne::{block_on, net, sleep, spawn, yield_now, Builder, JoinHandle, Policy, Runtime, Semaphore};
 use std::io::{Read, Write};
 use std::os::unix::net::UnixStream;
@@ -8,10 +9,9 @@ use std::thread;
 use std::time::{Duration, Instant};
 
 const MS: Duration = Duration::from_millis(1);
-/// The length of the blocking poll, unless all tasks have begun before its end. No thread waits that long for a
-/// processor.
+/// How long the blocking poll lasts if not all tasks begin before. No thread waits that long for a processor.
 const POLL: Duration = Duration::from_secs(2);
-/// The time within which each task begins if processors are free, even if the free workers sleep when the tasks become
+/// If processors are free, each task must begin within this time, even if the free workers sleep when the task becomes
 /// ready.
 const SOON: Duration = Duration::from_millis(5);
 /// A time that is longer than any delay on a busy machine.
@@ -27,8 +27,8 @@ fn until(what: &str, most: Duration, done: impl Fn() -> bool) {
     }
 }
 
-/// The record of one repetition: how many tasks are ready behind a blocking one, since when, and when each of them
-/// began.
+/// The record of one repetition of a test: how many tasks are ready behind the blocking one, since when, and when each
+/// of them began.
 #[derive(Clone)]
 struct Seen(Arc<Marks>);
 
@@ -45,8 +45,8 @@ impl Seen {
         Seen(Arc::new(Marks { behind, ..Marks::default() }))
     }
 
-    /// If this is the first call, blocks the worker until all other tasks have begun or `POLL` has passed; later calls
-    /// record that a task begins.
+    /// The first call blocks its worker until all other tasks have begun, or `POLL` has passed. Each later call records
+    /// that a task begins.
     fn begins(&self) {
         let now = Instant::now();
         if !self.0.blocks.swap(true, SeqCst) {
@@ -64,8 +64,8 @@ impl Seen {
         self.0.began.lock().unwrap().len() == self.0.behind
     }
 
-    /// Waits until all tasks have begun, and fails if the blocking poll ends before that. Returns the delay of the last
-    /// task to begin.
+    /// Waits until all tasks have begun, and fails if the blocking poll ends before. Returns how long after becoming
+    /// ready the last task began.
     fn last(&self) -> Duration {
         until("what is behind a poll", LONG, || self.have_begun());
         let last = *self.0.began.lock().unwrap().iter().max().unwrap();
@@ -82,7 +82,7 @@ impl Seen {
 struct Busy(Arc<AtomicBool>, Vec<JoinHandle<()>>);
 
 impl Busy {
-    /// Keeps `workers` workers busy.
+    /// Occupies `workers` workers until the result is released.
     fn keep(runtime: &Runtime, workers: usize) -> Busy {
         let (end, begun) = (Arc::new(AtomicBool::new(false)), Arc::new(AtomicUsize::new(0)));
         let keep = |_| {
@@ -103,8 +103,8 @@ impl Busy {
     }
 }
 
-/// A thread that repeatedly sleeps for a millisecond. The thread records when it last woke late, because no processor
-/// was free.
+/// A thread that sleeps for a millisecond, again and again. It records when it last woke too late, which means that no
+/// processor was free.
 struct Calm(Arc<AtomicBool>, thread::JoinHandle<Option<Instant>>);
 
 impl Calm {
@@ -129,9 +129,8 @@ impl Calm {
     }
 }
 
-/// Repeats a test. Each time all tasks behind the poll must begin before the poll ends. In half of the repetitions in
-/// which the machine is calm (has free processors), the tasks must begin soon; this is checked if at least six are
-/// calm.
+/// Repeats a test. In each repetition, all tasks behind the poll must begin before the poll ends. If the machine had
+/// free processors in at least six repetitions, then in half of those the tasks must begin within `soon`.
 fn rounds(soon: Duration, behind: usize, round: impl Fn(&Runtime, &Seen, Duration)) {
     let runtime = Runtime::new(CORES);
     let (mut calm, mut late) = (0, Vec::new());
@@ -150,7 +149,7 @@ fn rounds(soon: Duration, behind: usize, round: impl Fn(&Runtime, &Seen, Duratio
     assert!(calm < 6 || late.len() * 2 <= calm, "in {calm} calm rounds late: {late:?}");
 }
 
-/// The ready tasks have yielded while all workers were busy.
+/// The ready tasks are some that have yielded while all workers were busy.
 #[test]
 fn what_has_yielded_is_run() {
     // A worker that becomes free checks for those tasks before it sleeps.
@@ -179,7 +178,7 @@ fn what_has_yielded_is_run() {
     });
 }
 
-/// One of the ready tasks is the next to run, and the others became ready before it.
+/// One of the ready tasks would run next on the blocked worker; the others became ready before it.
 #[test]
 fn what_is_next_is_run() {
     for asleep in [true, false] {
@@ -208,7 +207,7 @@ fn what_is_next_is_run() {
     }
 }
 
-/// All workers have slept for long, and no other worker is woken: the task is the only one that becomes ready.
+/// All workers have slept for long. Only one task becomes ready, and no other worker is woken for it.
 #[test]
 fn what_is_next_is_run_after_a_long_sleep() {
     rounds(SOON, 1, |runtime, seen, _| {
@@ -224,7 +223,7 @@ fn what_is_next_is_run_after_a_long_sleep() {
     });
 }
 
-/// One poll of the epoll has returned the events of all tasks, while the other workers were busy.
+/// While the other workers were busy, one poll of the epoll has returned the events for all tasks.
 #[test]
 fn what_was_told_of_is_run() {
     rounds(SOON, BEHIND, |runtime, seen, pause| {
@@ -250,7 +249,7 @@ fn what_was_told_of_is_run() {
     });
 }
 
-/// The events come while the other workers sleep: the worker that waits in the epoll gets them all at once.
+/// While all other workers sleep, the worker that waits in the epoll gets the events for all tasks at once.
 #[test]
 fn what_was_told_of_is_run_by_who_sleeps() {
     rounds(SOON, BEHIND, |runtime, seen, pause| {
@@ -270,7 +269,8 @@ fn what_was_told_of_is_run_by_who_sleeps() {
     });
 }
 
-/// Other workers have stolen the tasks from a stuck worker, and the first task that they run blocks.
+/// Other workers have stolen the tasks from a worker that is stuck in a poll. The first of the stolen tasks blocks its
+/// worker, too.
 #[test]
 fn what_was_taken_of_a_worker_that_does_not_get_on_is_run() {
     for asleep in [true, false] {
@@ -298,8 +298,8 @@ fn what_was_taken_of_a_worker_that_does_not_get_on_is_run() {
     }
 }
 
-/// A busy worker also takes the tasks behind a long poll, and last the one that was to run next. There are two workers;
-/// one is never idle.
+/// A busy worker also takes the tasks behind another's long poll, and at last the one that was to run next. There are
+/// two workers, and one of them is never idle.
 #[test]
 fn what_is_behind_is_run_by_one_that_is_busy() {
     let runtime = Runtime::new(2);
@@ -340,7 +340,7 @@ fn what_is_behind_is_run_by_one_that_is_busy() {
     }
 }
 
-/// Tasks that yield are stolen from local queues all the time, and yet each is polled exactly as often as it yields.
+/// Tasks that yield are stolen from local queues all the time. Still, each is polled exactly as often as it yields.
 #[test]
 fn a_job_is_taken_once() {
     let runtime = Runtime::new(4);
@@ -391,8 +391,8 @@ fn the_watcher_runs_what_is_behind() {
     }
 }
 
-/// The watcher runs the ready jobs of the third worker, and fires that worker's timers. The only active worker is in a
-/// poll, and so is the one that stands in for the third.
+/// The third worker has no core, and its ready jobs and timers are looked after by a worker that is in a poll. So is
+/// the only active worker. The watcher must run these jobs and fire these timers.
 #[test]
 fn the_watcher_looks_after_a_core_that_was_given_back() {
     let runtime = Builder::new(3).policy(Policy::default()).watch_polls(10 * MS, false).build().unwrap();
@@ -429,8 +429,8 @@ fn the_watcher_looks_after_a_core_that_was_given_back() {
     tasks.into_iter().for_each(|task| block_on(task).unwrap());
 }
 
-/// A worker whose core was given back runs the ready tasks, sees the events of sockets, and fires timers. The only
-/// worker with a core is in a poll meanwhile.
+/// The only worker that has a core is in a poll. A worker whose core was given back must run the ready tasks, handle
+/// the events of sockets, and fire the timers.
 #[test]
 fn a_worker_without_a_core_covers_for_the_only_one_with_one() {
     let runtime = Builder::new(2).policy(Policy::default()).build().unwrap();

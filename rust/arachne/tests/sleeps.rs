@@ -1,5 +1,5 @@
-//! Sleeping workers and their wakes: one waits in the epoll, one (the deputy) polls it now and then, and the others
-//! wait to be woken.
+//! Tests of how workers sleep and are woken: one waits in the epoll, one (the deputy) polls it now and then, and the
+//! others wait to be woken.
 use arachne::{block_on, net, sleep, spawn, spawn_balanced, yield_now, Builder, Runtime, Semaphore};
 use std::io::{Read, Write};
 use std::net::SocketAddr;
@@ -12,7 +12,8 @@ const MS: Duration = Duration::from_millis(1);
 /// A time that is longer than any delay on a busy machine.
 const LONG: Duration = Duration::from_secs(120);
 
-/// A server that echoes each byte. At a `b`, the task increments `blocked`, and blocks its worker until `ends` is set.
+/// A server that echoes each byte. If the byte is a `b`, the task also increments `blocked`, and blocks its worker
+/// until `ends` is set.
 fn echo(runtime: &Runtime, ends: &Arc<AtomicBool>, blocked: &Arc<AtomicUsize>) -> SocketAddr {
     let listener = net::TcpListener::bind("127.0.0.1:0").unwrap();
     let at = listener.local_addr().unwrap();
@@ -61,8 +62,8 @@ fn until(done: impl Fn() -> bool) {
     }
 }
 
-/// First the worker that waited in the epoll is in an endless poll, and then all workers but one are. Without a watcher
-/// the events of all sockets are still seen, even of sockets that connect later.
+/// There is no watcher. First the worker that waited in the epoll is in an endless poll, and later all workers but one
+/// are. The events of all sockets must still be handled, even of sockets that connect later.
 #[test]
 fn sockets_are_seen_beside_polls_that_block() {
     for (cores, pause) in (2..5).flat_map(|cores| [(cores, MS / 4), (cores, 20 * MS)]) {
@@ -89,7 +90,7 @@ fn sockets_are_seen_beside_polls_that_block() {
     }
 }
 
-/// More sockets are ready at once than fit into a worker's local queues, and more than one poll of the epoll returns.
+/// More sockets become ready at once than one poll of the epoll returns, and than fit into a worker's local queues.
 #[test]
 fn more_is_told_at_once_than_one_worker_takes() {
     for cores in 1..4 {
@@ -113,8 +114,8 @@ fn more_is_told_at_once_than_one_worker_takes() {
     }
 }
 
-/// A worker that only polls the epoll now and then never consumes the wake that is meant for the worker that waits in
-/// it.
+/// A worker that only polls the epoll occasionally never consumes the event that should wake the worker that waits in
+/// the epoll.
 #[test]
 fn a_wake_of_who_waits_is_left_to_it() {
     let runtime = Runtime::new(2);
@@ -137,8 +138,8 @@ fn a_wake_of_who_waits_is_left_to_it() {
             thread::sleep(MS / 8);
             block_on(runtime.spawn(async {})).unwrap();
         }
-        // Half of the tasks are in slots of the other worker, which is woken while this worker checks the epoll, and
-        // which soon blocks.
+        // Half of the tasks are in slots of the other worker. That worker is woken while this one polls the epoll, and
+        // is soon blocked.
         let begun: Vec<_> = (0..32).map(|_| runtime.spawn(async {})).collect();
         blocks.store(true, SeqCst);
         until(|| blocked.load(SeqCst));
@@ -168,8 +169,8 @@ fn blocks(flag: &AtomicBool) {
     }
 }
 
-/// While a worker is in a poll that waits for the jobs in its local queues, another worker runs these jobs, even the
-/// one that would run next. The other workers sleep when that poll begins, or fall asleep later.
+/// A worker is in a poll that waits for jobs in its own local queues. Another worker must run these jobs, even the one
+/// that would run next. The other workers sleep already when that poll begins, or fall asleep later.
 #[test]
 fn what_is_in_hand_is_run_beside_a_poll_that_blocks() {
     for (cores, pause) in (2..5).flat_map(|cores| [(cores, MS / 4), (cores, 20 * MS)]) {
@@ -177,8 +178,8 @@ fn what_is_in_hand_is_run_beside_a_poll_that_blocks() {
         for asleep in [true, false] {
             thread::sleep(pause);
             let begin = Arc::new(AtomicBool::new(asleep));
-            // Otherwise the other workers are in polls while the first worker's local queues are filled, and become
-            // idle soon after.
+            // In the second case, the other workers are in polls until the local queues of the first worker are filled,
+            // and are idle soon after.
             for _ in 1..if asleep { 1 } else { cores } {
                 let (begin, beginning) = (begin.clone(), Arc::new(AtomicBool::new(false)));
                 let begun = beginning.clone();
@@ -206,7 +207,7 @@ fn what_is_in_hand_is_run_beside_a_poll_that_blocks() {
                 for task in tasks {
                     task.await.unwrap();
                 }
-                // Tasks that the poll makes ready, even after the poll is known to take long.
+                // The poll has lasted long already. It makes these tasks ready now, and waits for each of them.
                 for _ in 0..3 {
                     let ran = Arc::new(AtomicBool::new(false));
                     let runs = ran.clone();
@@ -219,7 +220,7 @@ fn what_is_in_hand_is_run_beside_a_poll_that_blocks() {
     }
 }
 
-/// A poll that blocks until a timer of its own worker has fired.
+/// A poll blocks until a timer of its own worker has fired, which another worker must fire.
 #[test]
 fn timers_are_seen_beside_a_poll_that_blocks() {
     for cores in 2..5 {
@@ -245,7 +246,7 @@ fn timers_are_seen_beside_a_poll_that_blocks() {
     }
 }
 
-/// Returns how often the threads of these `/proc` folders have gone to sleep.
+/// Returns how often the threads with these folders in `/proc` have gone to sleep, all together.
 fn sleeps(threads: &[String]) -> u64 {
     let of = |thread: &String| {
         let text = std::fs::read_to_string(format!("/proc/{thread}/status")).unwrap();
@@ -255,7 +256,7 @@ fn sleeps(threads: &[String]) -> u64 {
     threads.iter().map(of).sum()
 }
 
-/// Calls `about` on each worker once, and returns the results.
+/// Calls `about` once on each worker of the runtime, and returns the results.
 fn at_each_worker<T: Send + 'static>(runtime: &Runtime, cores: usize, about: fn() -> T) -> Vec<T> {
     let all: Arc<Mutex<Vec<T>>> = Arc::default();
     let each = all.clone();
@@ -286,7 +287,7 @@ fn an_idle_runtime_sleeps_on() {
     let (before, parks) = (sleeps(&threads), runtime.stats().parks);
     thread::sleep(400 * MS);
     let (after, parked) = (sleeps(&threads), runtime.stats().parks);
-    // A worker checks the others after 1, 2, 4 .. milliseconds; these checks are over by now.
+    // While it sleeps, a worker checks the others after 1, 2, 4 .. milliseconds. These checks are over by now.
     assert!(after - before < 40 && parked - parks < 10, "{} sleeps, {} parks", after - before, parked - parks);
     ask(&mut stream, 2);
 }

@@ -1,5 +1,5 @@
-//! Stress tests: stale wakers, lost wakes, leaks, an end at any time, the lock. The environment variable ARACHNE_STRESS
-//! multiplies the number of rounds.
+//! Stress tests: stale wakers, lost wakes, leaks, a runtime that ends at any moment, and the lock. The environment
+//! variable ARACHNE_STRESS multiplies the number of repetitions.
 use arachne::{block_on, net, poll_fn, spawn, spawn_balanced, yield_now, Builder, JoinError, Lock, Policy, Runtime};
 use std::future::Future;
 use std::pin::Pin;
@@ -23,7 +23,8 @@ impl Rng {
     }
 }
 
-/// Wakers of ended tasks wake no later task in the same slot: the later tasks' polls are counted.
+/// Wakers of tasks that have ended don't wake later tasks in the same slots. The test counts the polls of the later
+/// tasks.
 #[test]
 fn stale_wakers_wake_nobody() {
     let rt = Runtime::new(3);
@@ -106,8 +107,8 @@ impl Mailbox {
     }
 }
 
-/// Threads and tasks send messages to random tasks, while other threads wake these tasks without a message. Each
-/// message is received.
+/// Threads and tasks send messages to random tasks, and other threads wake these tasks without a message. Every message
+/// must be received.
 #[test]
 fn no_wake_is_lost() {
     let rt = Runtime::new(4);
@@ -204,7 +205,8 @@ impl Drop for Alive {
     }
 }
 
-/// After panics, dropped handles, joins by other tasks, and a runtime that is dropped meanwhile, nothing is left.
+/// After panics, dropped handles, joins by other tasks and the drop of a runtime in the middle of this, no task and no
+/// value is left.
 #[test]
 fn nothing_leaks() {
     for round in 0..rounds(15) {
@@ -265,7 +267,8 @@ fn nothing_leaks() {
     }
 }
 
-/// A runtime ends during spawns, yields and wakes by other threads: each task is dropped, and its handle fails.
+/// A runtime ends while other threads spawn tasks and wake them, and tasks yield. Each task is dropped, and its handle
+/// returns an error.
 #[test]
 fn the_end_finds_each_task() {
     for round in 0..rounds(100) {
@@ -310,7 +313,7 @@ fn the_end_finds_each_task() {
     }
 }
 
-/// More tasks wait at once than one block (64 slots), or one shard (64 blocks), has slots.
+/// More tasks wait at once than there are slots in a block (64), or in a shard (4,096).
 #[test]
 fn many_wait() {
     let rt = Runtime::new(2);
@@ -345,7 +348,7 @@ fn many_wait() {
     assert_eq!(sum, 20_000 * 19_999 / 2);
 }
 
-/// The lock has one holder at a time, and futures that are dropped while they wait don't stop the other waiters.
+/// Only one task or thread has the lock at a time. Dropping futures that wait for it doesn't stop the other waiters.
 #[test]
 fn the_lock_excludes() {
     let rt = Runtime::new(4);

@@ -1,5 +1,5 @@
-//! Types that a program ported from tokio needs: abort handles, sets of tasks, owned permits, intervals, handles on
-//! runtimes, Unix and UDP sockets, and std's sockets.
+//! Tests of the types that a program ported from tokio needs: abort handles, sets of tasks, owned permits, intervals,
+//! handles on runtimes, Unix and UDP sockets, and std's sockets.
 use arachne::net::{TcpListener, TcpStream, UdpSocket, UnixListener, UnixStream};
 use arachne::{
     block_on, interval, interval_at, sleep, spawn, timeout, yield_now, AcquireError, Handle, JoinError, JoinSet,
@@ -64,7 +64,7 @@ fn an_abort_handle_ends_its_task_and_may_outlive_it() {
 #[test]
 fn an_abort_handle_keeps_no_output() {
     let runtime = Runtime::new(2);
-    // The task ends before the handle on its output is dropped, and then after it.
+    // First the task ends before the handle on its output is dropped, then after it.
     for first in [true, false] {
         let ((dropped, output), gate) = (counted(), Arc::new(Semaphore::new(0)));
         let opens = gate.clone();
@@ -188,7 +188,7 @@ fn owned_permits_go_to_other_tasks() {
         spawn(async move { drop((one, two)) }).await.unwrap();
         waits.await.unwrap().unwrap().forget();
         assert_eq!(permits.available_permits(), 0);
-        // A future that is dropped while it waits takes no permit with it.
+        // A future that waits for a permit and is dropped must not take the permit with it.
         assert!(timeout(MS, permits.clone().acquire_owned()).await.is_err());
         permits.add_permits(2);
         drop(permits.acquire_many(2).await.unwrap());
@@ -232,7 +232,7 @@ fn a_sleep_that_is_reset_wakes_at_its_new_time() {
         nap.await;
         assert!(begin.elapsed() >= 8 * MS);
     });
-    // The sleep is reset while another task waits for it: that task is woken at the new time, by any thread's reset.
+    // Any thread may reset a sleep while a task waits for it. The task is woken at the new time.
     let nap = Arc::new(std::sync::Mutex::new(sleep(LONG)));
     let (waits, begin) = (nap.clone(), Instant::now());
     let task = runtime.spawn(arachne::poll_fn(move |cx| Pin::new(&mut *waits.lock().unwrap()).poll(cx)));
@@ -336,7 +336,7 @@ fn a_handle_spawns_from_any_thread_until_the_runtime_ends() {
     assert_eq!((handle.stats().workers.len(), handle.stats().active), (2, 2));
     drop(runtime);
     assert_eq!((handle.stats().workers.len(), handle.stats().polls), (0, 0));
-    // The next runtime of this shape uses the state of the ended runtime.
+    // The next runtime of this size reuses the state of the one that ended.
     let (next, (dropped, within)) = (Runtime::new(2), counted());
     for handle in [handle, current] {
         assert!(is_cancelled(block_on(handle.spawn(async { 1 }))));
@@ -405,8 +405,8 @@ fn a_connection_is_looked_at_and_goes_to_std_and_back() {
         assert_eq!(&buffer[..5], b"hello");
         (near, write.await.unwrap().unwrap())
     });
-    // After `into_std` the socket doesn't wait when it has no data, and isn't in the epoll. After that, the socket
-    // belongs to another runtime.
+    // A socket from `into_std` doesn't wait if it has no data, and isn't in the epoll. The socket that is then made
+    // from it belongs to another runtime.
     let mut near = near.into_std().unwrap();
     assert_eq!(near.read(&mut [0; 1]).unwrap_err().kind(), std::io::ErrorKind::WouldBlock);
     near.set_nonblocking(false).unwrap();
@@ -541,7 +541,7 @@ fn datagrams_come_and_go() {
     assert_eq!(UdpSocket::from_std(far).unwrap().local_addr().unwrap(), to);
 }
 
-/// Two tasks wait for a socket, and one of them gives up: this takes no wake from the other task.
+/// Two tasks wait for a socket, and one of them stops waiting. The other is still woken.
 #[test]
 fn a_wait_that_is_given_up_leaves_the_others_their_socket() {
     let runtime = Runtime::new(2);
@@ -614,12 +614,12 @@ fn a_task_waits_for_a_signal_and_for_the_end() {
     let task = runtime.spawn(async move { hears.recv().await });
     raise();
     runtime.block_on(task).unwrap().unwrap();
-    // A thread receives the next signal, and a signal that came before is received at once.
+    // A thread receives the next signal. If a signal has come before the thread waits, it receives that one at once.
     raise();
     assert!(signal.wait());
     raise();
     runtime.block_on(signal.recv()).unwrap();
-    // A task that waits for a signal doesn't keep the runtime from its end.
+    // A task that waits for a signal doesn't prevent the runtime's end.
     runtime.spawn(async move {
         let mut end = arachne::stopping();
         assert!(end.or(signal.recv()).await.is_none());
@@ -640,7 +640,7 @@ fn tasks_and_handles_spawn_in_each_way() {
         while waiting.len() < 4096 {
             match arachne::try_spawn(pending::<()>()) {
                 Ok(task) => waiting.push(task),
-                // The slot of the previous task becomes free a moment after the task's output is available.
+                // The previous task's slot becomes free a moment after that task's output.
                 Err(_) => arachne::sleep(Duration::from_millis(1)).await,
             }
         }

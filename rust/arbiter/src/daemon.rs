@@ -1,4 +1,4 @@
-//! The daemon's loop: it reads messages, lets the proved library decide who gets which core, and moves threads
+//! The daemon's loop. It reads messages, asks the proved library which thread gets which core, and moves the threads
 //! accordingly.
 
 mod hearing;
@@ -20,35 +20,35 @@ use std::sync::atomic::Ordering::*;
 use std::time::{Duration, Instant};
 use turns::Turns;
 
-/// The time for which a client may keep more cores than it is allowed.
+/// How long a client may keep more cores than it is allowed, before the daemon takes them.
 const PATIENCE: Duration = Duration::from_millis(10);
 /// The time between two checks for threads that have ended, and for other threads that run on a granted core.
 const LOOKS: Duration = Duration::from_secs(1);
-/// The most threads that the daemon checks before it decides again.
+/// The most threads that the daemon checks between two of its decisions.
 const AT_ONCE: usize = 8;
 /// The most processes that the daemon sends its status to in one pass of its loop.
 const READERS: usize = 8;
 
 struct Thread {
     id: u32,
-    /// The time at which the thread began, which distinguishes it from a later thread with the same number.
+    /// The time at which the thread began. It distinguishes the thread from a later one with the same id.
     began: u64,
     connection: u64,
     core: Option<usize>,
 }
 
 struct Core {
-    /// The processors of the core; while the core is granted, nobody else may use them. The owner's thread runs on the
-    /// first of them.
+    /// The processors of the core. While the core is granted, no other thread may use any of them. The thread that has
+    /// the core runs on the first of them.
     cpus: Vec<usize>,
-    /// The client that has the core, and the number of the thread that runs there among the client's threads.
+    /// The thread that has the core: the client, and the thread's number among the client's threads.
     owner: Option<(u32, u32)>,
-    /// The time at which the owner last changed.
+    /// The time at which the core was last granted or given back.
     since: Instant,
 }
 
 struct Client {
-    /// The client's number in the library's state.
+    /// The number by which the proved library knows the client.
     number: usize,
     process: u32,
     user: u32,
@@ -59,28 +59,29 @@ struct Client {
     least: u32,
     asked: u32,
     allowed: u32,
-    /// The number of times that the client was given a core.
+    /// How often the client was given a core.
     given: u64,
-    /// The number of times that a core was taken from the client by force.
+    /// How often a core was taken from the client because it didn't give the core back in time.
     forced: u64,
-    /// The time by which the client must have given back the cores that the daemon wants back, if there are any.
+    /// The time by which the client must give back the cores that it has beyond those allowed; `None` if it has no such
+    /// cores.
     until: Option<Instant>,
-    /// The number of the last turn (a move of a core from one client to another) in which the client got a core, gave
-    /// one, or had no thread for one.
+    /// The number of the last *turn* (a move of a core from one client to another) that concerned this client: it got a
+    /// core, gave one, or had no thread for one.
     turned: u64,
-    /// The number of times that the daemon must still move the threads of the client's process to `rest` (the
-    /// processors of threads without a core). The threads are moved twice, because a thread that begins during a move
+    /// The number of times that the daemon must still move all threads of the client's process to `rest` (the
+    /// processors of threads without a core). It does so twice, because a thread that begins during the first move
     /// begins on the processors of its parent.
     arrives: u32,
-    /// The client's threads, by their numbers in the client's order.
+    /// The client's threads. Each key is the number that the client has given the thread.
     threads: BTreeMap<u32, Thread>,
 }
 
-/// The threads that the daemon must still check, in order to move them off the granted cores.
+/// The threads that the daemon has yet to check, and to move off the granted cores.
 struct Look {
     threads: Threads,
-    /// True if the daemon moves all these threads to `rest` (the processors of threads without a core). If false, it
-    /// moves only those that are on a granted core.
+    /// If true, all these threads are moved to `rest` (the processors of threads without a core). If false, only those
+    /// that may run on a granted core are moved.
     all: bool,
 }
 
@@ -88,7 +89,7 @@ pub struct Arbiter {
     clients_socket: UnixListener,
     readers_socket: UnixListener,
     means: Means,
-    /// The proved library's state: the clients, their threads, and who has which core.
+    /// The state of the proved library: the clients, their threads, and which thread has which core.
     state: State,
     start: Instant,
     log: bool,
@@ -98,13 +99,13 @@ pub struct Arbiter {
     host: Host,
     /// The processors on which threads without a core run.
     rest: Vec<usize>,
-    /// The processors for threads that no longer belong to a client.
+    /// All processors that a thread may use when it no longer belongs to a client.
     all: Vec<usize>,
-    /// The connections, by numbers that grow in the order in which the connections were made.
+    /// The connections. Their numbers grow in the order in which they were made.
     connections: BTreeMap<u64, Connection>,
     /// The number of connections accepted so far.
     connected: u64,
-    /// The clients, by the number of their control connection.
+    /// The clients. Each key is the number of the client's control connection.
     clients: BTreeMap<u32, Client>,
     forced: u64,
     turns: Turns,
@@ -159,7 +160,7 @@ impl Arbiter {
         println!("by force {}, after {:.0} s", self.forced, self.start.elapsed().as_secs_f64());
     }
 
-    /// Returns for how many milliseconds the daemon may wait for messages.
+    /// Returns for how many milliseconds the daemon may wait for messages before it has something else to do.
     fn time_left(&self) -> i32 {
         let ends = self.clients.values().filter_map(|client| client.until);
         let next = ends.chain(self.next_turn()).min();
@@ -293,7 +294,7 @@ impl Arbiter {
         thread.core = Some(core);
         (self.cores[core].owner, self.cores[core].since) = (Some((id, place)), Instant::now());
         if !self.set_on_core(core) {
-            // The thread has ended, or the daemon may not move it.
+            // The thread has ended, or the system doesn't let the daemon move it.
             self.drop_thread(id, place);
             return false;
         }
@@ -357,8 +358,8 @@ impl Arbiter {
         }
     }
 
-    /// Sends a message of four numbers on the connection `name`. A client that doesn't read, so that its socket's
-    /// buffer is full, is dropped by the next `bury`.
+    /// Sends a message of four numbers on the connection `name`. If the connection's buffer is full because the client
+    /// doesn't read, marks the connection; the next `bury` drops the client.
     fn send(&mut self, name: u64, words: [u32; 4]) {
         if let Some(connection) = self.connections.get_mut(&name) {
             let sent = connection.stream.write(&bytes_of(words));
@@ -414,7 +415,7 @@ impl Arbiter {
         Some(Look { threads: self.means.strangers(known, processes), all: false })
     }
 
-    /// Moves threads off a processor that the host of this virtual machine has taken, or back after the host has
+    /// Moves threads off each processor that the host of this virtual machine has taken, and back when the host has
     /// returned it.
     fn look_at_host(&mut self) {
         let changed = self.host.look();
@@ -460,13 +461,13 @@ impl Arbiter {
 }
 
 impl Thread {
-    /// Returns true if this thread has not ended, so that its number doesn't belong to another thread.
+    /// Returns true if this thread still exists, that is, if its id isn't that of a later thread.
     fn is_of(&self, process: u32) -> bool {
         threads::began(process, self.id) == Some(self.began)
     }
 }
 
-/// Returns the seconds since 1970, with which lines of several processes' logs can be compared.
+/// Returns the seconds since 1970. With them the logs of several processes can be compared.
 fn clock() -> f64 {
     std::time::SystemTime::now().duration_since(std::time::SystemTime::UNIX_EPOCH).unwrap().as_secs_f64()
 }

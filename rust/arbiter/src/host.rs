@@ -1,4 +1,4 @@
-//! Finds the processors that the host of a virtual machine takes for others, by the kernel's count of stolen time.
+//! Finds which processors the host of this virtual machine takes for others. The kernel counts the stolen time.
 
 use std::fs;
 use std::path::PathBuf;
@@ -6,8 +6,8 @@ use std::time::{Duration, Instant};
 
 /// The time between two reads of the stolen time.
 pub const WINDOW: Duration = Duration::from_millis(200);
-/// A processor counts as taken once the host has stolen `MUCH` per cent of its time between two reads. It does so until
-/// the host has stolen at most `LITTLE` per cent at each of `CALM` reads in a row.
+/// The host takes a processor if, between two reads, it has stolen at least `MUCH` per cent of the processor's time.
+/// The processor counts as taken until the stolen time was at most `LITTLE` per cent at `CALM` reads in a row.
 const MUCH: u64 = 15;
 const LITTLE: u64 = 5;
 const CALM: u32 = 5;
@@ -27,21 +27,21 @@ pub struct Host {
 }
 
 impl Host {
-    /// Begins to watch the processors `cpus`, none of which counts as taken at first. For tests, the variable
-    /// ARBITER_STAT names a file to read instead of the kernel's.
+    /// Begins to watch the processors `cpus`; at first none counts as taken. In tests, the environment variable
+    /// ARBITER_STAT names a file that is read instead of the kernel's.
     pub fn new(cpus: Vec<usize>) -> Host {
         let file = std::env::var_os("ARBITER_STAT").unwrap_or_else(|| "/proc/stat".into()).into();
         let processors = cpus.iter().map(|_| Processor { stolen: 0, all: 0, is_taken: false, calm: CALM }).collect();
         Host { file, looked: Instant::now(), cpus, processors }
     }
 
-    /// Returns true if the host takes the `nth` processor of the list that `new` got.
+    /// Returns true if the host takes the processor with the index `nth` in the list that `new` got.
     pub fn takes(&self, nth: usize) -> bool {
         self.processors[nth].is_taken
     }
 
-    /// Reads the stolen time once `WINDOW` has passed. Returns the indexes of the processors that were taken or given
-    /// back since the last read.
+    /// If `WINDOW` has passed since the last read, reads the stolen time. Returns the indexes of the processors that
+    /// now count as taken and didn't before, or the other way round.
     pub fn look(&mut self) -> Vec<usize> {
         if self.looked.elapsed() < WINDOW {
             return Vec::new();
@@ -61,8 +61,8 @@ impl Host {
 }
 
 impl Processor {
-    /// Compares the processor's stolen time and its whole time with those of the last call. Returns true if the
-    /// processor counts as taken now and didn't before, or the other way round.
+    /// Compares the processor's stolen time and its total time with those of the last call. Returns true if this
+    /// changes whether the processor counts as taken.
     fn looks(&mut self, stolen: u64, all: u64) -> bool {
         let (took, time) = (stolen.saturating_sub(self.stolen), all.saturating_sub(self.all));
         let is_first = self.all == 0;
@@ -76,7 +76,7 @@ impl Processor {
     }
 }
 
-/// Returns the time of a processor that the host has taken, and the processor's time in all, in hundredths of a second.
+/// Returns two times of a processor, in hundredths of a second: the time that the host has stolen, and the total.
 fn account(text: &str, cpu: usize) -> Option<(u64, u64)> {
     let name = format!("cpu{cpu}");
     let line = text.lines().map(str::split_whitespace).find(|words| words.clone().next() == Some(&*name))?;

@@ -1,5 +1,5 @@
-//! The calls of the proved library `arachne_grants_c`, which reads messages, keeps the daemon's state, and decides. The
-//! declarations are those of `examples/c/arachne_grants.h`.
+//! The calls of the proved library `arachne_grants_c`. It parses messages, keeps the daemon's state, and decides which
+//! thread gets a core. The declarations are those of `examples/c/arachne_grants.h`.
 
 #[repr(C)]
 struct Handle {
@@ -40,7 +40,7 @@ const HELLO: u32 = 3;
 const JOIN: u32 = 4;
 const WAIT: u32 = 5;
 const ASK: u32 = 6;
-/// The first of the codes that mean that the bytes are no message.
+/// The lowest of the codes that say why some bytes are no message.
 const SHORT: u32 = 7;
 const TAKEN: u32 = 14;
 const PLACED: u32 = 15;
@@ -62,7 +62,7 @@ extern "C" {
     fn arachne_arbiter_share(arbiter: *mut Handle, client: usize) -> Share;
 }
 
-/// A client's message to the daemon: it registers, asks for a number of cores, or reports what one of its threads does.
+/// A client's message: it registers with the daemon, asks for a number of cores, or reports on one of its threads.
 #[derive(Clone, Copy, PartialEq, Eq, Debug)]
 pub enum Message {
     Hello { priority: u32, reserved: u32, most: u32 },
@@ -71,7 +71,7 @@ pub enum Message {
     Ask { cores: u32 },
 }
 
-/// Reads the message at the beginning of `bytes`. The error says why the bytes are no message.
+/// Parses the message at the beginning of `bytes`. The error says why the bytes are no message.
 pub fn read(bytes: &[u8]) -> Result<Message, &'static str> {
     // SAFETY: the length is the slice's, which lives through the call.
     let it = unsafe { arachne_message_read(bytes.as_ptr(), bytes.len()) };
@@ -87,13 +87,13 @@ pub fn read(bytes: &[u8]) -> Result<Message, &'static str> {
     }
 }
 
-/// A core, and the thread of a client that is moved to the core or off it.
+/// A core, and the thread that is to be moved to this core or off it.
 #[derive(Clone, Copy, PartialEq, Eq, Debug)]
 pub struct Move {
     pub client: usize,
     pub place: usize,
     pub core: usize,
-    /// True if the thread waits for the core, so that it must be notified.
+    /// True if the thread waits for the core. Then the caller must send it a message.
     pub waited: bool,
 }
 
@@ -105,13 +105,13 @@ impl Move {
     }
 }
 
-/// The proved library's state: the clients, their threads, and who has which core. A client's number, and a thread's
-/// number in its client's order, are from 0 to 63.
+/// The state of the proved library: the clients, their threads, and which thread has which core. Clients are numbered
+/// from 0 to 63, and so are the threads of each client.
 pub struct State(Handle);
 
 impl State {
-    /// Returns a state without clients, of at most 1,024 cores. Returns None if `cores` is greater, or if memory is
-    /// refused.
+    /// Returns a state of `cores` cores, without clients. Returns None if `cores` is greater than 1,024, or if memory
+    /// is refused.
     pub fn new(cores: usize) -> Option<State> {
         let mut state = State(Handle { opaque: std::ptr::null_mut() });
         // SAFETY: the handle is empty, and lives through the call.
@@ -119,8 +119,8 @@ impl State {
         (code == DONE).then_some(state)
     }
 
-    /// Adds a client. Like the other methods with a `bool` result, returns false and changes nothing if this is not
-    /// allowed now.
+    /// Adds a client with the number `client`. Returns false, and changes nothing, if the library doesn't allow this
+    /// now; so do the other methods that return a `bool`.
     pub fn hello(&mut self, client: usize, priority: u8, reserved: u32, most: u32) -> bool {
         // SAFETY: nobody else uses the handle, as `&mut` says.
         unsafe { arachne_arbiter_hello(&mut self.0, client, priority, reserved, most) == DONE }
@@ -157,8 +157,8 @@ impl State {
         let _ = unsafe { arachne_arbiter_decide(&mut self.0) };
     }
 
-    /// Takes a core from a client that has more than it is allowed: the core of a thread that floats (never waits) or,
-    /// if `late` is true, of any thread.
+    /// Takes a core from a client that has more cores than it is allowed. The core is that of a thread that floats
+    /// (never waits); if `late` is true, it may be that of any thread.
     pub fn take_back(&mut self, client: usize, late: bool) -> Option<Move> {
         // SAFETY: nobody else uses the handle, as `&mut` says.
         Move::of(unsafe { arachne_arbiter_take_back(&mut self.0, client, late) })

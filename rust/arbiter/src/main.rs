@@ -36,7 +36,7 @@ const USAGE: &str =
     "arachne-arbiter run SOCKET [--cpuset FOLDER [--sweep] | --rest GROUP..] [--cores LIST] [--keep N] \
                      [--hyperthreads] [--turn MILLISECONDS] [--open] [--log]\narachne-arbiter status SOCKET";
 
-/// The exit status of a daemon that has found another daemon at its socket.
+/// The exit status of a daemon that finds another daemon at its socket.
 const THERE_IS_ONE: i32 = 3;
 
 fn main() {
@@ -55,7 +55,7 @@ fn main() {
     }))
 }
 
-/// Runs the daemon as a child of this process, which lets all threads run on all processors again if the daemon dies.
+/// Runs the daemon as a child process. If the daemon dies, lets all threads run on all processors again.
 fn guard(options: &Options) {
     sys::hear_ends();
     if std::env::var_os("ARBITER_SERVES").is_some() {
@@ -75,7 +75,7 @@ fn guard(options: &Options) {
             sys::terminate(child.id());
         }
     };
-    // If there was another daemon already, the socket and the cpusets are that daemon's.
+    // If there was another daemon before, it owns the socket and the cpusets.
     if status != THERE_IS_ONE {
         let _ = fs::remove_file(&options.socket);
         let _ = fs::remove_file(status::path_of(&options.socket));
@@ -87,7 +87,7 @@ fn guard(options: &Options) {
 
 fn serve(options: &Options) -> io::Result<()> {
     sys::end_with_parent();
-    // The socket may have been left by a daemon that died; if a daemon answers, it is alive.
+    // A daemon that died may have left the socket. If a daemon is alive there, it accepts this connection.
     if UnixStream::connect(&options.socket).is_ok() {
         return Err(io::Error::new(ErrorKind::AddrInUse, "there is one already"));
     }

@@ -21,7 +21,7 @@ pub struct Options {
 }
 
 impl Options {
-    /// Parses the arguments behind `run`. Returns None if they are wrong.
+    /// Parses the arguments that follow `run`. Returns None if they are wrong.
     pub fn read(mut words: impl Iterator<Item = String>) -> Option<Options> {
         let (socket, mut listed) = (words.next()?.into(), false);
         let mut options = Options {
@@ -51,8 +51,8 @@ impl Options {
                 _ => return None,
             }
         }
-        // Not the processors that this process may use: an earlier arbiter may have left this process in its set
-        // `rest`.
+        // The processors that this process may use don't count: an earlier arbiter may have left this process in its
+        // cpuset `rest`.
         if let (Some(folder), false) = (&options.cpuset, listed) {
             options.cpus = topology::read_list(fs::read_to_string(folder.join("cpuset.cpus")).ok()?.trim())?;
         }

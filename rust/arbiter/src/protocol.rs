@@ -7,22 +7,23 @@ pub const SIZE: usize = 16;
 /// A client's first message on its control connection: version, priority, least and most cores (`least << 16 | most`).
 pub const HELLO: u32 = 1;
 /// The first message on the connection of a kernel thread. Its numbers are the client's number, the thread's id, and
-/// the thread's number in the client's order (`place << 1 | floats`). A thread that floats never waits: the arbiter
-/// moves it to a core and away from it while it runs.
+/// the thread's number among the client's threads (`place << 1 | floats`). A thread that floats never waits: the
+/// arbiter moves it to a core, or off it, while it runs.
 pub const JOIN: u32 = 2;
-/// A message on a thread's connection: the thread gives its core back, if it has one, and waits for another core.
+/// A message on a thread's connection. The thread gives its core back, if it has one, and waits for another.
 pub const WAIT: u32 = 3;
-/// A message on the control connection: the number of cores that the client wants.
+/// A message on the control connection, with the number of cores that the client wants.
 pub const ASK: u32 = 4;
 
-/// The daemon's answer to HELLO, sent with the descriptor of the client's page. Its numbers are the client's number,
-/// the number of cores that the daemon grants, and 1 if the arbiter uses cpusets.
+/// The daemon's answer to HELLO, with the descriptor of the page that it writes for the client. Its numbers are the
+/// client's number, the number of cores that the daemon can grant in all, and 1 if it uses cpusets.
 pub const WELCOME: u32 = 5;
-/// A message to a thread that waits for a core: the processor that the thread has now.
+/// A message to a thread that waits for a core. Its number is the processor that the thread has now.
 pub const GRANT: u32 = 6;
-/// A message on the control connection: how many cores the client may have, if that is fewer than before.
+/// A message on the control connection, if the client is allowed fewer cores than before. It contains the number of
+/// cores that the client may have now.
 pub const ALLOWED: u32 = 7;
-/// The last message on a connection that the arbiter closes, because it has refused a message there.
+/// The last message on a connection that the arbiter closes because it refuses a message there.
 pub const REFUSED: u32 = 8;
 
 /// Returns the bytes of a message.

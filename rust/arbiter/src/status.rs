@@ -4,7 +4,7 @@ use std::io::{self, Read};
 use std::os::unix::net::UnixStream;
 use std::path::{Path, PathBuf};
 
-/// Returns the path of the second socket of a daemon.
+/// Returns the path of the socket from which a daemon's status can be read, for the daemon at `socket`.
 pub fn path_of(socket: &Path) -> PathBuf {
     let mut path = socket.as_os_str().to_owned();
     path.push(".status");

@@ -79,7 +79,7 @@ pub fn peer(stream: &UnixStream) -> io::Result<(u32, u32)> {
     }
 }
 
-/// Sends bytes and a descriptor without waiting. Fails if not all bytes were sent.
+/// Sends bytes and a descriptor without waiting. Returns an error if not all bytes could be sent.
 pub fn send_with(stream: &UnixStream, bytes: &[u8], fd: RawFd) -> io::Result<()> {
     let piece = Piece { base: bytes.as_ptr(), len: bytes.len() };
     let rights = Rights { len: 20, level: 1, kind: 1, fd, _pad: 0 };
@@ -93,7 +93,8 @@ pub fn send_with(stream: &UnixStream, bytes: &[u8], fd: RawFd) -> io::Result<()>
     }
 }
 
-/// A page of memory that a client reads. The daemon only writes the page, so it doesn't matter if a client changes it.
+/// A page of memory that the daemon writes and a client reads. The daemon never reads it, so nothing depends on what a
+/// client writes there.
 pub struct Page {
     file: File,
     at: *mut u8,
@@ -164,8 +165,8 @@ pub fn affinity_of(thread: u32) -> Vec<usize> {
     (0..PROCESSORS).filter(|cpu| mask[cpu / 64] >> (cpu % 64) & 1 == 1).collect()
 }
 
-/// Gives this process the lowest real-time priority, because clients wait for its decisions, which take microseconds.
-/// Returns false if the system refuses that.
+/// Gives this process the lowest real-time priority, so that it runs before other processes: clients wait for its
+/// decisions. Returns false if the system refuses that.
 pub fn go_first() -> bool {
     // SAFETY: the priority lives through the call.
     unsafe { sched_setscheduler(0, 1 | 0x4000_0000, &1) == 0 }
@@ -192,14 +193,14 @@ pub fn hear_ends() {
     }
 }
 
-/// Lets Linux send SIGTERM to this process once its parent has ended.
+/// Asks Linux to send SIGTERM to this process when its parent ends.
 pub fn end_with_parent() {
     // SAFETY: all arguments are numbers.
     unsafe { prctl(1, 15, 0, 0, 0) };
 }
 
-/// Returns a descriptor that becomes readable when a process has ended, even if another process still has that one's
-/// sockets open.
+/// Returns a descriptor that becomes readable when the process ends. (The end of its sockets isn't enough: another
+/// process may have them open.)
 pub fn watch_process(process: u32) -> io::Result<File> {
     // SAFETY: all arguments of `pidfd_open` are numbers.
     match unsafe { syscall(434, process as i32, 0u32) } {

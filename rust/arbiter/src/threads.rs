@@ -3,7 +3,7 @@
 use std::fs;
 use std::io::Read;
 
-/// The most threads that the daemon searches for the one that joins, in a process with a PID namespace of its own.
+/// The most threads that are searched for one that joins, in a process with a PID namespace of its own.
 const IN_A_NAMESPACE: usize = 128;
 /// The most processes that `family` looks at.
 const FAMILY: usize = 256;
@@ -12,8 +12,7 @@ const CHILDREN: usize = 4096;
 /// More bytes than a thread's `stat` has, so that one read takes all.
 const STAT: usize = 2048;
 
-/// An iterator over thread ids, which reads /proc step by step, so that a step takes no longer if there are more
-/// threads.
+/// An iterator over thread ids. It reads /proc step by step, so a step doesn't take longer if there are more threads.
 pub type Threads = Box<dyn Iterator<Item = u32>>;
 
 /// Returns the threads of a process.
@@ -22,7 +21,8 @@ pub fn threads_of(process: u32) -> Threads {
     Box::new(entries.filter_map(|entry| entry.file_name().to_str()?.parse().ok()))
 }
 
-/// Returns the threads of a process, of the processes that it has started, and of all that these have started.
+/// Returns the threads of a process, and those of all its descendants: processes that it has started, that these have
+/// started, and so on.
 pub fn family(process: u32) -> Threads {
     let (mut others, mut room) = (Vec::new(), FAMILY - 1);
     let (mut process, mut threads) = (process, threads_of(process));
@@ -59,9 +59,9 @@ pub fn began(process: u32, thread: u32) -> Option<u64> {
     text.rsplit_once(')')?.1.split_whitespace().nth(19)?.parse().ok()
 }
 
-/// Returns the id, as this process sees it, of the thread that its own process knows as `thread`. The two ids differ if
-/// that process is in a PID namespace of its own. Returns None if there is no such thread, or if the process is in no
-/// namespace below this one's.
+/// Returns the id, as this process sees it, of the thread that the process `process` itself knows as `thread`. The two
+/// ids differ if that process is in a PID namespace of its own. Returns None if there is no such thread, or if the
+/// process isn't in a namespace below this one's.
 pub fn thread_of(process: u32, thread: u32) -> Option<u32> {
     if names_of(process, process)?.len() <= 1 {
         return Some(thread);

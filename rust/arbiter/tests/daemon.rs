@@ -1,5 +1,5 @@
-//! Tests of the daemon through its protocol, with affinity, or with cpusets in the folder ARBITER_CPUSET. The tests
-//! need two processors. The tests rely only on delays that the daemon promises, so they pass on a busy machine, too.
+//! Tests of the daemon through its protocol, with affinity, or with cpusets in the folder that ARBITER_CPUSET names.
+//! They need two processors. They rely only on delays that the daemon promises, so they also pass on a busy machine.
 mod common;
 
 use arbiter::protocol::*;
@@ -27,7 +27,7 @@ fn is_granted(thread: &mut UnixStream) -> bool {
     receive(thread).unwrap()[0] == GRANT
 }
 
-/// A client that has one core.
+/// A client that has one core, with its connections.
 struct Granted {
     client: u32,
     control: UnixStream,
@@ -67,7 +67,7 @@ fn the_higher_priority_has_its_core_within_some_milliseconds_by_force() {
         assert!(took >= Duration::from_millis(9), "it took {took:?}");
         assert_eq!(receive(&mut low).unwrap()[..2], [ALLOWED, cores - 1]);
 
-        // A thread whose core was taken by force waits, and is granted a core again after the other client has ended.
+        // A thread whose core was taken by force waits for a core, and gets one after the other client has ended.
         let last = threads.last_mut().unwrap();
         send(last, [WAIT, 0, 0, 0]);
         drop(high);
@@ -93,8 +93,8 @@ fn who_obeys_is_not_waited_for_and_who_floats_never_waits() {
     assert!(others.iter_mut().all(is_granted));
 }
 
-/// The daemon reads all messages that have arrived before it decides. While it is stopped, a client's last threads
-/// join, and the client asks for all cores.
+/// The daemon reads all messages that have arrived before it decides. For this test it is stopped while a client's last
+/// threads join, and while the client asks for all cores.
 #[test]
 fn what_has_come_is_read_before_a_decision() {
     let daemon = Daemon::new("come");
@@ -115,11 +115,11 @@ fn what_has_come_is_read_before_a_decision() {
     assert!(of_low.iter_mut().all(is_granted));
     let (mut high, welcome) = daemon.hello(5, 0);
     of_high = vec![daemon.waiting(welcome[1], 0)];
-    // Once this client is answered, all messages that were sent before have been read.
+    // When this client is answered, the daemon has read all messages that were sent before.
     daemon.hello(5, 0);
     daemon.while_it_stands(|| {
         of_high.extend((1..cores).map(|place| daemon.waiting(welcome[1], place)));
-        // Of several requests the last one counts.
+        // Of several requests for cores, only the last one counts.
         [0, 1, cores].into_iter().for_each(|cores| send(&mut high, [ASK, cores, 0, 0]));
     });
     assert!(of_high.iter_mut().all(is_granted));
@@ -133,7 +133,7 @@ fn processors() -> Vec<u32> {
     all.split(',').flat_map(|part| ends(part)[0]..=*ends(part).last().unwrap()).collect()
 }
 
-/// Starts a daemon with one core, which moves from client to client every 40 ms.
+/// Starts a daemon with one core, which goes to the next client every 40 ms.
 fn with_one_core(name: &str) -> Daemon {
     let two = format!("{},{}", processors()[0], processors()[1]);
     Daemon::at(path_of(name), &["--cores", &two, "--turn", "40"])
@@ -142,7 +142,7 @@ fn with_one_core(name: &str) -> Daemon {
 #[test]
 fn a_core_goes_round_among_those_that_want_it_and_can_take_it() {
     let daemon = with_one_core("turns");
-    // `idle` has no thread, and `low` another priority.
+    // The client `idle` has no thread, and the client `low` has another priority.
     let ((mut idle, _), (mut low, welcome)) = (daemon.hello(5, 0), daemon.hello(6, 0));
     let never = daemon.waiting(welcome[1], 0);
     let mut clients: Vec<_> = (0..3).map(|_| daemon.hello(5, 0)).collect();
@@ -162,7 +162,8 @@ fn a_core_goes_round_among_those_that_want_it_and_can_take_it() {
     assert!(is_silent(&never), "a lower priority gets nothing while a core goes round");
 }
 
-/// A core goes from the first client to the second, which then asks for no core, while a third client waits.
+/// A core moves from the first client to the second, which then asks for none. A third client of that priority must get
+/// it, and not one of lower priority.
 #[test]
 fn a_turn_that_is_not_taken_is_no_lower_priority_s() {
     let daemon = with_one_core("not-taken");
@@ -239,7 +240,7 @@ fn what_is_out_of_place_is_refused() {
         send(&mut stream, words);
         assert!(is_refused(&mut stream), "{words:?}");
     }
-    // Refused are a thread of another process, a thread that is known already, and a number that is taken.
+    // The daemon refuses a thread of another process, a thread that it knows already, and a number that is in use.
     let (mut control, welcome) = daemon.hello(0, 0);
     assert!(is_refused(&mut daemon.join(welcome[1], 1, 0, false)));
     let _known = daemon.join(welcome[1], number(), 3, false);
@@ -388,7 +389,7 @@ fn a_client_that_does_not_read_is_none_any_more() {
     let (number, _end) = begin();
     let floats = daemon.join(welcome[1], number, 0, true);
     let all = processors_of(&number.to_string());
-    // Every second request takes the core back, and is answered for that reason.
+    // Each second request makes the client give its core back, and is answered because of that.
     for nth in 0.. {
         let asks = nth % 2 == 0;
         if !is_silent(&floats) || control.write_all(&bytes_of([ASK, asks as u32, 0, 0])).is_err() {
@@ -456,7 +457,7 @@ fn a_thread_that_has_the_number_of_one_that_ended_is_not_moved() {
     let (number, end) = begin();
     let mut thread = daemon.join(welcome[1], number, 0, false);
     send(&mut thread, [WAIT, 0, 0, 0]);
-    // Once this client is answered, all messages that were sent before have been read.
+    // When this client is answered, the daemon has read all messages that were sent before.
     daemon.hello(5, 0);
     end();
     // Longer than the hundredth of a second to which the kernel rounds a thread's start time.
@@ -552,7 +553,8 @@ fn a_thread_that_changes_its_affinity_leaves_its_core_only_by_affinity() {
     assert_eq!(processors_of(&id), if leaves { kept } else { &cpu[..] });
 }
 
-/// The daemon can't distinguish this thread from a thread that a client's thread has begun on its core.
+/// The daemon takes this thread for one that a client's thread has started on its core, since both are on one
+/// processor.
 #[test]
 fn a_thread_that_is_kept_on_one_processor_is_freed() {
     let daemon = Daemon::new("kept");
@@ -564,7 +566,7 @@ fn a_thread_that_is_kept_on_one_processor_is_freed() {
     becomes("it may run on all processors again", || processors_of(&id) == all());
 }
 
-/// The daemon has two of this process's processors.
+/// This daemon has only two of the processors that this process may use.
 #[test]
 fn who_was_a_client_may_run_everywhere_once_the_daemon_has_ended() {
     let all = processors_of(&std::process::id().to_string());
@@ -638,7 +640,7 @@ fn while_the_host_takes_a_processor_its_thread_runs_in_the_rest() {
     fs::remove_file(stat).unwrap();
 }
 
-/// The group's files are plain files: this test shows only what is written to them.
+/// The group's files are plain files here, so the test shows only what the daemon writes to them.
 #[test]
 fn groups_of_version_2_get_the_processors_of_the_rest() {
     let group = path_of("group");

@@ -1,5 +1,5 @@
-//! Runtimes of rust/arachne as the daemon's clients, by affinity, or by cpusets in the folder ARBITER_CPUSET; two
-//! processors are needed.
+//! Runs runtimes of rust/arachne as clients of the daemon, by affinity, or by cpusets in the folder that ARBITER_CPUSET
+//! names. The tests need two processors.
 mod common;
 
 use arachne::{Builder, Policy, Runtime};
@@ -14,7 +14,7 @@ use std::sync::Arc;
 use std::thread;
 use std::time::{Duration, Instant};
 
-/// Work for a runtime, which continues while `goes_on` is true.
+/// Work for a runtime, which goes on until `goes_on` is false.
 struct Load {
     polls: Arc<AtomicU64>,
     goes_on: Arc<AtomicBool>,
@@ -60,8 +60,8 @@ fn workers() -> Vec<String> {
     threads.filter(|it| name(it).trim().strip_prefix("arachne-").map_or(false, |n| n.parse::<u32>().is_ok())).collect()
 }
 
-/// Returns the number of processors that the daemon grants: all but one of those that this thread has before it belongs
-/// to a client.
+/// Returns how many processors the daemon grants: all but one of those that this thread may use before it belongs to a
+/// client.
 fn cores() -> usize {
     arachne::available_cores() - 1
 }
@@ -117,7 +117,7 @@ fn a_runtime_goes_on_without_its_daemon_and_joins_the_next() {
     }
     drop((low, high));
     drop(daemon);
-    // A runtime of the same shape uses the state again, and must know nothing of the last runtime's arbiter.
+    // A runtime of the same size uses the same state again, and must not have anything of the last runtime's arbiter.
     let alone = Builder::new(cores).build().unwrap();
     assert_eq!(alone.block_on(alone.spawn(async { 42 })).unwrap(), 42);
     assert_eq!((active(&alone), alone.stats().arbiter), (cores, false));
@@ -146,8 +146,8 @@ extern "C" {
     fn pause() -> i32;
 }
 
-/// A runtime that forks after it has all cores. The child process has the runtime's connections and its page, and none
-/// of its kernel threads.
+/// A runtime that has all cores, and then forks. The child process has the connections and the page of the runtime, but
+/// none of its kernel threads.
 #[test]
 #[ignore = "the test before runs it, and kills it once it has all cores"]
 fn a_runtime_to_kill() {
@@ -181,8 +181,7 @@ fn the_core_that_is_left_over_goes_round_within_a_priority() {
     }
 }
 
-/// The batch runtime gets the cores that are left over by the server's runtime, which asks for cores according to its
-/// load.
+/// The server's runtime asks for cores according to its load. The batch runtime gets the other cores.
 #[test]
 fn cores_follow_the_load_between_two_priorities() {
     let daemon = Daemon::new("policy");
@@ -253,8 +252,8 @@ fn what_a_worker_begins_does_not_stay_on_its_core() {
     arachne::block_on(task).unwrap();
 }
 
-/// The second runtime begins while its process may use only the processors of the set `rest`, because the first has all
-/// cores.
+/// The first runtime has all cores. The second begins while its process may use only the processors of the cpuset
+/// `rest`.
 #[test]
 fn a_runtime_that_begins_in_the_rest_is_not_kept_there() {
     let (daemon, cores) = (Daemon::new("rest"), cores());
@@ -276,16 +275,16 @@ fn a_runtime_that_begins_in_the_rest_is_not_kept_there() {
     arachne::block_on(task).unwrap();
 }
 
-/// Returns true if this thread may run on all processors on which the process's first thread, which is no worker, may
-/// run.
+/// Returns true if this thread may run on all processors that the first thread of the process, which is no worker, may
+/// use.
 fn is_free() -> bool {
     let link = fs::read_link("/proc/thread-self").unwrap();
     let me = link.file_name().unwrap().to_str().unwrap();
     processors_of(me) == processors_of(&std::process::id().to_string())
 }
 
-/// A worker's core is asked back while the worker is in a poll that blocks until a task that it makes ready has run.
-/// The other worker, which has nothing else to do and waits for sockets, must run that task.
+/// The arbiter wants a worker's core back while the worker is in a poll, which blocks until a task that it has made
+/// ready has run. The other worker has nothing to do and waits for sockets: it must run that task.
 #[test]
 fn what_is_in_hand_is_run_though_the_core_was_asked_back() {
     let all = arachne::available_cores();
@@ -313,8 +312,8 @@ fn what_is_in_hand_is_run_though_the_core_was_asked_back() {
     }
 }
 
-/// The only worker that has a core is in a poll that waits for another task. The other worker, which waits for a core,
-/// runs that task.
+/// The only worker with a core is in a poll that waits for another task. The other worker, which waits for a core, must
+/// run that task.
 #[test]
 fn what_is_behind_a_poll_is_run_by_who_waits_for_a_core() {
     let daemon = Daemon::new("covers");

@@ -1,4 +1,4 @@
-//! The part of a server of Redis's protocol that doesn't depend on an executor: it reads commands and makes answers.
+//! Reads commands of Redis's protocol, and makes their answers. This part of a server is the same for every executor.
 #![allow(clippy::result_unit_err, clippy::type_complexity)]
 
 use std::collections::hash_map::{DefaultHasher, HashMap};
@@ -15,15 +15,15 @@ impl Default for Store {
     }
 }
 
-/// Parses the number in the line at `at`. Returns the number, and the index of the next line; None if the line is
-/// incomplete.
+/// Parses the number in the line that begins at `at`. Returns it with the index of the next line, or None if the line
+/// is incomplete.
 fn number(bytes: &[u8], at: usize) -> Option<Result<(i64, usize), ()>> {
     let end = at + bytes.get(at..)?.windows(2).position(|w| w == b"\r\n")?;
     let parsed = std::str::from_utf8(&bytes[at..end]).ok().and_then(|t| t.parse().ok());
     Some(parsed.map(|n| (n, end + 2)).ok_or(()))
 }
 
-/// Returns the words of the first command, and the command's length; None if the command is incomplete.
+/// Parses the first command. Returns its words and its length in bytes, or None if the command is incomplete.
 fn command(bytes: &[u8]) -> Option<Result<(Vec<&[u8]>, usize), ()>> {
     if bytes.is_empty() {
         return None;
@@ -103,8 +103,8 @@ impl Store {
         }
     }
 
-    /// Answers each complete command in `bytes`. Returns the number of bytes, and the number of commands, that were
-    /// answered; fails if the bytes are no commands.
+    /// Answers each complete command in `bytes`. Returns how many bytes these commands have, and how many commands they
+    /// are. Fails if the bytes are no commands.
     pub fn serve(&self, bytes: &[u8], out: &mut Vec<u8>) -> Result<(usize, u64), ()> {
         let (mut at, mut count) = (0, 0);
         while let Some(command) = command(&bytes[at..]) {
@@ -125,7 +125,7 @@ fn bulk(text: &[u8], out: &mut Vec<u8>) {
     out.extend(b"\r\n");
 }
 
-/// The bytes that a connection has read and not yet answered.
+/// The bytes that were read from a connection, and are not answered yet.
 pub struct Buffer {
     pub bytes: Vec<u8>,
     pub len: usize,

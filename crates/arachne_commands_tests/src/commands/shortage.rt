@@ -1,4 +1,4 @@
-//! Tests of the program in a process whose memory is used up; each run has a little more memory than the previous run.
+//! Tests of the program in a process whose memory is used up; each run has a little more memory than the run before.
 use super::endings::{Told, shown, status_of, told_by};
 use super::fakes::{Script, Tray};
 use super::spelling::{parts_of, spelled};
@@ -9,15 +9,15 @@ use std::sync::Wait;
 use std::thread::Threads;
 use std::time::Clock;
 
-/// The maximum number of runs of a row, and the number of bytes that each run has more than the previous run.
+/// The maximum number of runs of a test case. Each run has `BYTES` bytes more memory than the run before.
 const RUNS: u64 = 5_000;
 
 const BYTES: usize = 100;
 
-/// The lines of faults for refused memory and for a refused kernel thread.
+/// The error messages of a run to which memory, or a kernel thread, was refused.
 const WANTS: &[&[u8]] = &[b"fault 30\n", b"fault 35\n"];
 
-/// Runs the words on an input. Returns true if the run ends as expected.
+/// Runs the program with these arguments and this input. Returns true if the run ends as expected.
 ///
 /// Returns false if memory or a kernel thread was refused, and `None` if the run ends in any other way.
 fn is_told<R: Threads + Wait + Clock + Sync>(
@@ -53,15 +53,15 @@ const ROWS: &[&str] = &[
     "arachne help policy <  => 2 !usage",
 ];
 
-/// Rows that run on several cores. Runs of these rows need not end as they do with enough memory: once all memory was
-/// used up, the C library gives no memory to a new kernel thread, even if memory was given back.
+/// Test cases that run on several cores. Runs of these test cases need not end as they do with enough memory: after all
+/// memory was used up, the C library gives no memory to a new kernel thread, even if memory was freed again.
 const ON_CORES: &[&str] = &[
     "arachne run --cores 4 --quantum 1 --names 0:release:1 1:release:2 2:grant:1 < arachne 1|ledgers 0|locks 0|(sweep add 2 (num 0) (num 8) (var 0))| => 0 value 28|threads 4|thread /|thread /1|thread /0|thread /0/0|!",
 ];
 
-/// Runs a row's words with memory, with none, and then with a little more memory each time.
+/// Runs a test case with all memory, then with none, and then with a little more each time.
 ///
-/// Stops when the words end as expected, or after `most` runs. Returns the number of runs after the first.
+/// Stops when the program ends as expected, or after `most` runs. Returns the number of runs after the first.
 fn ends_at_last<R: Abort + Threads + Wait + Clock + Sync>(
     rt: &R,
     alloc: Global,
@@ -90,7 +90,7 @@ fn ends_at_last<R: Abort + Threads + Wait + Clock + Sync>(
     Ok(runs)
 }
 
-/// The first run of each row has no memory at all, and the last run has enough.
+/// Tests that the first run of each test case, without any memory, is refused, and that the last run has enough memory.
 #[test]
 fn each_growth_is_refused(rt: HostRuntime) -> Result<(), AllocError> {
     for &row in ROWS {

@@ -1,8 +1,9 @@
-//! Reads the rows of tests: a command line, an input and the expected end, as `arachne eval < INPUT => 0 OUTPUT!FAULTS`.
+//! Reads the rows of tests: a command line, an input and the expected end, as `arachne eval < INPUT => 0
+//! OUTPUT!FAULTS`.
 use std::alloc::{AllocError, Global};
 
-/// Appends a piece. `PART*N]TAIL` (without a `[`) is PART, N times, and then TAIL. A piece without `]` stands for
-/// itself.
+/// Appends one piece of a text in the short notation. A piece `PART*N]TAIL` (without a `[`) stands for PART, N times,
+/// and then TAIL. A piece without `]` stands for itself.
 fn append(text: &mut String, piece: &str) -> Result<(), AllocError> {
     let Some((repeated, rest)) = piece.split_once(']') else {
         return text.push_str(piece);
@@ -14,7 +15,7 @@ fn append(text: &mut String, piece: &str) -> Result<(), AllocError> {
     text.push_str(rest)
 }
 
-/// Returns the text that a row spells: a `|` is the end of a line, and `[PART*N]` is PART, N times.
+/// Expands a text in the short notation: each `|` stands for the end of a line, and `[PART*N]` for PART, N times.
 pub(super) fn spelled(alloc: Global, row: &str) -> Result<String, AllocError> {
     let lines = row.replace(alloc, '|', "\n")?;
     let mut text = String::new(alloc);

@@ -1,4 +1,4 @@
-//! Streams that fail, that give or take little at a time, and that never end.
+//! Tests with streams that fail, that give or take few bytes at a time, and that never end.
 use super::endings::{Told, assert_ends, ends, fault, status_of, told_by};
 use super::fakes::{Failure, Script, Tray};
 use super::spelling::{parts_of, spelled};
@@ -10,7 +10,7 @@ use std::sync::Wait;
 use std::thread::Threads;
 use std::time::Clock;
 
-/// Each of the commands in a run in which all goes well.
+/// Each of the commands, in a run without any fault.
 const COMMANDS: &[&str] = &[
     "arachne run --cores 2 --quantum 1 --names 0:release:1 3:grant:1 < arachne 1|ledgers 1|locks 1|(sweep add 1 (num 0) (num 2) (hold 0 (tally 0 (num 5) (num 1))))| => 0 value 2|ledger 0 10|threads 2|thread / 1|thread /0 1|!",
     "arachne eval --names < arachne 1|ledgers 0|locks 1|(fork n (hold 0 (num 2)) (num 3) (add (var 0) (var 1)))| => 0 value 5|threads 2|thread / 0|thread /0 1|!",
@@ -18,7 +18,7 @@ const COMMANDS: &[&str] = &[
     "arachne policy < 2 151 100 1900 1000|3 100 100 1809 1000| => 0 add|remove|!",
 ];
 
-/// Each of the commands on an input that takes four reads, with a fifth for its end.
+/// Each of the program's commands, on an input that takes four reads, with a fifth that finds the end.
 const LONG: &[&str] = &[
     "arachne run --cores 2 < arachne 1|array[ 1*100000]|ledgers 0|locks 0|(len 0)| => 0 value 100000|threads 1|!",
     "arachne eval < arachne 1|array[ 1*100000]|ledgers 0|locks 0|(len 0)| => 0 value 100000|threads 1|!",
@@ -26,7 +26,7 @@ const LONG: &[&str] = &[
     "arachne policy < [2 151 100 1900 1000|3 100 100 1809 1000|*5000] => 0 [add|remove|*5000]!",
 ];
 
-/// Each of the commands on an input with a fault, and words that are refused.
+/// Each of the commands on an input with a fault, and arguments that are refused.
 const REFUSED: &[&str] = &[
     "arachne run --cores 2 < arachne 1|ledgers 0|locks 0|(var 0)| => 1 !fault 8 node 0|",
     "arachne eval < arachne 1|ledgers 0|locks 0|(num 18446744073709551616)| => 1 !fault 3 at 52|",
@@ -35,10 +35,11 @@ const REFUSED: &[&str] = &[
     "arachne run 0:take:1 <  => 2 !fault 26 order 0|",
 ];
 
-/// The maximum numbers of bytes that a stream gives or takes at a time.
+/// The maximum numbers of bytes that a stream gives or takes in one call.
 const STEPS: &[usize] = &[1, 7, usize::MAX];
 
-/// Errors of streams, each with whether it occurs only once. Programs often try again after some of these errors.
+/// Errors that a stream returns, and for each, whether it returns the error only once. Programs often try again after
+/// some of these errors.
 const ERRORS: &[(ErrorKind, bool)] = &[
     (ErrorKind::Interrupted, true),
     (ErrorKind::Interrupted, false),
@@ -48,10 +49,10 @@ const ERRORS: &[(ErrorKind, bool)] = &[
     (ErrorKind::Other, false),
 ];
 
-/// Runs a row's words on its input, and lets each of the reads fail in turn, in each way.
+/// Runs a test case, and makes each of its reads fail, one after another, in each way.
 ///
-/// The input gives at most `step` bytes at a time. Checks that no read follows a failed read. Returns the number of
-/// reads.
+/// The input gives at most `step` bytes at a time. Checks that the program reads no more after a failed read. Returns
+/// the number of reads.
 fn each_read_fails<R: Abort + Threads + Wait + Clock + Sync>(
     rt: &R,
     alloc: Global,
@@ -80,7 +81,7 @@ fn each_read_fails<R: Abort + Threads + Wait + Clock + Sync>(
     Ok(whole.reads)
 }
 
-/// Reads fail at the start, in mid-stream and at the end.
+/// Tests reads that fail at the start, in the middle and at the end of the input.
 #[test]
 fn a_failed_read_is_not_tried_again(rt: HostRuntime) -> Result<(), AllocError> {
     for &row in COMMANDS {
@@ -94,7 +95,7 @@ fn a_failed_read_is_not_tried_again(rt: HostRuntime) -> Result<(), AllocError> {
     Ok(())
 }
 
-/// Words of a command line, and the text that they read again and again.
+/// Test cases without an end of the input: the arguments, and the text that the reader repeats without end.
 const ENDLESS: &[(&str, &str)] = &[
     ("arachne run", "a"),
     ("arachne eval", "arachne 1\nledgers 0\nlocks 0\n(num 7)\n"),
@@ -102,7 +103,7 @@ const ENDLESS: &[(&str, &str)] = &[
     ("arachne policy", "0 1 1 1 1 7\n"),
 ];
 
-/// An input above the limit is reported before any fault of its text.
+/// Tests that an input above the limit is reported before any fault in its text.
 #[test]
 fn readers_that_never_end(rt: HostRuntime) -> Result<(), AllocError> {
     for &(words, text) in ENDLESS {
@@ -115,7 +116,8 @@ fn readers_that_never_end(rt: HostRuntime) -> Result<(), AllocError> {
     Ok(())
 }
 
-/// The ways in which a write fails: with an error or by taking no byte; only once, or also at every later call.
+/// The ways in which a write fails: with an error (`Some`) or by taking no byte (`None`), and whether only once or also
+/// in every later call.
 const FAILS: &[(Option<ErrorKind>, bool)] = &[
     (None, true),
     (None, false),
@@ -127,7 +129,7 @@ const FAILS: &[(Option<ErrorKind>, bool)] = &[
     (Some(ErrorKind::Other), false),
 ];
 
-/// The kind of call that fails in a run.
+/// The kind of call that fails in a run: a write of the output, its flush, or a write of a fault's line.
 #[derive(Clone, Copy, Debug)]
 enum Stream {
     Output,
@@ -135,17 +137,18 @@ enum Stream {
     Faults,
 }
 
-/// Words on an input, their end, and the number of bytes that each writer takes at a time.
+/// A test case, and the number of bytes that each writer takes at a time.
 #[derive(Clone, Copy)]
 struct Case<'a> {
     words: &'a str,
     input: &'a [u8],
-    /// The expected end of the program, as a row spells it.
+    /// The expected end of the program, in the notation of the tests' tables.
     row: &'a str,
     step: usize,
 }
 
-/// Returns the streams for the output and for the faults. Calls of the given kind fail in the given way.
+/// Returns the streams for the output and for the faults. In the one that `stream` selects, calls of that kind fail as
+/// `failure` says.
 fn trays(alloc: Global, step: usize, stream: Stream, failure: Option<Failure>) -> (Tray, Tray) {
     let (mut output, mut faults) = (Tray::new(alloc), Tray::new(alloc));
     output.step = step;
@@ -158,13 +161,13 @@ fn trays(alloc: Global, step: usize, stream: Stream, failure: Option<Failure>) -
     (output, faults)
 }
 
-/// Returns the bytes that all writes before write number `at` take, if each takes `step` bytes.
+/// Returns those of `bytes` that all writes before write number `at` take, if each takes `step` bytes.
 fn taken(bytes: &[u8], at: u64, step: usize) -> &[u8] {
     let count = (at as usize).saturating_sub(1).saturating_mul(step);
     &bytes[..count.min(bytes.len())]
 }
 
-/// Returns the expected end of a case in which the call of this number on the stream fails.
+/// Returns the expected end of a case in which call number `at` on `stream` fails.
 fn told_of<'a>(case: &Case<'a>, stream: Stream, at: u64) -> Told<'a> {
     let told = told_by(case.row);
     match stream {
@@ -185,8 +188,7 @@ fn told_of<'a>(case: &Case<'a>, stream: Stream, at: u64) -> Told<'a> {
     }
 }
 
-/// Runs a case in which one call fails, or none. Checks the end of the run, and returns the number of calls on
-/// `stream`.
+/// Runs a case in which one call fails, or none. Checks how the run ends, and returns the number of calls on `stream`.
 fn calls_of<R: Abort + Threads + Wait + Clock + Sync>(
     rt: &R,
     alloc: Global,
@@ -210,7 +212,8 @@ fn calls_of<R: Abort + Threads + Wait + Clock + Sync>(
     })
 }
 
-/// Lets each call on `stream` fail in turn, in each way. Checks that no call on `stream` follows the failed call.
+/// Makes each call on `stream` fail, one after another, in each way. Checks that no call on `stream` follows the failed
+/// call.
 fn each_call_fails<R: Abort + Threads + Wait + Clock + Sync>(
     rt: &R,
     alloc: Global,
@@ -228,8 +231,8 @@ fn each_call_fails<R: Abort + Threads + Wait + Clock + Sync>(
     Ok(())
 }
 
-/// Writes of the output, its flush, or writes of a fault's line fail. If the line of a fault can't be written, nothing
-/// else changes.
+/// Tests failures of writes of the output, of its flush, and of writes of a fault's line. If that line can't be
+/// written, nothing else changes.
 #[test]
 fn a_failed_write_is_not_tried_again(rt: HostRuntime) -> Result<(), AllocError> {
     let alloc = rt.alloc();
@@ -253,10 +256,10 @@ fn a_failed_write_is_not_tried_again(rt: HostRuntime) -> Result<(), AllocError> 
     Ok(())
 }
 
-/// Words to which `clap` answers with a text.
+/// Command lines that `clap` (the parser of arguments) answers with a text.
 const USAGE: &[&str] = &["arachne", "arachne eval --cores 4", "arachne run --help"];
 
-/// The status of refused words is the same if their text cannot be written.
+/// Tests that, if the arguments are refused, the exit status is the same even if the usage text can't be written.
 ///
 /// No test interrupts every write: `std` repeats an interrupted write of that text, and would not end.
 #[test]

@@ -1,22 +1,22 @@
-//! Tests of the cores on which threads run. The choosers decide to which cores a run's threads are forked.
+//! Tests of the cores on which threads run. The choosers (random generators) decide on which core a fork puts a child.
 use super::facts::Fact::{Cores, InPlace, IsOver, LastTwoInSlots, Slot, Threads, Value};
 use super::rows::{QUANTA, ROW, Row, rows_hold};
 use crate::choosers::{CORE_THREE, Draws, IN_TURN, ONE_EACH};
 use crate::gates::Watching;
 use std::test::Fail;
 
-/// A thread that forks another and adds up both values.
+/// A root thread that forks a child and adds the child's value to its own.
 pub(super) const FORK: &str = "(fork n (num 2) (num 3) (add (var 0) (var 1)))";
 
-/// A thread that forks an exclusive child, which gets a core to itself.
+/// The root thread forks an exclusive child, which gets a core to itself.
 pub(super) const EXCLUSIVE: &str = "(fork x (num 1) (num 2) (add (var 0) (var 1)))";
 
-/// The root counts to 1,000 while its child has another core to itself.
+/// The root thread counts to 1,000 while its child runs on another core, which the child has to itself.
 pub(super) const ALONE: &str =
     "(fork x (num 1) (fold (num 0) (num 1000) (num 0) (var 1)) (add (var 0) (var 1)))";
 
 const ROWS: &[Row] = &[
-    // Both choices of the fork are core 3.
+    // Both random choices of the fork are core 3, so the child runs there.
     Row {
         shows: "a fork goes where its choices say",
         expr: FORK,
@@ -37,7 +37,8 @@ const ROWS: &[Row] = &[
         facts: &[(Value, 4), (Cores, 0b1111)],
         ..ROW
     },
-    // Core 0's chooser draws cores 1, 2 and 3 in turn, for the three threads that the root forks before it joins any.
+    // Core 0's chooser (random generator) returns cores 1, 2 and 3, one after another, for the three threads that the
+    // root forks before it joins any.
     Row {
         shows: "each fork draws a word",
         expr: "(fork n (num 1) (fork n (num 2) (fork n (num 3) (num 4) (var 1)) (var 1)) (var 1))",
@@ -59,7 +60,7 @@ const ROWS: &[Row] = &[
         facts: &[(Value, 2), (Threads, 307), (LastTwoInSlots, 1)],
         ..ROW
     },
-    // The root has the only place of the drawn core, so that the other cores are tried in ascending order.
+    // The root has the only slot of the core that is drawn, so the other cores are tried in ascending order.
     Row {
         shows: "where the core that is drawn is full, the lowest that is not gets the thread",
         expr: FORK,
@@ -69,7 +70,7 @@ const ROWS: &[Row] = &[
         facts: &[(Value, 5), (Slot, 2), (Cores, 0b0011)],
         ..ROW
     },
-    // The parent waits for its child, and does not run the child.
+    // The parent waits for its child, and doesn't run the child in its own slot.
     Row {
         shows: "a thread that has a core alone runs there",
         expr: EXCLUSIVE,

@@ -1,4 +1,4 @@
-//! The facts that a run shows in its report, or to the observer (`Gate`) that watched it.
+//! The numbers that a test case expects in a run's report, or from the observer (`Gate`) that watched the run.
 use super::locks::{events_of, grants, grants_are_holds};
 use super::programs::threads_of;
 use crate::gates::Watch;
@@ -8,27 +8,27 @@ use std::alloc::Global;
 use std::sync::atomic::Ordering;
 use std::test::Fail;
 
-/// A number of a run. A condition counts as 1 if it holds, else as 0.
+/// A number that a test case can expect of a run. A condition counts as 1 if it is true, and as 0 otherwise.
 #[derive(Clone, Copy)]
 pub(super) enum Fact {
     Value,
     /// The number of threads in the report.
     Threads,
-    /// The number of threads that got a place when they were forked.
+    /// The number of threads that got a slot at once when they were forked.
     Slot,
-    /// The last two threads of the report got a place when they were forked.
+    /// 1 if the last two threads of the report got a slot at once when they were forked.
     LastTwoInSlots,
-    /// The number of threads that waited for their place.
+    /// The number of threads that waited for a slot after their fork and then got one.
     Spill,
-    /// The number of threads that ran in the places of their parents.
+    /// The number of threads that ran inside the slots of their parents.
     InPlace,
-    /// At most this number of threads ran in the places of their parents.
+    /// 1 if at most this number of threads ran inside the slots of their parents.
     InPlaceUpTo(u64),
-    /// The sum in the first ledger of the report.
+    /// The sum in the report for the first ledger (counter).
     Total,
     /// The number of orders to open or close a core that the run has carried out.
     Applied,
-    /// The run has carried out at most this number of orders.
+    /// 1 if the run has carried out at most this number of orders to open or close cores.
     AppliesUpTo(u64),
     /// The cores that the observer has recorded, a bit for each: those that have entered a slice.
     Cores,
@@ -36,19 +36,21 @@ pub(super) enum Fact {
     Counts(u64),
     /// The observer has counted at most this number.
     CountsUpTo(u64),
-    /// At most this number of sleeps timed out before something was found.
+    /// 1 if at most this number of sleeps timed out before their worker found something to run.
     OversleepsUpTo(u64),
-    /// All events for which a core waited (see `Watching`) have occurred, and no event that must not occur has.
+    /// 1 if all events for which a core waited (see `Watching`) have occurred, and none of the events that must not
+    /// occur.
     IsOver,
-    /// The number of events of the first lock.
+    /// The number of events (requests, grants and releases) in the first lock's history.
     Events,
-    /// The number of grants of the first lock.
+    /// The number of grants in the first lock's history.
     Grants,
-    /// The first lock was granted once to each thread that has held it once, and to no other thread.
+    /// 1 if the first lock was granted once to each thread whose line in the report says that it held the lock once,
+    /// and to no other thread.
     GrantsAreHolds,
 }
 
-/// Returns the number of a fact.
+/// Returns the number that a run has for `fact`.
 pub(super) fn number(report: &Report, watch: &Watch, fact: Fact) -> u64 {
     match fact {
         Fact::Value => report.value,
@@ -75,7 +77,8 @@ pub(super) fn number(report: &Report, watch: &Watch, fact: Fact) -> u64 {
     }
 }
 
-/// Returns whether there are at least two threads and the last two got a place when they were forked.
+/// Returns whether there are at least two threads, and the last two in the report got a slot at once when they were
+/// forked.
 fn are_last_two_in_slots(report: &Report) -> bool {
     let mut in_slots = 0u64;
     for line in report.threads.iter() {
@@ -88,7 +91,7 @@ fn are_last_two_in_slots(report: &Report) -> bool {
     in_slots >= 2
 }
 
-/// Returns the number of threads that ran in this way.
+/// Returns the number of threads in the report that ran in the way `ran`.
 fn count_of(report: &Report, ran: Ran) -> u64 {
     let mut count = 0u64;
     for line in report.threads.iter() {
@@ -97,19 +100,20 @@ fn count_of(report: &Report, ran: Ran) -> u64 {
     count
 }
 
-/// Which text a test makes of a report, to compare it with the expected one.
+/// The part of a report that a test writes as text, to compare it with the expected text.
 #[derive(Clone, Copy)]
 pub(super) enum Telling {
     Nothing,
-    /// The value, the totals, and the name and the holds of each thread.
+    /// The program's value, the ledgers' sums, and for each thread its name and how often it held locks.
     Threads,
-    /// The events of each lock.
+    /// The events (requests, grants and releases) of each lock.
     Events,
-    /// The way in which each thread ran.
+    /// For each thread, how it ran: in a slot from its fork on, in a slot after it had waited, or inside its parent's
+    /// slot.
     Ran,
 }
 
-/// Returns the selected text of a report, or the fault if there is no report.
+/// Returns the part of a report that `telling` selects as a text, or the fault if there is no report.
 pub(super) fn told(
     alloc: Global,
     answer: &Result<Report, RunFault>,
@@ -124,7 +128,7 @@ pub(super) fn told(
     }
 }
 
-/// Returns a word for each thread, the root's first, that says how it ran.
+/// Returns one word for each thread, beginning with the root, that says how the thread ran (`Ran`).
 fn ran_of(alloc: Global, report: &Report) -> Result<String, Fail> {
     let mut text = String::new(alloc);
     for line in report.threads.iter() {

@@ -1,5 +1,5 @@
-//! Runs that end with a fault while their threads wait, or run without end. A run returns the fault that was recorded
-//! first, and joins all kernel threads.
+//! Tests of runs that end with a fault while their threads wait or run without end. Such a run returns the fault that
+//! was recorded first, and joins all kernel threads.
 use super::facts::Telling;
 use super::programs::SWEEP;
 use super::rows::{LOCKED, ROW, Row, rows_hold};
@@ -40,14 +40,14 @@ const FIRST: Row = Row {
 
 const ROWS: &[Row] = &[
     HANDED_BACK,
-    // As before, but cores 2, 3 and 4 are taken back. They have nothing to do and are parked.
+    // As in the case before, but cores 2, 3 and 4 are closed. They have nothing to run, and their workers are parked.
     Row {
         shows: "parked cores are woken",
         orders: &[(0, Release, 2), (0, Release, 3), (0, Release, 4)],
         ..HANDED_BACK
     },
-    // Of the root and its child on core 1, one holds the lock without end and the other waits for it. A child on core 2
-    // ends.
+    // The root and its child on core 1 use one lock: one of them holds it without end, and the other waits for it. A
+    // child on core 2 ends.
     Row {
         shows: "a thread that waits for a lock is left",
         locks: 1,
@@ -55,7 +55,7 @@ const ROWS: &[Row] = &[
         draws: IN_TURN,
         ..HANDED_BACK
     },
-    // Each core has one place. The root forks more children than there are places before any of them ends.
+    // Each core has one slot. The root forks more children than there are slots before any of them ends.
     Row {
         shows: "children that wait for a place are left",
         expr: "(sweep add 1 (num 0) (num 300) (fold (num 0) (num 3000) (num 0) (var 2)))",
@@ -63,8 +63,7 @@ const ROWS: &[Row] = &[
         draws: SPREAD,
         ..HANDED_BACK
     },
-    // Cores 0 and 1 are full of the root and its first child, so that the second child runs without end in the root's
-    // place.
+    // The root and its first child fill cores 0 and 1, so the second child runs without end inside the root's slot.
     Row {
         shows: "a child in place stops",
         expr: "(fork n (fold (num 0) (num 20000) (num 0) (var 1)) (fork n (fold (num 0) (num 1000000000000) (num 0) (var 1)) (num 1) (var 1)) (var 0))",
@@ -84,13 +83,13 @@ const ROWS: &[Row] = &[
         ..REFUSED
     },
     FIRST,
-    // As before, but the thread is handed back first and the memory is refused second.
+    // As in the case before, but the two faults are recorded in the other order.
     Row {
         machines: (&[10], &[1, 100]),
         told: (Telling::Nothing, "Worker(Token)"),
         ..FIRST
     },
-    // After all of these runs, a run in the same process succeeds.
+    // This row comes after all of these runs: a run in the same process succeeds.
     Row {
         shows: "a run goes well behind others that did not",
         machines: (&[4], &[1]),

@@ -1,5 +1,6 @@
-//! Rules of a run that no contract states and no log shows: tickets and places are counted, a core that is taken back
-//! is left by its threads, and a lost claim or wake is repeated.
+//! Tests of rules that no contract states and no log shows: tickets (entries of waiting children) and slots are
+//! counted, threads leave a core that is closed, and a claim or wake that fails because of a concurrent call is
+//! repeated.
 use super::cores::EXCLUSIVE;
 use super::facts::Fact::{
     Applied, Cores, Counts, Events, GrantsAreHolds, InPlace, IsOver, Slot, Threads, Value,
@@ -88,7 +89,7 @@ fn what_a_thread_is_due_is_heeded(rt: HostRuntime) -> Result<(), Fail> {
     rows_hold(&rt, rt.alloc(), ROWS)
 }
 
-/// The root's child is running on core 1 when that core is taken back, and has many steps left.
+/// The root's child has many steps left and runs on core 1 when an order closes that core.
 const ANEW: Row = Row {
     shows: "a thread on a core that is taken back is put back after its slice",
     expr: "(fork n (fold (num 0) (num 400) (num 0) (var 1)) (fold (num 0) (num 4000) (num 0) (var 1)) (add (var 0) (var 1)))",

@@ -1,4 +1,4 @@
-//! Runs on many machines. Their logs are checked against the rules of a run.
+//! Runs programs on machines of many sizes, and checks their logs against the rules of a run.
 ghost use Rattle.arachne_lang.specs.Checked.{IsChecked};
 ghost use Rattle.arachne_lang.specs.Program.{source_of};
 
@@ -22,28 +22,28 @@ use std::test::Fail;
 use std::thread::Threads;
 use std::time::Clock;
 
-/// The number of entries for which a log has room.
+/// The number of entries for which each log has room.
 const ROOM: usize = 120_000;
 
-/// A row that is run with several numbers of places, and whose logs are checked.
+/// A test case whose program is run with several numbers of slots, and the logs of whose runs are checked.
 #[derive(Clone, Copy)]
 struct Judged {
     row: Row,
     slots: &'static [u8],
-    /// The number of runs on each of the row's machines, each with another number of places or another form of table.
+    /// The number of runs on each machine, each with another number of slots or another type of table.
     turns: usize,
-    /// The number of the root's exclusive fork, if the root makes one.
+    /// The only exclusive one of the root's forks, counted from 0; `None` if none is.
     exclusive: Option<u64>,
-    /// The minimum number of steps of all slices together.
+    /// The smallest sum of the steps of all slices that a run must have.
     steps: u64,
-    /// The rules that must be checked at least once over all runs of the row, besides the rules `ALWAYS`.
+    /// The rules that must be checked at least once over all runs of the test case, besides the rules `ALWAYS`.
     rules: &'static [Rule],
 }
 
-/// The rules that are checked in every run.
+/// The rules that must be checked at least once over all runs of each test case.
 const ALWAYS: &[Rule] = &[InHand, Numbers, Quantum];
 
-/// Checks the log of a run. Returns how often each rule was checked.
+/// Checks the log of a run. Returns the number of times that each rule was checked.
 ///
 /// Fails if a rule is broken, if the log had no room for an entry, or if there are too few steps.
 fn counts_of(alloc: Global, judged: &Judged, machine: Machine, log: &Log) -> Result<Counts, Fail> {
@@ -68,7 +68,8 @@ fn counts_of(alloc: Global, judged: &Judged, machine: Machine, log: &Log) -> Res
     Ok(verdict.counts)
 }
 
-/// Runs a row's program once, and checks the run's report and its log. Returns how often each rule was checked.
+/// Runs a test case's program once, and checks the report and the log of the run. Returns how often each rule was
+/// checked.
 fn run_is_lawful<R: Threads + Wait + Clock + Sync>(
     rt: &R,
     alloc: Global,
@@ -92,8 +93,8 @@ fn run_is_lawful<R: Threads + Wait + Clock + Sync>(
 /// Returns the number of places and the form of table for a machine in this turn, by the numbers of its quantum and of
 /// its number of cores in the row's lists.
 ///
-/// With as many turns as there are combinations of a number of places and a form, each machine has every combination.
-/// In one turn, machines that follow each other get different numbers of places and different forms of table.
+/// If there are as many turns as combinations of a number of slots and a form, each machine has every combination. In
+/// one turn, machines that follow each other get different numbers of places and different forms of table.
 fn kind_of(judged: &Judged, line: usize, nth: usize, turn: usize) -> (u8, Form) {
     let count = judged.slots.len().max(1);
     let at = line.wrapping_mul(2).wrapping_add(nth).wrapping_add(turn) % count;
@@ -102,7 +103,7 @@ fn kind_of(judged: &Judged, line: usize, nth: usize, turn: usize) -> (u8, Form) 
     (slots, FORMS[at])
 }
 
-/// Runs a row on each of its machines in each of its turns. Each rule of the row must be checked at least once.
+/// Runs a test case `turns` times on each of its machines. Each of its rules must be checked at least once.
 fn is_lawful<R: Threads + Wait + Clock + Sync>(
     rt: &R,
     alloc: Global,
@@ -144,7 +145,7 @@ fn are_lawful<R: Threads + Wait + Clock + Sync>(
     Ok(())
 }
 
-/// 40 threads that count.
+/// A program of 40 threads that count.
 const COUNTING: Row = Row {
     shows: "threads that count keep the rules",
     expr: "(sweep add 1 (num 0) (num 40) (fold (num 0) (num 30) (num 0) (var 1)))",
@@ -199,7 +200,7 @@ fn threads_that_count_keep_the_rules(rt: HostRuntime) -> Result<(), Fail> {
     are_lawful(&rt, rt.alloc(), COUNT)
 }
 
-/// 24 threads hold a lock in turn, and add to a ledger while they do.
+/// 24 threads, each of which holds a lock and adds to a ledger (counter) while it does.
 const HOLDING: Row = Row {
     shows: "threads that hold a lock keep the rules",
     ledgers: 1,
@@ -257,8 +258,8 @@ fn threads_that_hold_a_lock_keep_the_rules(rt: HostRuntime) -> Result<(), Fail> 
     are_lawful(&rt, rt.alloc(), HOLD)
 }
 
-/// The root's second fork is exclusive. The exclusive child counts, forks and counts, beside 20 threads that hold a
-/// lock.
+/// A root thread whose second fork is exclusive: its child has a core to itself. The child counts, forks and counts
+/// again, beside 20 threads that hold a lock.
 const EXCLUSIVE: Row = Row {
     shows: "a thread that has its core alone, and the others, keep the rules",
     locks: 1,
@@ -293,7 +294,7 @@ fn a_thread_alone_keeps_the_rules(rt: HostRuntime) -> Result<(), Fail> {
     are_lawful(&rt, rt.alloc(), HAVE_A_CORE)
 }
 
-/// A thread of 1,004 steps on one core of two.
+/// A program of one thread of 1,004 steps, on a machine of two cores.
 const CHARGED: Judged = Judged {
     row: Row {
         shows: "each step is charged to a slice",

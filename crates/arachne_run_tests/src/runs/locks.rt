@@ -1,4 +1,4 @@
-//! Tests of which threads of a run hold a lock, and in which order.
+//! Tests of which threads of a run hold a lock, and in which order they do.
 use super::facts::Fact::{Events, Grants, GrantsAreHolds, Value};
 use super::facts::Telling;
 use super::rows::{QUANTA, ROW, Row, rows_hold};
@@ -8,8 +8,8 @@ use arachne_sleep::LockEvent;
 use std::alloc::Global;
 use std::test::Fail;
 
-/// Returns the number of grants of the program's first lock. If `tag` is given, counts only the grants to the thread of
-/// that tag.
+/// Returns how often the program's first lock was granted. If `tag` is given, counts only the grants to the thread with
+/// that tag (number in the run).
 pub(super) fn grants(report: &Report, tag: Option<u64>) -> u64 {
     let mut count = 0u64;
     let Some(history) = report.histories.first() else {
@@ -24,7 +24,8 @@ pub(super) fn grants(report: &Report, tag: Option<u64>) -> u64 {
     count
 }
 
-/// Returns whether the first lock was granted once to each thread that has held it once, and to no other thread.
+/// Returns whether the first lock was granted once to each thread whose line in the report says that it held the lock
+/// once, and to no other thread.
 pub(super) fn grants_are_holds(report: &Report) -> bool {
     let mut counted = 0u64;
     for line in report.threads.iter() {
@@ -72,7 +73,7 @@ const NEXT: Row = Row {
 };
 
 const ROWS: &[Row] = &[
-    // Eight threads hold the lock once each.
+    // Each of eight threads holds the lock once.
     Row {
         shows: "each hold is asked for and granted and freed",
         ledgers: 1,
@@ -82,7 +83,7 @@ const ROWS: &[Row] = &[
         facts: &[(Events, 24), (Grants, 8), (GrantsAreHolds, 1)],
         ..ROW
     },
-    // The innermost of 61 threads runs in its parent's place, and holds the lock under its own tag.
+    // The innermost of 61 threads runs inside its parent's slot, and holds the lock under its own tag (number).
     Row {
         shows: "a thread in place holds by its own tag",
         locks: 1,
@@ -98,7 +99,7 @@ const ROWS: &[Row] = &[
         machines: (&[1, 2], &[10_000]),
         ..NEXT
     },
-    // Both threads hold both locks once. The child begins with lock 0, and the root with lock 1.
+    // Each of two threads holds both locks once. The child begins with lock 0, the root with lock 1.
     Row {
         shows: "each lock has its own history",
         locks: 2,

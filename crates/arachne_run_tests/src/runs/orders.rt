@@ -9,8 +9,8 @@ use crate::gates::Watching;
 use arachne_policy::OrderKind::{Grant, Release};
 use std::test::Fail;
 
-/// Core 1 is closed at first, and its kernel thread parks. Then core 1 is granted again, and gets a thread. If core 1
-/// did not run that thread, it would be moved away when core 1 is closed again.
+/// Core 1 is closed at first, and its kernel thread parks. Then core 1 is opened again, and gets a thread. If core 1
+/// did not run that thread, the thread would be moved away when core 1 is closed again.
 pub(super) const GRANTED: Row = Row {
     shows: "a grant has a kernel thread that is parked go on",
     expr: "(let (fold (num 0) (num 5) (num 0) (var 1)) (fork n (num 2) (fold (num 0) (num 60) (num 0) (var 2)) (add (var 1) (var 2))))",
@@ -22,8 +22,8 @@ pub(super) const GRANTED: Row = Row {
     ..ROW
 };
 
-/// The root awaits its child on core 1 while core 0's kernel thread sleeps, so that the root continues on core 1 and
-/// core 0 is empty. A slice of core 1 waits until the order, which is due at that time, is applied.
+/// The root waits for its child on core 1 while core 0's kernel thread sleeps, so the root continues on core 1 and core
+/// 0 is empty. A slice of core 1 waits until the order that is due at that time is carried out.
 const IDLE: Row = Row {
     shows: "orders are applied while core 0 has nothing to run",
     expr: "(let (fork n (fold (num 0) (num 20000) (num 0) (var 1)) (num 2) (add (var 0) (var 1))) (fold (num 0) (num 20000) (var 0) (var 2)))",
@@ -155,7 +155,8 @@ const ROWS: &[Row] = &[
         ],
         ..COUNTED
     },
-    // Both choices of the fork are core 3, which is closed. Among the open cores both choices are core 0.
+    // Both random choices of the fork are core 3, which is closed. If only open cores are counted, both choices are
+    // core 0.
     Row {
         shows: "a closed core gets no thread",
         expr: FORK,
@@ -183,7 +184,7 @@ const ROWS: &[Row] = &[
         watching: Watching::Lead(20),
         ..DRAINED
     },
-    // A thread that has a core to itself stays there when the core is closed, and runs beside its parent.
+    // A thread that has a core to itself stays there when an order closes the core, and runs beside its parent.
     Row {
         shows: "a thread that has a core alone stays",
         expr: ALONE,

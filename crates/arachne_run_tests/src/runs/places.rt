@@ -1,4 +1,4 @@
-//! Which threads get a place, which wait for one, and which run in their parents' places.
+//! Tests of which threads get a slot, which wait for one, and which run inside their parents' slots.
 use super::cores::EXCLUSIVE;
 use super::facts::Fact::{InPlace, InPlaceUpTo, IsOver, Slot, Spill, Threads, Value};
 use super::facts::Telling;
@@ -11,11 +11,11 @@ use std::test::Fail;
 /// 901 threads.
 pub(super) const MANY: &str = "(sweep add 1 (num 0) (num 901) (var 0))";
 
-/// Two threads that count to 5,000.
+/// Two threads, each of which counts to 5,000.
 pub(super) const BESIDE: &str =
     "(fork n (fold (num 0) (num 5000) (num 0) (var 1)) (fold (num 0) (num 5000) (num 0) (var 1)) (add (var 0) (var 1)))";
 
-/// Two threads that count to 50,000.
+/// Two threads, each of which counts to 50,000.
 pub(super) const BESIDE_LONG: &str =
     "(fork n (fold (num 0) (num 50000) (num 0) (var 1)) (fold (num 0) (num 50000) (num 0) (var 1)) (add (var 0) (var 1)))";
 
@@ -77,7 +77,7 @@ const ROWS: &[Row] = &[
         facts: &[(Value, 405_450), (Threads, 901)],
         ..ROW
     },
-    // For most threads the queue of waiting children is full.
+    // When most of the threads are forked, the queue of waiting children is full.
     Row {
         expr: MANY,
         forks: 0,
@@ -109,7 +109,7 @@ fn threads_get_places_as_they_come(rt: HostRuntime) -> Result<(), Fail> {
 }
 
 /// A chain of 31 threads. The innermost has 9 children that end soon, and then 24 children that live at the same time.
-/// At most 55 of a core's 56 places are taken.
+/// At most 55 of a core's 56 slots are taken.
 const NEVER_FULL: Row = Row {
     shows: "no place is kept on a core that was never full",
     forks: 30,
@@ -172,9 +172,9 @@ const MEETING: Row = Row {
 /// A chain of four threads, of which the innermost counts. Meanwhile the root counts, forks a thread, counts again, and
 /// forks one more. Core 0 draws core 1, and core 1 draws core 0.
 ///
-/// The root and two of the four threads fill core 0, and the two others wait on core 1. A thread that the root forks
-/// meanwhile ends on core 1, so that core 1's worker keeps the thread's place and has nothing to run. A call that finds
-/// core 1 full waits in this table until a place is free, and no thread is moved.
+/// The root and two of its four threads fill core 0, and the two others wait on core 1. A thread that the root forks
+/// meanwhile ends on core 1, so that core 1's worker keeps the thread's slot and has nothing to run. In this table a
+/// call that finds core 1 full waits until a slot is free, and no thread is moved.
 const GIVEN_BACK: Row = Row {
     shows: "a kernel thread that sleeps keeps no place",
     expr: "(fork n (fork n (fork n (fork n (fold (num 0) (num 10000) (num 0) (var 1)) (num 1) (var 0)) (num 1) (var 0)) (num 1) (var 0)) (let (fold (num 0) (num 3000) (num 0) (var 1)) (fork n (num 1) (let (fold (num 0) (num 3000) (num 0) (var 2)) (fork n (num 1) (num 1) (num 0))) (num 0))) (var 0))",
@@ -206,7 +206,7 @@ fn threads_run_side_by_side(rt: HostRuntime) -> Result<(), Fail> {
     rows_hold(&rt, rt.alloc(), AT_ONCE)
 }
 
-/// A normal thread ends, and then an exclusive thread begins.
+/// After a normal thread has ended, an exclusive thread, which wants a core for itself, begins.
 const THEN_ALONE: Row = Row {
     shows: "a thread that is to be alone gets a core that is empty",
     expr: "(fork n (num 1) (num 2) (fork x (num 3) (num 4) (add (var 2) (var 3))))",

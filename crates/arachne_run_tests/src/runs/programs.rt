@@ -1,4 +1,4 @@
-//! Programs, and the report that every run of them must give.
+//! Programs for test cases, each with the report that a run must give on every machine.
 use super::facts::Telling::Threads;
 use super::rows::{ROW, Row, rows_hold};
 use crate::choosers::SPREAD;
@@ -7,7 +7,7 @@ use arachne_run::Report;
 use std::alloc::Global;
 use std::test::Fail;
 
-/// Returns the numbers of which a name consists.
+/// Returns the numbers of which a thread's name consists.
 fn numbers(alloc: Global, name: &Name) -> Result<Vec<u64>, Fail> {
     let mut numbers = Vec::new(alloc);
     for k in 0..name.len() {
@@ -16,7 +16,7 @@ fn numbers(alloc: Global, name: &Name) -> Result<Vec<u64>, Fail> {
     Ok(numbers)
 }
 
-/// Returns the value and the totals of a report, and the name and the holds of each thread.
+/// Returns a text of a report: the value, the totals, and each thread's name and how often it held each lock.
 pub(super) fn threads_of(alloc: Global, report: &Report) -> Result<String, Fail> {
     let mut text = format!(in alloc; "{} {:?}", report.value, report.totals.as_slice())?;
     for line in report.threads.iter() {
@@ -26,7 +26,7 @@ pub(super) fn threads_of(alloc: Global, report: &Report) -> Result<String, Fail>
     Ok(text)
 }
 
-/// A sweep of eight numbers by four threads.
+/// A sweep (a loop whose range is halved among threads) of eight numbers by four threads.
 pub(super) const SWEEP: Row = Row {
     expr: "(sweep add 2 (num 0) (num 8) (var 0))",
     draws: SPREAD,
@@ -80,7 +80,8 @@ const ROWS: &[Row] = &[
     },
 ];
 
-/// A program means the same on every form of table, for every number of cores and every quantum.
+/// Tests that a program has the same report over every type of table, for every number of cores and every quantum
+/// (steps per slice).
 #[test]
 fn every_machine_tells_the_same(rt: HostRuntime) -> Result<(), Fail> {
     rows_hold(&rt, rt.alloc(), ROWS)

@@ -1,5 +1,5 @@
-//! Memory that is refused to the job of a child that waits: the child stays in its cell until there is enough memory
-//! for its job.
+//! Tests of a child that waits for a slot and whose job is refused memory. The child stays in its cell until there is
+//! enough memory for its job.
 ghost use Rattle.arachne_lang.specs.Checked.{IsChecked};
 ghost use Rattle.arachne_lang.specs.Program.{source_of};
 
@@ -11,21 +11,22 @@ use arachne_shortage::Hoard;
 use std::alloc::Global;
 use std::test::Fail;
 
-/// One fork.
+/// A root thread that makes one fork.
 const FORK: Row = Row {
     expr: "(fork n (num 2) (num 3) (sub (var 0) (var 1)))",
     ..ROW
 };
 
-/// More steps and slices than a thread of the fork needs.
+/// A number of steps, and of slices, that is greater than each of the two threads needs.
 const STEPS: u32 = 100;
 
 const SLICES: usize = 10;
 
-/// The numbers of bytes that are left for the child's job. The first number is too few, and the last is enough.
+/// The numbers of bytes of free memory with which the test tries to create the child's job. The first is too small, and
+/// the last is enough.
 const LEFT: &[usize] = &[0, 40, 80, 120, 160, 200, 240, 320, 400, 800, 1_600, 100_000];
 
-/// The data that a worker needs for the two threads of a fork.
+/// The data of a worker that the test needs to run slices of a thread and its child.
 #[derive(Drop)]
 struct Means<'p> {
     room: Room,
@@ -34,7 +35,7 @@ struct Means<'p> {
 }
 
 impl<'p> Means<'p> {
-    /// Runs a thread until it ends. Returns whether the thread ends: nobody else runs a child that the thread awaits.
+    /// Runs a thread until it ends. Returns false if the thread waits for a child, since nobody else runs that child.
     fn ends(&mut self, job: &mut Job<'p>) -> bool {
         for _ in 0..SLICES {
             let mut left = STEPS;
@@ -47,7 +48,8 @@ impl<'p> Means<'p> {
         false
     }
 
-    /// Runs the root until it forks, and has its child wait. Returns the child's ticket.
+    /// Runs the root until it has forked a child, and then makes the child wait for a slot. Returns the child's ticket
+    /// (its entry for the queue).
     fn ticket_of(&mut self, alloc: Global, root: &mut Job<'p>) -> Option<Ticket<'p>> {
         let me = ThreadId {
             context: 0,
@@ -61,8 +63,8 @@ impl<'p> Means<'p> {
     }
 }
 
-/// Has the root's child wait, and makes the child's job with `bytes` bytes of memory. Returns whether the memory for
-/// the job was refused, if both threads end.
+/// Runs the root until its child waits for a slot, and then tries to create the child's job with only `bytes` bytes of
+/// free memory. Returns whether memory for the job was refused, if both threads end after that.
 fn is_refused(alloc: Global, program: &Program, bytes: usize) -> Option<bool>
     requires { IsChecked (source_of program.now) }
 {

@@ -1,4 +1,4 @@
-//! Rows of runs: a program, its machines, and the result that each run must have.
+//! Test cases: a program, the machines on which it runs, and the result that each run must have.
 ghost use Rattle.std.specs.Prelude.{IfOk};
 ghost use Rattle.arachne_lang.specs.Checked.{IsChecked};
 ghost use Rattle.arachne_lang.specs.Program.{source_of};
@@ -26,10 +26,11 @@ pub(super) const LOCKED: &[Form] = &[Form::Locked];
 /// The form of table of a run, and the numbers of cores and of steps per slice (the quantum).
 pub(super) type Machine = (Form, u64, u64);
 
-/// A program that is run over each of the forms on each of the machines.
+/// A test case: a program, which is run over each of its types of table on each of its machines, and the expected
+/// result.
 #[derive(Clone, Copy)]
 pub(super) struct Row {
-    /// The rule that the row shows, for messages of failed tests.
+    /// The property that the test case shows, for the message if the test fails.
     pub(super) shows: &'static str,
     pub(super) ledgers: u8,
     pub(super) locks: u8,
@@ -39,7 +40,7 @@ pub(super) struct Row {
     pub(super) forms: &'static [Form],
     /// The numbers of cores and the quanta of the machines, one for each pair of these.
     pub(super) machines: (&'static [u64], &'static [u64]),
-    /// The number of places per core.
+    /// The number of slots of each core.
     pub(super) slots: u8,
     pub(super) draws: Draws,
     /// The orders to open or close cores, each with the number of slices after which it is due, and its core.
@@ -50,7 +51,7 @@ pub(super) struct Row {
     /// each core but 0 in turn.
     pub(super) in_turn: u64,
     pub(super) watching: Watching,
-    /// The facts that a report must show.
+    /// The facts that the run's report must show, each with its value.
     pub(super) facts: &'static [(Fact, u64)],
     /// The kind of text that is made of a report, and that text; or the text of the fault, if there is no report.
     pub(super) told: (Telling, &'static str),
@@ -145,7 +146,7 @@ fn setup_of(
     Ok((setup, choosers))
 }
 
-/// Runs a row's program once. All tests run their programs here.
+/// Runs a test case's program once. All tests in this folder run their programs by this function.
 pub(super) fn run_row<R: Threads + Wait + Clock + Sync>(
     rt: &R,
     alloc: Global,
@@ -164,7 +165,7 @@ pub(super) fn run_row<R: Threads + Wait + Clock + Sync>(
     }
 }
 
-/// Returns the first of a row's facts that is wrong, by its number from 0, and its value.
+/// Returns the index of the first fact of a test case that is wrong, and the value that the run has instead.
 pub(super) fn wrong_fact(row: &Row, report: &Report, watch: &Watch) -> Option<(usize, u64)> {
     for (nth, &(fact, expected)) in row.facts.iter().enumerate() {
         let found = number(report, watch, fact);
@@ -175,10 +176,9 @@ pub(super) fn wrong_fact(row: &Row, report: &Report, watch: &Watch) -> Option<(u
     None
 }
 
-/// Checks the text of a run against the row's text, and all facts of the row.
+/// Checks that the text of a run is the test case's text, and that the run has all facts of the test case.
 ///
-/// If there is no report, checks that all events for which a core waited have happened, and that no slice begins any
-/// more.
+/// If there is no report, checks that all events for which a core waited have occurred, and that no more slices begin.
 pub(super) fn judge(
     alloc: Global,
     row: &Row,

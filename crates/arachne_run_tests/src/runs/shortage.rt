@@ -1,5 +1,5 @@
-//! Runs in a process whose memory is used up, each with a little more memory than the previous one. Every run ends with
-//! the fault that memory was refused, until a run has a report.
+//! Tests of runs in a process whose memory is used up. Each run has a little more memory than the one before, and ends
+//! with the fault that memory was refused, until one run has a report.
 ghost use Rattle.arachne_lang.specs.Checked.{IsChecked};
 ghost use Rattle.arachne_lang.specs.Program.{source_of};
 
@@ -20,18 +20,20 @@ use std::test::Fail;
 use std::thread::Threads;
 use std::time::Clock;
 
-/// The maximum number of runs of a row on one core. The last of these runs has a report.
+/// The greatest number of runs of a test case on one core. The last of them has a report.
 const RUNS: u64 = 2_000;
 
-/// The maximum number of runs of a row on several cores. No run need have a report: once all memory was used up, the C
-/// library gives no memory to a kernel thread that has just begun, whatever was given back.
+/// The greatest number of runs of a test case on several cores.
+///
+/// No run needs to have a report: after all memory was used up, the C library gives no memory to a new kernel thread,
+/// even if memory was freed again.
 const RUNS_ON_CORES: u64 = 200;
 
-/// The number of bytes that each run has more than the previous one.
+/// The number of bytes by which each run has more memory than the run before.
 const BYTES: usize = 400;
 
-/// The number of times that a run on one core is repeated with just enough memory for a report, and `SLACK` bytes more.
-/// If each run left memory behind, the last ones would have none.
+/// The number of times that the test repeats a run on one core with just enough memory for a report, and `SLACK` bytes
+/// more. If each run left memory behind, the last ones would have none.
 const REPEATED: usize = 2_000;
 
 const SLACK: usize = 200_000;
@@ -45,7 +47,7 @@ const FORK: Row = Row {
     ..ROW
 };
 
-/// Eight threads that hold a lock and add to a ledger.
+/// Eight threads, each of which holds a lock and adds to a ledger (counter).
 const HOLDS: Row = Row {
     ledgers: 1,
     locks: 1,
@@ -108,10 +110,10 @@ const ON_ONE: &[Row] = &[
     },
 ];
 
-/// The outcome of a run: its fault, or whether its report shows the row's facts.
+/// The result of a run: its fault, or whether its report shows the test case's facts.
 type Tried = Result<bool, RunFault>;
 
-/// The run has a report that shows the row's facts.
+/// The result of a run that has a report with the test case's facts.
 const WELL: Tried = Ok(true);
 
 /// Runs a row's program once, and makes no text.
@@ -129,7 +131,8 @@ fn tried<R: Threads + Wait + Clock + Sync>(
     Ok(wrong_fact(row, &report, &watch).is_none())
 }
 
-/// Returns whether memory was refused. On several cores memory may have been refused to a new kernel thread.
+/// Returns whether a run has ended because memory was refused. On several cores, it may have been refused to a new
+/// kernel thread.
 fn is_want(tried: Tried, cores: u64) -> bool {
     match tried {
         Err(RunFault::Worker(WorkerFault::Memory)) => true,
@@ -138,10 +141,10 @@ fn is_want(tried: Tried, cores: u64) -> bool {
     }
 }
 
-/// Runs a row's program with no memory, and then with `BYTES` bytes more each time.
+/// Runs a test case's program first with no memory, and then with `BYTES` bytes more each time.
 ///
-/// Stops if the outcome is `last`, or anything but a lack of memory. Returns the number of runs before the last run,
-/// and the outcome of the last run.
+/// Stops when the result is `last`, or anything but a lack of memory. Returns the number of runs before the last run,
+/// and the result of the last run.
 fn refused<R: Threads + Wait + Clock + Sync>(
     rt: &R,
     alloc: Global,
@@ -166,7 +169,7 @@ fn refused<R: Threads + Wait + Clock + Sync>(
     (most, came)
 }
 
-/// Returns whether a row's program has its report `times` times.
+/// Runs a test case's program `times` times.
 fn goes_well<R: Threads + Wait + Clock + Sync>(
     rt: &R,
     alloc: Global,
@@ -185,7 +188,8 @@ fn goes_well<R: Threads + Wait + Clock + Sync>(
     true
 }
 
-/// Runs a row's program with all memory, with memory used up until the outcome is `last`, and with all memory again.
+/// Runs a test case's program with all memory, then with memory used up until the result is `last`, and then with all
+/// memory again.
 ///
 /// If `last` is a fault, the first part is left out, so that the first run of the process has no memory. On one core
 /// the program must have its report again and again once there is memory for it.
@@ -244,7 +248,7 @@ fn each_growth_is_refused_behind_a_lock(rt: HostRuntime) -> Result<(), Fail> {
     rows_end(&rt, rt.alloc(), ON_ONE, Form::Locked)
 }
 
-/// The first run of the process has no memory for the stack of a kernel thread, and the next one has.
+/// In the first run of the process, memory for the stack of a kernel thread is refused; in the next run it is not.
 #[test]
 fn kernel_threads_are_refused(rt: HostRuntime) -> Result<(), Fail> {
     let last = Err(RunFault::Worker(WorkerFault::KernelThread));

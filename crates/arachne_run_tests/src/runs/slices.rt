@@ -9,8 +9,7 @@ use crate::gates::Watching;
 use arachne_policy::OrderKind::{Grant, Release};
 use std::test::Fail;
 
-/// Core 1's first slice does not end before core 0 has entered slice 400. When core 1's first slice ends, 400 slices
-/// have ended.
+/// Core 1's first slice doesn't end before core 0 has entered its slice 400. So when it ends, 400 slices have ended.
 const HELD_BACK: Row = Row {
     shows: "a slice counts once it has ended",
     expr: BESIDE,
@@ -65,7 +64,7 @@ fn a_slice_counts_once_it_has_ended(rt: HostRuntime) -> Result<(), Fail> {
     rows_hold(&rt, rt.alloc(), ENDS)
 }
 
-/// One thread of about 29,000 steps.
+/// A program of one thread of about 29,000 steps.
 const WHOLE: Row = Row {
     shows: "a slice of a thread that goes on has its whole quantum",
     expr: "(fold (num 0) (num 29000) (num 0) (var 1))",
@@ -75,8 +74,10 @@ const WHOLE: Row = Row {
     ..ROW
 };
 
-/// Core 3 is closed, so that its kernel thread parks. Two threads are on core 1, and an exclusive thread is on core 2.
-/// The table hands the exclusive thread back when it ends, which stops the run during core 1's first slice.
+/// Core 3 is closed, so that its kernel thread parks. Two threads are on core 1, and another thread has core 2 for
+/// itself.
+///
+/// When the thread on core 2 ends, the table returns it as an error, which stops the run during core 1's first slice.
 const STOPPED: Row = Row {
     shows: "no slice begins once the run is stopped",
     expr: "(fork n (fold (num 0) (num 50000) (num 0) (var 1)) (fork n (fold (num 0) (num 50000) (num 0) (var 1)) (fork x (num 1) (num 2) (num 3)) (num 4)) (num 5))",
@@ -97,13 +98,13 @@ const ROWS: &[Row] = &[
         ..WHOLE
     },
     STOPPED,
-    // One thread on core 1, which would continue at once.
+    // The only thread of core 1 would get its next slice at once.
     Row {
         expr: "(fork n (fold (num 0) (num 50000) (num 0) (var 1)) (fork x (num 1) (num 2) (num 3)) (num 4))",
         ..STOPPED
     },
-    // The first thread on core 1 holds the lock for which the second waits. The first thread frees the lock in core 1's
-    // fifth slice, and goes on counting.
+    // The first thread on core 1 holds the lock for which the second waits. It frees the lock in core 1's fifth slice,
+    // and then continues to count.
     Row {
         locks: 1,
         expr: "(fork n (let (hold 0 (fold (num 0) (num 25000) (num 0) (var 1))) (fold (num 0) (num 50000) (num 0) (var 2))) (fork n (hold 0 (num 1)) (fork x (num 1) (num 2) (num 3)) (num 4)) (num 5))",

@@ -1,4 +1,4 @@
-//! Tests that a run puts its threads into the table that it was given, and ends with the fault that the table met.
+//! Tests that a run puts its threads into the given table, and ends with the fault that the table reports.
 use super::Form;
 use super::cores::FORK;
 use super::facts::Fact::{Cores, Value};
@@ -30,7 +30,8 @@ const REFUSED: Row = Row {
 
 const ROWS: &[Row] = &[
     HANDED_BACK,
-    // If a seat still has a place or a thread at the end, the fault is `Token`, and not that memory was refused.
+    // If a seat (right to use the table) still holds a slot or a thread at the end, the fault is `Token`, even if
+    // memory was refused too.
     Row {
         machines: (&[8], QUANTA),
         ..HANDED_BACK
@@ -43,7 +44,7 @@ const ROWS: &[Row] = &[
         machines: (&[1], QUANTA),
         ..HANDED_BACK
     },
-    // If all other cores say that they are full, core 0 runs every thread.
+    // The table says that all other cores are full, so core 0 runs every thread.
     Row {
         shows: "full cores run nothing",
         expr: FORK,

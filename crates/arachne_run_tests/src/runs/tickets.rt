@@ -1,4 +1,4 @@
-//! Tests of children that wait for a place, and of the workers that find a place for them.
+//! Tests of children that wait for a slot, and of the workers that find a slot for them.
 use super::facts::Fact::{IsOver, Value};
 use super::facts::Telling;
 use super::rows::{LOCKED, QUANTA, ROW, Row, rows_hold};
@@ -6,8 +6,10 @@ use crate::choosers::CORE_ONE;
 use crate::gates::Watching;
 use std::test::Fail;
 
-/// The root's first child has core 1's only place, and the second child waits for that place. Core 1 waits in its first
-/// slice until the root has forked both children, and then the root waits until core 1 runs the second child.
+/// The root's first child has core 1's only slot, and the second child waits for that slot.
+///
+/// Core 1 waits in its first slice until the root has forked both children, and then the root waits until core 1 runs
+/// the second child.
 const WAITS: Row = Row {
     shows: "a thread that waits gets a place of another core",
     expr: "(fork n (num 1) (fork n (fold (num 0) (num 50000) (num 0) (var 1)) (fold (num 0) (num 50000) (num 0) (var 1)) (add (var 0) (var 1))) (add (var 0) (var 1)))",
@@ -20,8 +22,8 @@ const WAITS: Row = Row {
     ..ROW
 };
 
-/// The root has four children for the remaining places of its core, and a fifth child that waits for a place. On cores
-/// of five places the table answers two of every three claims with `Lost`.
+/// The root has four children in the other slots of its core, and a fifth child that waits for a slot. On cores of five
+/// slots, the table answers two of every three claims with `Lost`.
 const LOST: Row = Row {
     shows: "a claim that is lost is tried again",
     expr: "(fork n (fold (num 0) (num 1000) (num 1) (var 1)) (fork n (fold (num 0) (num 1000) (num 1) (var 1)) (fork n (fold (num 0) (num 1000) (num 1) (var 1)) (fork n (fold (num 0) (num 1000) (num 1) (var 1)) (fork n (fold (num 0) (num 1000) (num 1) (var 1)) (fold (num 0) (num 50000) (num 0) (var 1)) (add (var 0) (var 1))) (add (var 0) (var 1))) (add (var 0) (var 1))) (add (var 0) (var 1))) (add (var 0) (var 1)))",

@@ -1,4 +1,5 @@
-//! Workers that wait, on a machine whose yields give a turn to other work. Counts are checked, not times.
+//! Tests of workers that wait, on a machine in which a yield lets other processes run. The tests check counts, not
+//! times.
 use super::facts::Fact::{Applied, Grants, IsOver, OversleepsUpTo, Slot, Value};
 use super::rows::{ROW, Row, rows_hold};
 use crate::choosers::{CORE_ONE, SPREAD};
@@ -7,7 +8,7 @@ use crate::gates::Watching;
 use arachne_policy::OrderKind::Release;
 use std::test::Fail;
 
-/// A thousand threads hold a lock, once each.
+/// A thousand threads, each of which holds a lock once.
 const HELD: &[Row] = &[Row {
     shows: "who yields in vain yields no more",
     locks: 1,
@@ -18,11 +19,11 @@ const HELD: &[Row] = &[Row {
     ..ROW
 }];
 
-/// Checks that a worker yields no more after a yield that has gained nothing.
+/// Tests that a worker stops yielding after a yield that was of no use.
 ///
-/// After a yield a worker does not yield again in its next 4,096 rounds that find something to do, and a run of a
-/// thousand holds has fewer such rounds. So each of the four workers may yield once in each of the two runs, and looks
-/// twice at the clock. The clock can be read at each look, at no look, or at every other look.
+/// After such a yield, a worker doesn't yield in its next 4,096 rounds (passes of its loop) that find something to do,
+/// and a run of a thousand holds of a lock has fewer such rounds. So each of the four workers may yield once in each of
+/// the two runs, and reads the clock twice. The clock can be read at each attempt, at none, or at every other one.
 #[test]
 fn who_yields_in_vain_yields_no_more(rt: HostRuntime) -> Result<(), Fail> {
     for fails in 0..3 {

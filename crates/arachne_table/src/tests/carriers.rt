@@ -1,4 +1,4 @@
-//! Four seats of a table behind a lock, none of which may spend a claim of another.
+//! Tests with four seats (rights to use a table), none of which may use a claim that another has made.
 ghost use Rattle.std.specs.Prelude.{◌<◌, IfSome, [], ◌∷◌};
 ghost use Rattle.arachne_contexts.specs.Out.{Claim as a_claim};
 ghost use Rattle.arachne_locked.specs.Seats.{HasCounted};
@@ -11,7 +11,7 @@ use std::test::Fail;
 
 type Locked = LockedContexts<TagOnly>;
 
-/// Claims a place on core 0.
+/// Claims a slot on core 0, and returns the claim, if a slot is free.
 fn claimed<C: Contexts<TagOnly>, R: Wait>(rt: &R, table: &C, seat: &mut C::Seat) -> Option<C::Claim>
     requires seat { C.sits table.now seat.old × C.idle table.now seat.old }
     requires core { 0 < C.core_count table.now }
@@ -23,7 +23,8 @@ fn claimed<C: Contexts<TagOnly>, R: Wait>(rt: &R, table: &C, seat: &mut C::Seat)
     }
 }
 
-/// Returns `claim` if a seat that has a claim of its own can't give back `claim`, which another seat has claimed.
+/// Tries to give back `claim`, which another seat has made, by a seat that has a claim of its own. Returns `claim` if
+/// the table refuses that.
 fn refused<R: Wait>(
     rt: &R,
     table: &Locked,
@@ -55,7 +56,8 @@ fn parted<R: Wait>(rt: &R, table: &Locked, seat: LockedSeat, pair: u8) -> (Locke
     }
 }
 
-/// Returns whether the table refuses a claim if one of two seats, each with a claim, gives back the claim of the other.
+/// Claims a slot by each of two seats, and tries to give back the claim of one by the other. Returns whether the table
+/// refuses that.
 fn is_refused<R: Wait>(rt: &R, alloc: Global, pair: u8) -> Result<bool, Fail> {
     let (table, seat) = Locked::new(alloc, 1, 2, 0)?;
     let (mut one, mut other) = parted(rt, &table, seat, pair);

@@ -1,4 +1,4 @@
-//! Two kernel threads that contend for the places of one table.
+//! A test in which two kernel threads contend for the slots of one table.
 ghost use Rattle.std.specs.Prelude.{◌≡◌, ◌<◌, ◌≤◌, IfSome};
 ghost use Rattle.arachne_words.specs.Seats.{HasNothingOut};
 
@@ -11,14 +11,14 @@ use std::test::Fail;
 use std::thread;
 use std::thread::Threads;
 
-/// The number of threads that each kernel thread puts into the table.
+/// The number of threads that each of the two kernel threads puts into the table.
 const THREADS: u64 = 10_000;
 
-/// The state of a kernel thread: its seat, its log, and the numbers of threads that it has put into the table and
-/// moved.
+/// The data of one kernel thread: its seat (its right to use the table), its log, and how many threads it has put into
+/// the table and moved.
 ///
-/// The log has twice the tag of each thread that the kernel thread has put into the table, and twice the tag plus 1 of
-/// each thread that it has ended.
+/// For each thread that the kernel thread has put into the table, the log has twice the thread's tag (its number); for
+/// each thread that it has ended, twice the tag plus 1.
 #[derive(Drop)]
 struct Work<S> {
     seat: S,
@@ -27,7 +27,7 @@ struct Work<S> {
     moved: u64,
 }
 
-/// The result of a run: the number of settled threads, and the number of moved threads.
+/// The result of a run: how many threads are settled, and how many were moved.
 ///
 /// A thread is settled if it was put into the table exactly once, and then either has ended or is left in the table,
 /// exactly once. If a thread is not settled, `settled` is `None`.
@@ -38,7 +38,8 @@ struct ContentionResult {
 }
 
 impl ContentionResult {
-    /// Returns whether each thread of both kernel threads is settled (put in once, and ended or left once).
+    /// Returns whether each thread of both kernel threads is settled: put in once, and then ended or left in the table
+    /// once.
     fn is_settled(&self) -> bool {
         self.settled == Some(2 * THREADS as usize)
     }
@@ -48,7 +49,7 @@ type Words = WordContexts<TagOnly>;
 
 type WordWork = Work<WordSeat<TagOnly>>;
 
-/// Claims a place on a core, and puts a thread there if the claim succeeds. Returns `None` if memory or the claim is
+/// Claims a slot on a core, and puts a thread there if the claim succeeds. Returns `None` if memory or the claim is
 /// refused.
 fn post<C: Contexts<TagOnly>, R: Wait>(
     rt: &R,
@@ -73,12 +74,12 @@ fn post<C: Contexts<TagOnly>, R: Wait>(
     }
 }
 
-/// Returns the number by which the log records the end of this thread.
+/// Returns the number that the log has for the end of this thread: twice its tag plus 1.
 fn ended(job: &TagOnly) -> u64 {
     job.0.wrapping_mul(2).wrapping_add(1)
 }
 
-/// Takes the thread at a place, if it is ready, and ends it. Returns whether the thread was ended.
+/// Takes the thread in a slot, if it is ready, and ends it. Returns whether a thread was ended.
 fn end<C: Contexts<TagOnly>, R: Wait>(
     rt: &R,
     table: &C,
@@ -102,7 +103,7 @@ fn end<C: Contexts<TagOnly>, R: Wait>(
     }
 }
 
-/// Ends the threads that are ready on a core. Returns the number of these threads.
+/// Takes and ends each thread that is ready on a core. Returns the number of these threads.
 fn end_all<C: Contexts<TagOnly>, R: Wait>(
     rt: &R,
     table: &C,
@@ -123,11 +124,11 @@ fn end_all<C: Contexts<TagOnly>, R: Wait>(
     Some(ended)
 }
 
-/// The steps of a kernel thread in each round, on a table of `cores` cores.
+/// The calls that a kernel thread makes in each round, on a table of `cores` cores.
 ///
 /// The kernel thread puts one thread on the last core. If it moves threads, it then closes core 1, moves the threads of
-/// core 1 to core 0, and opens core 1 again. The kernel thread ends the threads that are ready on the cores from `from`
-/// on.
+/// core 1 to core 0, and opens core 1 again. After that it ends the threads that are ready on the cores from number
+/// `from` on.
 #[derive(Clone, Copy)]
 struct RoundPlan {
     cores: u8,
@@ -136,8 +137,8 @@ struct RoundPlan {
     first_tag: u64,
 }
 
-/// Closes core 1, moves the threads of core 1 that no seat has in hand to core 0, and opens core 1 again. Returns the
-/// number of moved threads.
+/// Closes core 1, moves those of its threads that no seat holds to core 0, and opens core 1 again. Returns the number
+/// of moved threads.
 fn move_away<C: Contexts<TagOnly>, R: Wait>(rt: &R, table: &C, work: &mut Work<C::Seat>) -> u64
     requires seat { C.sits table.now work.old.seat × C.idle table.now work.old.seat }
     requires cores { 1 < C.core_count table.now }
@@ -156,7 +157,8 @@ fn move_away<C: Contexts<TagOnly>, R: Wait>(rt: &R, table: &C, work: &mut Work<C
     moved
 }
 
-/// Makes rounds until the kernel thread has put all of its threads into the table. Returns `None` if memory is refused.
+/// Makes rounds of puts, moves and ends until the kernel thread has put all of its threads into the table. Returns
+/// `None` if memory is refused.
 fn all_rounds<C: Contexts<TagOnly>, R: Wait>(
     rt: &R,
     table: &C,
@@ -191,7 +193,7 @@ fn all_rounds<C: Contexts<TagOnly>, R: Wait>(
     unreachable!()
 }
 
-/// Runs two kernel threads, each with a seat of its own, and returns their states.
+/// Runs two kernel threads, each with its own seat (right to use the table), and returns their data afterwards.
 fn work_side_by_side<R: Threads + Wait + Sync>(
     rt: &R,
     table: &Words,
@@ -224,7 +226,7 @@ fn work_side_by_side<R: Threads + Wait + Sync>(
 
 /// Returns the number of settled threads (put in once, and ended or left once), or `None` if a thread is not settled.
 ///
-/// The logs of both kernel threads are joined, and the threads that are left are counted as ended.
+/// The function joins the logs of both kernel threads, and counts the threads that are left in the table as ended.
 fn settled(
     mut log: Vec<u64>,
     other: Vec<u64>,
@@ -241,7 +243,7 @@ fn settled(
     Ok(None)
 }
 
-/// Returns whether two neighbours of a sorted log say that one thread was put into the table and ended.
+/// Returns whether two adjacent entries of a sorted log show that one thread was put into the table and ended.
 fn is_pair(pair: &[u64]) -> bool {
     match pair {
         [posted, ended] => *posted % 2 == 0 && *ended == posted.wrapping_add(1),
@@ -249,7 +251,8 @@ fn is_pair(pair: &[u64]) -> bool {
     }
 }
 
-/// Joins the seats of both kernel threads, and closes the table. Returns the threads that are left.
+/// Joins the seats (rights to use the table) of both kernel threads, and closes the table. Returns the threads that are
+/// left in it.
 fn left(
     alloc: Global,
     table: Words,
@@ -266,7 +269,8 @@ fn left(
     table.close(alloc, seat).ok()
 }
 
-/// Runs two kernel threads on one table of `cores` cores, of which the second moves threads away if `moves` is true.
+/// Runs two kernel threads on one table of `cores` cores. If `moves` is true, the second of them moves threads away
+/// from core 1.
 fn contend<R: Threads + Wait + Sync>(
     rt: &R,
     alloc: Global,

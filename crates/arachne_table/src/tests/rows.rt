@@ -1,4 +1,4 @@
-//! The rows that each form of table must give: runs of steps, each with its answer.
+//! Test cases for both types of table: sequences of calls, each with its expected result.
 ghost use Rattle.std.specs.Prelude.{◌≡◌, List, IfOk, IfSome, [], ◌∷◌};
 ghost use Rattle.arachne_contexts.specs.Out.{Out, KeepsOut, Claim as a_claim, Thread as a_thread};
 
@@ -14,12 +14,12 @@ use std::alloc::Global;
 use std::sync::Wait;
 use std::test::Fail;
 
-/// Steps, each with its answer.
+/// A sequence of calls, each with its expected result.
 type Rows = &'static [(Step, Answer)];
 
 /// A run: the size of its table, the generation with which its contexts begin, its steps, and the threads that must be
-/// left at the end. Each such thread is given by its context, its generation and its tag; the list is `None` if the
-/// threads are not compared.
+/// left at the end. Each such thread is given by its context, its generation and its tag (number); the list is `None`
+/// if the threads are not compared.
 struct TableRun {
     cores: u8,
     slots: u8,
@@ -28,7 +28,7 @@ struct TableRun {
     left: Option<&'static [(u32, u64, u64)]>,
 }
 
-/// Fails if the answer is not the expected one.
+/// Fails if the result `shown` is not the expected one.
 fn same(expected: Answer, shown: Answer) -> Result<(), Fail> {
     let ((told, one, other), (word, first, second)) = (expected, shown);
     if told == word && one == first && other == second {
@@ -65,7 +65,7 @@ fn go_on<C: Contexts<TagOnly>, R: Wait>(
     Ok(rows.len())
 }
 
-/// Puts a thread at the claimed place, or gives the claim back. Returns the answer.
+/// Puts a thread into the claimed slot, or gives the claim back. Returns the table's answer.
 fn spend_claim<C: Contexts<TagOnly>, R: Wait>(
     rt: &R,
     table: &C,
@@ -145,7 +145,7 @@ fn with_claim<C: Contexts<TagOnly>, R: Wait>(
     Ok(next)
 }
 
-/// Ends the thread, or puts it back as blocked or as ready. Returns the answer.
+/// Ends the thread, or puts it back as blocked or as ready. Returns the table's answer.
 fn spend_thread<C: Contexts<TagOnly>, R: Wait>(
     rt: &R,
     table: &C,
@@ -247,7 +247,8 @@ fn follow<C: Contexts<TagOnly>, R: Wait>(
     Ok(())
 }
 
-/// Returns whether these threads are left, each with its context, its generation and its tag.
+/// Returns whether the threads in `left` are exactly those in `expected`, each given by its context, its generation and
+/// its tag (number).
 fn are_left(left: &[(ThreadId, TagOnly)], expected: &[(u32, u64, u64)]) -> bool {
     if left.len() != expected.len() {
         return false;
@@ -261,7 +262,8 @@ fn are_left(left: &[(ThreadId, TagOnly)], expected: &[(u32, u64, u64)]) -> bool 
     true
 }
 
-/// Splits the seat, joins both halves, and closes the table. Returns the threads that are left.
+/// Splits the seat (the right to use the table), joins both halves, and closes the table. Returns the threads that are
+/// left in it.
 pub(super) fn close<C: Contexts<TagOnly> + Drop, R: Wait>(
     rt: &R,
     alloc: Global,
@@ -281,7 +283,7 @@ pub(super) fn close<C: Contexts<TagOnly> + Drop, R: Wait>(
     table.close(rt, alloc, seat).ok()
 }
 
-/// Makes a new table, does the steps of `run` on it, and checks the answer of each.
+/// Runs a test case on a new table, and closes the table.
 fn take<C: Contexts<TagOnly> + Drop, R: Wait>(
     rt: &R,
     alloc: Global,
@@ -316,7 +318,7 @@ const RUN: TableRun = TableRun {
 };
 
 const RUNS: &[TableRun] = &[
-    // A core of three places is full with three threads.
+    // A core of three slots is full with three threads.
     TableRun {
         slots: 3,
         rows: &[
@@ -326,7 +328,7 @@ const RUNS: &[TableRun] = &[
         ],
         ..RUN
     },
-    // A claim takes the lowest free index.
+    // A claim takes the lowest free slot.
     TableRun {
         rows: &[
             (Claim(0), ("place", 0, 0)),
@@ -344,7 +346,7 @@ const RUNS: &[TableRun] = &[
         ],
         ..RUN
     },
-    // A place that is given back is free.
+    // A slot whose claim was given back is free.
     TableRun {
         rows: &[
             (Claim(0), ("place", 0, 0)),
@@ -389,7 +391,7 @@ const RUNS: &[TableRun] = &[
         ],
         ..RUN
     },
-    // A thread is woken while the seat has it in hand. When it has ended, it is gone.
+    // A thread is woken while the seat holds it. After the thread has ended, a call with its id finds no thread.
     TableRun {
         rows: &[
             (Post(0, 3), ("id", 0, 0)),
@@ -416,7 +418,7 @@ const RUNS: &[TableRun] = &[
         ],
         ..RUN
     },
-    // The last generation is spent.
+    // A context whose last generation is used up takes no more threads.
     TableRun {
         first_generation: LAST_GENERATION,
         rows: &[
@@ -432,8 +434,8 @@ const RUNS: &[TableRun] = &[
         ],
         ..RUN
     },
-    // A thread that the seat has in hand is not moved, nor is a thread that has its core exclusively. A thread is put
-    // back as ready.
+    // A thread that the seat holds is not moved, nor is a thread that has its core for itself. A thread is put back as
+    // ready.
     TableRun {
         cores: 2,
         rows: &[
@@ -453,7 +455,7 @@ const RUNS: &[TableRun] = &[
         ],
         ..RUN
     },
-    // A core is drained.
+    // A core is drained if it is closed and empty.
     TableRun {
         cores: 2,
         rows: &[
@@ -507,7 +509,7 @@ const RUNS: &[TableRun] = &[
         ],
         ..RUN
     },
-    // The threads that are left are returned in the order of their contexts.
+    // The closed table returns the threads that are left in the order of their contexts.
     TableRun {
         cores: 2,
         rows: &[
@@ -520,7 +522,7 @@ const RUNS: &[TableRun] = &[
         left: Some(&[(0, 0, 6), (57, 0, 7)]),
         ..RUN
     },
-    // An id whose context doesn't exist is gone.
+    // A thread whose context doesn't exist is reported as gone.
     TableRun {
         rows: &[(Wake(56, 0), ("gone", 0, 0))],
         ..RUN

@@ -1,5 +1,5 @@
-//! Tables of many sizes, which are filled to the last place and closed, and a core whose contexts have all had their
-//! last thread.
+//! Tests of tables of many sizes, which are filled to the last slot and closed, and of a core whose contexts have all
+//! had their last thread.
 ghost use Rattle.std.specs.Prelude.{◌≡◌, ◌<◌, ◌≤◌, IfOk, IfSome};
 
 use super::TagOnly;
@@ -13,7 +13,7 @@ use std::test::Fail;
 
 const CORE_COUNTS: &[u8] = &[1, 2, 3, 5, 8, 15, 16, 17, 20, 32, 40, 63, 64];
 
-/// The numbers of places of a core, each with the core's occupancy word when all places are occupied.
+/// Some numbers of slots of a core, each with the core's occupancy word when all slots are occupied.
 const SLOT_COUNTS: &[(u8, u64)] = &[
     (1, 0x0100000000000001),
     (2, 0x0200000000000003),
@@ -26,8 +26,8 @@ const SLOT_COUNTS: &[(u8, u64)] = &[
     (56, 0x38ffffffffffffff),
 ];
 
-/// Puts a thread at each place of a core. One more thread must be refused, with the core's occupancy word as the
-/// answer.
+/// Puts a thread into each slot of a core. Then tries to add one more, which the table must refuse with the core's
+/// occupancy word.
 fn fill_core<C: Contexts<TagOnly>, R: Wait>(
     rt: &R,
     table: &C,
@@ -48,7 +48,7 @@ fn fill_core<C: Contexts<TagOnly>, R: Wait>(
     }
 }
 
-/// Fills each core of a table, and closes the table. Returns the number of threads that were left.
+/// Fills each core of a table with threads, and closes the table. Returns the number of threads that were left in it.
 fn fill_table<C: Contexts<TagOnly> + Drop, R: Wait>(
     rt: &R,
     alloc: Global,
@@ -67,7 +67,7 @@ fn fill_table<C: Contexts<TagOnly> + Drop, R: Wait>(
     Ok(left.len())
 }
 
-/// Fills a table of each size.
+/// Fills one table of each size, and closes it.
 pub(super) fn fill_tables<C: Contexts<TagOnly> + Drop, R: Wait>(
     rt: &R,
     alloc: Global,
@@ -93,7 +93,7 @@ pub(super) fn make_tables<C: Contexts<TagOnly> + Drop>(alloc: Global) -> Result<
     Ok(())
 }
 
-/// Puts a thread on core 0, and ends it at index `index`.
+/// Puts a thread on core 0, and then takes and ends the thread in slot `index`.
 fn pass<C: Contexts<TagOnly>, R: Wait>(
     rt: &R,
     table: &C,
@@ -114,10 +114,11 @@ fn pass<C: Contexts<TagOnly>, R: Wait>(
     Some(())
 }
 
-/// Passes a thread through each context of one core, whose contexts begin at the last generation.
+/// Puts a thread into each context of one core and ends it. Each context begins at its last generation, so it can have
+/// only one thread.
 ///
-/// Returns the core's occupancy word before the core is closed, the occupancy word after that, and whether it is
-/// drained.
+/// Returns the core's occupancy word before the core is closed, the occupancy word after that, and whether the core is
+/// drained (closed and empty).
 pub(super) fn spend_core<C: Contexts<TagOnly> + Drop, R: Wait>(
     rt: &R,
     alloc: Global,

@@ -7,25 +7,26 @@ use crate::{Claimed, Contexts, Moved, Woken};
 use arachne_core::{Place, ThreadId};
 use std::sync::Wait;
 
-/// A step, with its core, its context or its place.
+/// A call on a table, with the core, the context or the slot that it concerns.
 #[derive(Clone, Copy)]
 pub(super) enum Step {
-    /// Counts the claims and threads that the seat has not spent.
+    /// Counts the seat's claims that were not used yet, and the threads that the seat holds.
     Out,
     Look(u8),
     Close(u8),
     Open(u8),
     Drained(u8),
     Mark(u32),
-    /// Wakes the thread of a context and a generation.
+    /// Wakes the thread with this context and generation.
     Wake(u32, u64),
-    /// Moves the thread at a core's index to another core.
+    /// Moves a thread to another core. Fields: the thread's core, the index of its slot there, and the other core.
     Move(u8, u8, u8),
-    /// Puts a thread with a tag on a core.
+    /// Puts a thread on a core. Fields: the core, and the thread's tag (number).
     Post(u8, u64),
-    /// Claims two places of a core, puts a thread at the second, and gives the first place back.
+    /// Claims two slots of a core, puts a thread into the second, and gives the first slot back. Fields: the core, and
+    /// the thread's tag (number).
     Second(u8, u64),
-    /// Puts a thread at each place of a core. Its answer is what the table answered to the last of these threads.
+    /// Puts a thread into each slot of this core. The result is that of the last of these threads.
     Fill(u8),
     /// Claims a place of a core. The claim is spent by the next `Back` or `Put`.
     Claim(u8),
@@ -52,11 +53,11 @@ impl Step {
     }
 }
 
-/// An answer: its name, and up to two numbers. The numbers are a word, a core and an index, or a context and a
+/// The result of a call: its name, and up to two numbers, for example a word, a core and an index, or a context and a
 /// generation.
 pub(super) type Answer = (&'static str, u64, u64);
 
-/// Returns a thread's id as an answer: its context and its generation.
+/// Returns a thread's id in the form of a call's result: its context and its generation.
 pub(super) fn told_id(id: ThreadId) -> Answer {
     ("id", u64::from(id.context), id.generation)
 }
@@ -81,15 +82,15 @@ fn told_move(answer: Moved) -> Answer {
     }
 }
 
-/// The number of cores of a table, and the number of places of each.
+/// The size of a table: its number of cores, and the number of slots of each core.
 #[derive(Clone, Copy)]
 pub(super) struct Size {
     pub(super) cores: u8,
     pub(super) slots: u8,
 }
 
-/// Makes a step at a core. Returns the step's answer, or `None` if the step is not one at a core, or if the core
-/// doesn't exist.
+/// Makes a call that concerns a core. Returns the result, or `None` if `step` concerns no core or the core doesn't
+/// exist.
 fn at_core<C: Contexts<TagOnly>, R: Wait>(
     rt: &R,
     table: &C,
@@ -116,8 +117,8 @@ fn at_core<C: Contexts<TagOnly>, R: Wait>(
     }
 }
 
-/// Makes a step at a context, with a thread's id, or at a core or two, or counts the claims and threads that the seat
-/// hasn't spent. Returns the step's answer.
+/// Makes a call with a thread's id, or with one or two cores, or counts the claims and threads that the seat has not
+/// used yet. Returns the call's result.
 fn at_context<C: Contexts<TagOnly>, R: Wait>(
     rt: &R,
     table: &C,
@@ -150,7 +151,7 @@ fn at_context<C: Contexts<TagOnly>, R: Wait>(
     }
 }
 
-/// Claims a place and puts a thread there. Returns the answer.
+/// Claims a slot and puts a thread there. Returns the result.
 fn post<C: Contexts<TagOnly>, R: Wait>(
     rt: &R,
     table: &C,
@@ -169,7 +170,7 @@ fn post<C: Contexts<TagOnly>, R: Wait>(
     Some(told_id(table.post(rt, seat, claim, TagOnly(tag)).ok()?))
 }
 
-/// Claims two places, puts a thread at the second, and gives the first place back. Returns the table's answer to the
+/// Claims two slots, puts a thread into the second, and gives the first slot back. Returns the table's answer about the
 /// thread.
 fn post_second<C: Contexts<TagOnly>, R: Wait>(
     rt: &R,
@@ -191,7 +192,7 @@ fn post_second<C: Contexts<TagOnly>, R: Wait>(
     Some(id)
 }
 
-/// Puts a thread at each place of a core. Returns the table's answer to the last of these threads.
+/// Puts a thread into each slot of a core. Returns the table's answer about the last of these threads.
 fn fill<C: Contexts<TagOnly>, R: Wait>(
     rt: &R,
     table: &C,
@@ -210,8 +211,8 @@ fn fill<C: Contexts<TagOnly>, R: Wait>(
     post(rt, table, seat, core, u64::from(slots))
 }
 
-/// Makes a step, and returns its answer. Returns `None` if a core or a context doesn't exist, or if no place was
-/// claimed.
+/// Makes the call `step`, and returns its result. Returns `None` if a core or a context doesn't exist, or if no slot
+/// was claimed.
 pub(super) fn answered<C: Contexts<TagOnly>, R: Wait>(
     rt: &R,
     table: &C,

@@ -1,4 +1,4 @@
-//! Runs all threads of a program: children are handed back to their parents, or run on their own and are joined.
+//! Runs all threads of a program: children run inside their parents' slots, or as threads of their own that are joined.
 ghost use Rattle.std.specs.Prelude.{◌≡◌, Some, false, IsTrue};
 ghost use Rattle.arachne_lang.specs.Program.{source_of};
 ghost use Rattle.arachne_machine.specs.declared.pause.Pending.TheVariants as pause;
@@ -11,19 +11,20 @@ use arachne_machine::{
 };
 use std::alloc::Global;
 
-/// The most attempts of a call, and the most calls.
+/// The greatest number of attempts of one call, and of calls in one run.
 const MOST: u64 = 100_000;
 
-/// The way in which a test runs children: in their parent's place from some time on, or as threads of their own.
+/// The way in which a test runs children: inside their parent's slot from some time on, or as threads of their own.
 #[derive(Clone, Copy, Debug, PartialEq, Eq)]
 pub(super) enum Way {
-    /// Children run in their parent's place: the test puts each there at its fork.
+    /// Each child runs inside its parent's slot, into which the test puts it when it is forked.
     AtFork,
-    /// Children run in the place of the thread that awaits them: the test puts each there at its join.
+    /// Each child runs inside the slot of the thread that awaits it, into which the test puts it when it is joined.
     AtJoin,
-    /// Each child runs on its own, and is joined once it has ended.
+    /// Each child runs as a thread of its own, and is joined after it has ended.
     Alone,
-    /// Like `Alone`, but only for exclusive children: others begin immediately in their parent's place.
+    /// Like `Alone`, but only for exclusive children (which want a core for themselves). Others begin inside their
+    /// parent's slot at once.
     AloneIfExclusive,
 }
 
@@ -63,7 +64,7 @@ impl Round {
         }
     }
 
-    /// Records a pause of the thread with this tag.
+    /// Records that the thread with this tag (number in the run) has paused, and why.
     fn hear(&mut self, pause: &Pause, tag: u64) {
         match pause {
             Pause::Budget => self.budgets = self.budgets.wrapping_add(1),
@@ -72,7 +73,7 @@ impl Round {
         }
     }
 
-    /// Returns the tag of the next child, and counts it up.
+    /// Returns the tag (number) for the next child, and increments it.
     fn next_tag(&mut self) -> u64 {
         let next = self.next;
         self.next = next.wrapping_add(1);
@@ -80,10 +81,10 @@ impl Round {
     }
 }
 
-/// The threads, children and outcomes of a run, with room for all.
+/// The threads, children and outcomes (results) of a run, in lists that have room for all of them.
 ///
-/// Each of `threads` but the last waits for a child, and the last runs. `children` were forked and have not begun.
-/// `outcomes` has the outcome that must be joined next.
+/// Each of `threads` but the last waits for a child, and the last runs. The threads in `children` were forked and have
+/// not begun. `outcomes` has the outcome that must be joined next.
 #[derive(Drop)]
 struct Family<'p> {
     threads: Vec<Thread<'p>>,
@@ -106,8 +107,8 @@ fn are_same(some: &Program, other: &Program) -> bool
     *some == *other
 }
 
-/// Puts a child in its parent's place, with the next tag. Tries once more if memory is refused. Returns true if the
-/// child is there then.
+/// Puts a child inside its parent's slot, with the next tag (number). Tries once more if memory is refused. Returns
+/// true if one of the attempts has succeeded.
 fn place<'p>(thread: &mut Thread<'p>, child: Thread<'p>, round: &mut Round) -> bool
     requires forks { pending_in thread.old ≡ Some pause.Forks }
     requires child { IsChildOf thread.old child }
@@ -127,8 +128,10 @@ fn place<'p>(thread: &mut Thread<'p>, child: Thread<'p>, round: &mut Round) -> b
     }
 }
 
-/// Runs a thread to its next pause. If the thread forks a child, puts the child in the thread's place immediately.
-/// Returns false if `round.budget` is 0, the thread has a pause without an answer, or the child can't be put there.
+/// Runs a thread to its next pause. If the thread forks a child, puts the child inside the thread's slot at once.
+///
+/// Returns false if `round.budget` is 0, if the thread is at a pause that was not answered, or if the child can't be
+/// put there.
 fn go_on_in_place(thread: &mut Thread, round: &mut Round) -> bool {
     if round.budget == 0 || thread.pending().is_some() {
         return false;
@@ -144,8 +147,10 @@ fn go_on_in_place(thread: &mut Thread, round: &mut Round) -> bool {
     }
 }
 
-/// Runs a thread to its next pause. If the thread forks a child, adds the child to `children`. Returns false if
-/// `round.budget` is 0, the thread has a pause without an answer, or there is no memory for the child.
+/// Runs a thread to its next pause. If the thread forks a child, adds the child to `children`.
+///
+/// Returns false if `round.budget` is 0, if the thread is at a pause that was not answered, or if there is no memory
+/// for the child.
 fn go_on_apart<'p>(
     alloc: Global,
     thread: &mut Thread<'p>,
@@ -167,7 +172,7 @@ fn go_on_apart<'p>(
     }
 }
 
-/// Replies to a pause in which no other thread has a part.
+/// Answers a pause that concerns no other thread, so that the thread can continue.
 fn answer(thread: &mut Thread) {
     match thread.pending() {
         Some(Pending::Asks(_)) => thread.granted(),
@@ -178,7 +183,7 @@ fn answer(thread: &mut Thread) {
     }
 }
 
-// At an error a value is dropped in a function of its own, and not at each exit.
+// If a call fails, a function of its own drops the value, instead of each exit.
 
 fn lose_thread(_thread: Thread) -> bool {
     false
@@ -188,10 +193,10 @@ fn lose_outcome(_outcome: Outcome) -> bool {
     false
 }
 
-/// Gives the newest child to the thread that awaits it. The child then runs in that thread's place. Returns false if
-/// the thread awaits no child, or there is no child that may run there.
+/// Puts the newest child inside the slot of the thread that awaits it, where the child then runs. Returns false if the
+/// thread awaits no child, or there is no child that may run there.
 ///
-/// If memory is refused, the child is put back among `children`.
+/// If memory is refused, puts the child back among `children`.
 fn begin<'p>(thread: &mut Thread<'p>, children: &mut Vec<Thread<'p>>, round: &mut Round) -> bool {
     let (Some(Pending::Joins), Some(child)) = (thread.pending(), children.pop()) else {
         return false;
@@ -209,10 +214,10 @@ fn begin<'p>(thread: &mut Thread<'p>, children: &mut Vec<Thread<'p>>, round: &mu
     }
 }
 
-/// Gives a child's outcome to the thread that awaits it. Returns false if the thread awaits no outcome, or the outcome
-/// is of another program.
+/// Gives the outcome (result) of a child to the thread that awaits it. Returns false if the thread awaits no outcome,
+/// or the outcome is of another program.
 ///
-/// If memory is refused, the outcome is put back among `outcomes`.
+/// If memory is refused, puts the outcome back among `outcomes`.
 fn join<'p>(
     thread: &mut Thread<'p>,
     outcome: Outcome<'p>,
@@ -235,8 +240,8 @@ fn join<'p>(
     }
 }
 
-/// Makes the newest child a thread of its own, instead of running it in its parent's place. Returns false if there is
-/// no child or memory is refused.
+/// Makes the newest child a thread of its own, instead of running it inside its parent's slot. Returns false if there
+/// is no child or memory is refused.
 fn begin_apart(family: &mut Family) -> bool {
     match family.children.pop() {
         Some(child) => family.threads.push(child).is_ok(),
@@ -244,8 +249,8 @@ fn begin_apart(family: &mut Family) -> bool {
     }
 }
 
-/// Starts the awaited child, on its own or in the place of the thread that awaits it, as `round.way` says. Returns
-/// false if there is no child, or it can't begin.
+/// Starts the child that is awaited, as a thread of its own or inside the slot of the thread that awaits it, as
+/// `round.way` says. Returns false if there is no child, or it can't begin.
 fn await_child(family: &mut Family, round: &mut Round) -> bool {
     if round.way == Way::Alone || round.way == Way::AloneIfExclusive {
         return begin_apart(family);
@@ -261,7 +266,8 @@ fn await_child(family: &mut Family, round: &mut Round) -> bool {
     }
 }
 
-/// Takes the outcome of the last thread. Returns false if the thread has not ended, or memory is refused.
+/// Takes the outcome (result) of the last thread of `family`. Returns false if the thread has not ended, or memory is
+/// refused.
 fn end(family: &mut Family) -> bool {
     let Some(thread) = family.threads.pop() else {
         return false;
@@ -272,7 +278,7 @@ fn end(family: &mut Family) -> bool {
     family.outcomes.push(thread.finish()).is_ok()
 }
 
-/// Makes one call on the last thread. Returns false if the call fails, so that the run can't go on.
+/// Makes one call on the last thread of `family`. Returns false if the call fails, so that the run can't continue.
 fn step(alloc: Global, family: &mut Family, round: &mut Round) -> bool {
     let Family {
         threads,
@@ -297,7 +303,7 @@ fn step(alloc: Global, family: &mut Family, round: &mut Round) -> bool {
     }
 }
 
-/// Starts the root thread of a program. If memory is refused, tries again with a little more memory each time.
+/// Starts the root thread of a program. While memory is refused, tries again with a little more memory each time.
 fn start<'p>(alloc: Global, program: &'p Program, round: &mut Round) -> Option<Thread<'p>> {
     for _ in 0..MOST {
         match Thread::start(alloc, program, 9) {
@@ -308,7 +314,8 @@ fn start<'p>(alloc: Global, program: &'p Program, round: &mut Round) -> Option<T
     None
 }
 
-/// Takes an outcome apart. If memory is refused, tries again with a little more memory each time.
+/// Takes an outcome (the result of a thread) apart. While memory is refused, tries again with a little more memory each
+/// time.
 fn parts(outcome: Outcome, round: &mut Round) -> Option<OutcomeParts> {
     let mut outcome = outcome;
     for _ in 0..MOST {
@@ -321,7 +328,8 @@ fn parts(outcome: Outcome, round: &mut Round) -> Option<OutcomeParts> {
     None
 }
 
-/// Makes calls until the root has ended, and returns the parts of its outcome.
+/// Makes calls on the threads of `family` until the root has ended. Returns the parts of the root's outcome (its
+/// result).
 fn run(alloc: Global, family: &mut Family, round: &mut Round) -> Option<OutcomeParts> {
     for _ in 0..MOST {
         round.memory.begin_call()?;
@@ -335,9 +343,9 @@ fn run(alloc: Global, family: &mut Family, round: &mut Round) -> Option<OutcomeP
     None
 }
 
-/// Runs a program, whose root has the tag 9, and returns the parts of its outcome.
+/// Runs a program, whose root has the tag (number) 9, and returns the parts of the root's outcome (its result).
 ///
-/// If `is_short`, there is no memory at the beginning of each call.
+/// If `is_short` is true, no memory is free when each call begins.
 pub(super) fn parts_of(
     alloc: Global,
     program: &Program,

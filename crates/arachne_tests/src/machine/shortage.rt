@@ -1,15 +1,17 @@
-//! The memory of a run: ample, or none at each call, which is then repeated with a little more memory each time.
+//! The memory of a test's run. It is ample, or none is free when a call begins, and the test repeats the call with a
+//! little more memory each time.
 use super::first_wrong;
 use arachne_shortage::Hoard;
 use std::alloc::Global;
 
-/// The bytes that are given back if a growth was refused: few, so that the next growth of the same call is refused too.
+/// The number of bytes that the test frees after the growth of a list was refused: so few that the next growth in the
+/// same call is refused too.
 const FEW: usize = 40;
 
-/// Bytes that are enough for any one growth.
+/// A number of bytes that is enough for any one growth of a list.
 const MANY: usize = 20_000;
 
-/// The memory of a run, with the number of refusals, and whether the last call was refused.
+/// The memory of a test's run: how often memory was refused, and whether it was in the last call.
 #[derive(Drop)]
 pub(super) struct Memory {
     hoard: Option<Hoard>,
@@ -18,7 +20,7 @@ pub(super) struct Memory {
 }
 
 impl Memory {
-    /// Returns memory that is ample.
+    /// Returns the memory of a test that has taken no memory from the process.
     pub(super) fn ample() -> Memory {
         Memory {
             hoard: None,
@@ -27,13 +29,14 @@ impl Memory {
         }
     }
 
-    /// Takes all memory that there is, until it is given back.
+    /// Takes all memory that the process can get, until the test frees it. Returns `None` if even that needs more
+    /// memory.
     pub(super) fn use_up(&mut self, alloc: Global) -> Option<()> {
         self.hoard = Some(Hoard::take(alloc).ok()?);
         Some(())
     }
 
-    /// Gives all memory back that the test has taken from the process.
+    /// Frees all memory that the test has taken from the process.
     pub(super) fn give_all_back(&mut self) {
         self.hoard = None;
     }
@@ -46,17 +49,17 @@ impl Memory {
         }
     }
 
-    /// Gives a little memory back, after a growth was refused.
+    /// Frees a little memory, after a list could not grow for lack of memory.
     pub(super) fn spare(&mut self) {
         self.give_back(FEW);
     }
 
-    /// Gives back enough for one growth, after a growth was refused.
+    /// Frees enough memory for one list to grow, after a list could not grow for lack of memory.
     pub(super) fn spare_much(&mut self) {
         self.give_back(MANY);
     }
 
-    /// Takes the memory that was given back, unless the last call was refused.
+    /// Takes again the memory that was freed, unless memory was refused in the last call.
     pub(super) fn begin_call(&mut self) -> Option<()> {
         if self.lately {
             self.lately = false;
@@ -65,7 +68,7 @@ impl Memory {
         self.take_again()
     }
 
-    /// Takes the memory that was given back.
+    /// Takes again the memory that was freed.
     pub(super) fn take_again(&mut self) -> Option<()> {
         if let Some(hoard) = &mut self.hoard {
             hoard.take_again().ok()?;
@@ -73,7 +76,7 @@ impl Memory {
         Some(())
     }
 
-    /// Returns the number of refused growths.
+    /// Returns how often a list could not grow for lack of memory.
     pub(super) fn refused(&self) -> u64 {
         self.refused
     }

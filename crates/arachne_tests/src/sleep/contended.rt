@@ -1,4 +1,4 @@
-//! Test of two kernel threads that contend for two locks.
+//! A test in which two kernel threads contend for two locks.
 //!
 //! Proofs show that the histories of locks are lawful. The test compares the histories with the grants that the threads
 //! saw.
@@ -11,24 +11,24 @@ use std::alloc::Global;
 use std::thread;
 use std::thread::Threads;
 
-/// The number of times that each thread holds each lock.
+/// The number of times that each kernel thread holds each lock.
 const ROUNDS: usize = 10_000;
 
-/// The most polls of a thread.
+/// The greatest number of polls that a thread makes.
 const MOST_POLLS: u64 = 100_000_000;
 
-/// Lets other kernel threads run. Returns `None` if there were too many polls.
+/// Lets other kernel threads run, and counts a poll. Returns `None` if the thread has made too many polls.
 fn poll(polls_left: &mut u64) -> Option<()> {
     *polls_left = polls_left.checked_sub(1)?;
     thread::yield_now();
     Some(())
 }
 
-/// The indexes of a thread's grants in the histories of the first lock and of the second, in turn.
+/// The indexes of a thread's grants, alternately in the history of the first lock and in that of the second.
 type Places = Option<Vec<usize>>;
 
-/// Returns whether every other index of the list, from the first on, is the index of a grant to the thread, and these
-/// indexes ascend.
+/// Returns whether the first, third, fifth and so on of `places` are indexes of grants to `who` in `history`, in
+/// ascending order.
 fn are_grants_in_order(history: &[LockEvent], who: Who, places: &[usize]) -> bool {
     let mut least = 0usize;
     for &at in places.iter().step_by(2) {
@@ -40,7 +40,7 @@ fn are_grants_in_order(history: &[LockEvent], who: Who, places: &[usize]) -> boo
     true
 }
 
-/// Asks for a lock, and polls until the thread holds it. Returns the index of the thread's grant in the history.
+/// Asks for a lock, and polls until this thread holds it. Returns the index of the grant in the lock's history.
 fn enter_one(
     locks: &SleepLocks,
     seats: &mut LockSeats,
@@ -68,7 +68,7 @@ fn enter_one(
     None
 }
 
-/// Frees a lock. Returns `None` if the thread didn't hold the lock, or after too many polls.
+/// Frees a lock. Returns `None` if this thread didn't hold the lock, or after too many polls.
 fn leave_one(
     locks: &SleepLocks,
     seats: &mut LockSeats,
@@ -89,7 +89,7 @@ fn leave_one(
     None
 }
 
-/// Holds each of two locks in turn, `ROUNDS` times each. Returns the indexes of the grants.
+/// Holds each of two locks `ROUNDS` times, alternately. Returns the indexes of the grants in the locks' histories.
 fn hold_each(alloc: Global, locks: &SleepLocks, seats: &mut LockSeats, who: Who) -> Places
     requires own { AreSeatsOf locks.now seats.old }
     requires two { 1 < length locks.now }
@@ -121,7 +121,8 @@ fn work_on_each(
     (seats, places)
 }
 
-/// Lets A and B contend for two locks. Returns the joined seats, and the indexes of A's grants and of B's.
+/// Runs two kernel threads, A and B, that contend for two locks. Returns the joined seats (rights to use the locks),
+/// and the indexes of A's grants and of B's.
 fn contend_for_each<R: Threads + Sync>(
     rt: &R,
     alloc: Global,
@@ -141,14 +142,16 @@ fn contend_for_each<R: Threads + Sync>(
     Some((locks.join_seats(own, theirs), of_a, of_b))
 }
 
-/// Returns whether the histories of two locks have a thread's grants at these indexes, `ROUNDS` in each.
+/// Returns whether each of the histories of two locks has `ROUNDS` grants to the thread `who`, at the indexes in
+/// `places`.
 fn tell_of(first: &[LockEvent], second: &[LockEvent], who: Who, places: &[usize]) -> bool {
     places.len() == 2 * ROUNDS
         && are_grants_in_order(first, who, places)
         && are_grants_in_order(second, who, &places[1..])
 }
 
-/// Returns whether the histories of two locks have all grants to A and to B, and no further events but asks and frees.
+/// Returns whether the histories of two locks have all the grants that A and B saw, and no other events than requests
+/// and releases.
 fn tell_all(first: &[LockEvent], second: &[LockEvent], of_a: &[usize], of_b: &[usize]) -> bool {
     tell_of(first, second, A, of_a)
         && tell_of(first, second, B, of_b)
@@ -156,7 +159,7 @@ fn tell_all(first: &[LockEvent], second: &[LockEvent], of_a: &[usize], of_b: &[u
         && second.len() == 6 * ROUNDS
 }
 
-/// Returns whether A and B have held each lock `ROUNDS` times by the histories.
+/// Returns whether, according to the histories, A and B have each held each lock `ROUNDS` times.
 fn each_had_its_turns<R: Threads + Sync>(rt: &R, alloc: Global) -> Option<bool> {
     let (locks, seats) = SleepLocks::new(alloc, 2).ok()?;
     let (seats, of_a, of_b) = contend_for_each(rt, alloc, &locks, seats)?;

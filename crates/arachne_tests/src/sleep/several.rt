@@ -1,4 +1,4 @@
-//! Tests of several locks: each call once, and the order of the histories.
+//! Tests of a set of several locks: each call once, and the order of the locks' histories.
 ghost use Rattle.std.specs.Prelude.{◌<◌, length};
 ghost use Rattle.arachne_sleep.specs.SleepLocks.{AreSeatsOf};
 
@@ -90,7 +90,8 @@ fn called(
     }
 }
 
-/// Returns the number, from 0, of the first call on lock 2 whose result is wrong.
+/// Makes each call on lock 2 in turn. Returns the number, from 0, of the first call with a wrong result, if there is
+/// one.
 fn first_wrong(locks: &SleepLocks, seats: &mut LockSeats) -> Option<usize>
     requires own { AreSeatsOf locks.now seats.old }
     requires lock { 2 < length locks.now }
@@ -105,7 +106,7 @@ fn first_wrong(locks: &SleepLocks, seats: &mut LockSeats) -> Option<usize>
     None
 }
 
-/// Returns whether a history has these events.
+/// Returns whether `history` consists of `events`.
 fn has_events(history: &History, events: &[LockEvent]) -> bool {
     history.len() == events.len()
         && history
@@ -114,7 +115,7 @@ fn has_events(history: &History, events: &[LockEvent]) -> bool {
             .all(|(event, wanted)| event == *wanted)
 }
 
-/// Returns whether of three histories only the history of lock 2 has events, those of `WHOLE`.
+/// Returns whether only the last of three histories, that of lock 2, has events, and whether these are `WHOLE`.
 fn is_of_the_last(histories: &[History]) -> bool {
     histories.len() == 3
         && histories[0].is_empty()
@@ -122,7 +123,7 @@ fn is_of_the_last(histories: &[History]) -> bool {
         && has_events(&histories[2], WHOLE)
 }
 
-/// Returns the histories of three locks. On one of them each call was made.
+/// Makes three locks, makes calls on one of them, and returns the histories of all three.
 fn histories(alloc: Global) -> Option<Vec<History>> {
     let (locks, mut seats) = SleepLocks::new(alloc, 3).ok()?;
     if locks.count() != 3 || first_wrong(&locks, &mut seats).is_some() {
@@ -153,10 +154,11 @@ pub(super) fn closed(alloc: Global, locks: SleepLocks, seats: LockSeats) -> Opti
     locks.close(alloc, seats).ok()
 }
 
-/// The most locks that a program has.
+/// The greatest number of locks that a program may have.
 const MOST: u8 = 16;
 
-/// Makes `count` locks, splits and joins their seats, and closes them. Returns the histories.
+/// Makes a set of `count` locks, splits and joins its seats (rights to use it), and closes it. Returns the locks'
+/// histories.
 fn made_and_closed(alloc: Global, count: u8) -> Option<Vec<History>> {
     let (locks, seats) = SleepLocks::new(alloc, count).ok()?;
     let (own, theirs) = locks.split(alloc, seats).ok()?;
@@ -167,7 +169,7 @@ fn made_and_closed(alloc: Global, count: u8) -> Option<Vec<History>> {
     closed(alloc, locks, seats)
 }
 
-/// Returns the lowest number of locks, up to `MOST`, that can't be made.
+/// Returns the lowest number of locks, up to `MOST`, for which no set of locks can be made.
 fn first_refused(alloc: Global) -> Option<u8> {
     for count in 0..=MOST {
         match made_and_closed(alloc, count) {

@@ -4,13 +4,14 @@ use arachne_shortage::Hoard;
 use arachne_sleep::{AskFault, LockState};
 use std::alloc::AllocError;
 
-/// The bytes that are given back if a growth was refused: few, so that the next growth of the same call is refused too.
+/// The number of bytes that the test frees after the growth of a list was refused: so few that the next growth in the
+/// same call is refused too.
 const FEW: usize = 40;
 
-/// The most times that a thread asks.
+/// The greatest number of times that one thread asks for the lock.
 const TRIES: u64 = 100_000;
 
-/// The number of threads in the crowd.
+/// The number of threads in the crowd, all of which ask for one lock.
 const CROWD: u64 = 900;
 
 /// Asks until there is memory, and returns the number of refusals, if each left the lock as it was.
@@ -29,9 +30,10 @@ fn asks_at_last(lock: &mut LockState, tag: u64, hoard: &mut Hoard) -> Option<u64
     None
 }
 
-/// Lets the crowd ask without memory, and then free the lock in turn, which needs no memory.
+/// Asks for the lock, without memory, for each thread of the crowd, and then frees it for each in turn, which needs no
+/// memory.
 ///
-/// Returns the number of refused asks.
+/// Returns the number of refused requests.
 fn comes_and_leaves(lock: &mut LockState, hoard: &mut Hoard) -> Option<u64> {
     let mut refused = 0u64;
     for tag in 0..CROWD {

@@ -1,28 +1,29 @@
 //! The proved core: each call is one of the functions of `libarachne_exec_c.a`, as `arachne_exec.h` declares them.
 //!
-//! The proofs apply to a program if these rules are kept. For each rule, the text behind the colon says how it is kept:
+//! The proofs apply to a program only if these rules are kept. The text behind each colon says how this crate keeps the
+//! rule:
 //!
 //! - *A handle is null at first, only the library writes its pointer, and it is never copied*: `Handle` is made by
 //!   `Handle::empty`, moved and never cloned.
 //! - *One thread at a time uses a handle*: no call of the library calls back, and each type that contains a handle is
 //!   `Send` and not `Sync`, except `Crew`. A worker that steals a job from another's local queues gets the job's handle
 //!   along with it (`hand.rs`).
-//! - *Two handles in one call have one origin*: `Root` splits and joins only its own handles.
+//! - *Two handles in one call come from one executor*: `Root` splits and joins only its own handles.
 //! - *Pointers are not null*: all are made from references.
 //! - *The declarations agree with the archive*: `tests/header.rs` compares each code, field and signature.
 //! - *A task's pointer is made, used and freed once*: `task.rs` keeps this rule.
-//! - *Tables outlive wakers*: a runtime's table is never freed. A later runtime of the same shape uses the table again,
-//!   and continues its generation counts.
-//! - *An unpark is obeyed*: a worker sleeps in the epoll, whose event stays raised until a waiter has seen it, or on
-//!   its condition variable (`Bell`), whose flag stays set. The worker to wake is looked up only after the call that
-//!   returns `unpark`.
+//! - *A table of jobs outlives all wakers*: it is never freed. A later runtime of the same size uses it again, and
+//!   continues its generation counts.
+//! - *If a call asks to wake a worker (`unpark`), that worker is woken*: a worker sleeps in the epoll, whose event
+//!   stays raised until a waiter has seen it, or on its condition variable (`Bell`), whose flag stays set. The caller
+//!   looks up the worker only after the call that has returned `unpark`.
 //! - *No panic crosses a call of the library*: panics of tasks are caught, and a panic of a worker's loop aborts.
 //! - *No call from a signal handler or after a fork*: this crate makes none; a program must use no waker there.
 //! - *`malloc`, `realloc` and `free` are of one allocator*: the C library's; a program that replaces one must replace
 //!   all three.
 //!
-//! A handle, called a seat here, holds at most one job, so a thread has several seats. A seat goes with its job: a
-//! thread that steals a job uses the job's seat until it puts the job back.
+//! A handle, called a *seat* here, holds at most one job, so a thread has several seats. A thread that steals a job
+//! also gets the job's seat, and uses it until the job is put back.
 
 use super::{Asked, Freed, Job, Line, Rested, Spawned, Woken, BLOCK, MOST_SHARDS, NUMBERS};
 use crate::cores::{Advice, Sample};
@@ -52,7 +53,7 @@ impl Handle {
         self.0.get()
     }
 
-    /// Returns another handle of the same executor.
+    /// Returns another handle of the same executor; None if memory is refused.
     fn split(&self) -> Option<Handle> {
         let other = Handle::empty();
         // SAFETY: two handles that only this thread uses now; the second is null.
@@ -67,48 +68,49 @@ impl Drop for Handle {
     }
 }
 
-/// A runtime's executor, from which threads get their seats (handles of the core).
+/// A runtime's executor in the proved library, from which threads get their seats (library handles).
 pub(crate) struct Root(Handle);
 
-/// The most seats (handles of the core) of one thread that other threads may use at a time; the thread keeps the others
-/// for itself.
+/// The most seats (library handles) of one thread that other threads may use at a time, with the jobs that they have
+/// stolen from it. The thread keeps its other seats for itself.
 const AWAY: u64 = 24;
 
-/// The seats (handles of the core) of all threads that steal jobs from each other, `each` per thread.
+/// The seats (library handles) of all threads that steal jobs from each other. Each thread has `each` seats.
 struct Crew {
     seats: Box<[Handle]>,
     each: usize,
     members: Box<[Line<Member>]>,
 }
 
-/// How other threads use one thread's seats (handles of the core). `laid` is a bit mask of the seats that they have
-/// given back, and `away` is the number of seats that they use.
+/// How other threads use one thread's seats (library handles). `laid` is a bit mask of the seats that others have given
+/// back; `away` is the number of seats that others still use.
 #[derive(Default)]
 struct Member {
     laid: AtomicU64,
     away: AtomicU64,
 }
 
-// SAFETY: a seat's handle is used by one thread at a time. The first seat of each thread is always its own. Any other
-// seat is used by its owner, until another thread steals the seat's job, which orders the accesses. That thread uses
-// the seat until it puts the job back and sets the seat's bit in `laid`, by which the owner gets the seat back.
+// SAFETY: only one thread at a time uses a seat. The first seat of each thread is always its own. Any other seat is
+// used by its owner until another thread steals the seat's job; the steal orders the accesses. The thief uses the seat
+// until it puts the job back and sets the seat's bit in `laid`; reading that bit gives the seat back to the owner.
 unsafe impl Sync for Crew {}
 
-/// A thread's seats (handles of the core): one for each job that it may hold, and the first for calls that take and put
-/// back no job.
+/// A thread's seats (library handles). The first is for calls that neither take a job nor put one back; each other seat
+/// is for one job that the thread may hold.
 pub(crate) struct Hands {
     crew: Arc<Crew>,
     me: usize,
-    /// The seats (handles of the core) that hold no job, as a bit mask.
+    /// A bit mask of the seats (library handles) that hold no job.
     free: Cell<u64>,
-    /// For each seat (a handle of the core), the slot in a block at which its next take starts its search. The library
-    /// keeps such an index per seat, not per thread.
+    /// For each seat (library handle), the slot at which its next search of a block for a ready job starts. The library
+    /// stores this index with the seat, not with the thread.
     from: Vec<Cell<u32>>,
-    /// The seat (a handle of the core) that is used for sweeps, which are passes over all jobs of a block.
+    /// The seat (library handle) that this thread uses for sweeps, which take all ready jobs of a block in turn.
     sweeps: Cell<usize>,
 }
 
-/// A thread's right to park as the worker of all shards with one number (the shard's index modulo 64).
+/// The library handle with which a worker asks if it may sleep. It is for all shards (of 4,096 task slots each) that
+/// have the same index modulo 64.
 pub(crate) struct Parking(Handle);
 
 impl Root {
@@ -121,8 +123,8 @@ impl Root {
         made.then(|| Root(handle))
     }
 
-    /// Returns the seats (handles of the core) of `threads` threads, each of which may hold `most` jobs at a time;
-    /// `most` must be less than 64.
+    /// Returns the seats (library handles) for `threads` threads. Each thread may then hold up to `most` jobs at a
+    /// time. Returns None if memory is refused. The caller must pass a `most` below 64.
     pub(crate) fn crew(&mut self, threads: usize, most: usize) -> Option<Vec<Hands>> {
         let each = 1 + most;
         let seats = (0..threads * each).map(|_| self.0.split()).collect::<Option<Box<[_]>>>()?;
@@ -137,8 +139,8 @@ impl Root {
         Some((0..threads).map(hands).collect())
     }
 
-    /// Takes back a thread's seats (handles of the core), none of which may hold a job. The call for the last thread of
-    /// a crew joins the handles of the whole crew.
+    /// Takes back a thread's seats (library handles), which must hold no job. Only the call for the last thread of a
+    /// crew (the threads of one call of `crew`) gives the handles of all of them back to the library.
     pub(crate) fn join(&mut self, hands: Hands) {
         for seat in Arc::try_unwrap(hands.crew).map_or(Box::default(), |crew| crew.seats).iter() {
             // SAFETY: two handles of one origin.
@@ -147,8 +149,8 @@ impl Root {
         }
     }
 
-    /// Returns the right to park as the worker of all shards whose index modulo 64 is `number`. Returns None if memory
-    /// is refused.
+    /// Returns the handle with which the worker of the shards whose index modulo 64 is `number` asks if it may sleep.
+    /// Returns None if memory is refused.
     pub(crate) fn parking(&mut self, number: usize) -> Option<Parking> {
         let seat = self.0.split()?;
         // SAFETY: a handle that only this thread uses now.
@@ -158,11 +160,11 @@ impl Root {
 }
 
 impl Parking {
-    /// Asks the core whether this worker may sleep. If the result is true, the worker's idle bit is set, so that
-    /// whoever makes a job ready wakes it, and all summary words were found empty after it was set.
+    /// Returns true if this worker may sleep. Then its idle bit is set: whoever makes one of its jobs ready must wake
+    /// it. The summary words were found empty after the bit was set.
     ///
-    /// This is a call of the core's `next`, which also clears the summary bits of empty blocks. If `next` takes a job,
-    /// this function makes that job ready again, and returns false.
+    /// This calls the library's `next`, which also clears the summary bits of empty blocks. If `next` finds a ready
+    /// job, it takes it; this function then makes the job ready again, and returns false.
     pub(crate) fn park(&self) -> bool {
         // SAFETY: a handle that only this thread uses now.
         let told = unsafe { arachne_exec_next(self.0.at()) };
@@ -181,7 +183,7 @@ impl Parking {
         }
     }
 
-    /// Clears the idle bit of this worker number, which asks others to wake its worker, because the worker is awake.
+    /// Clears the idle bit that `park` has set, because the worker is awake and needs no wake.
     pub(crate) fn wake_up(&self) {
         // SAFETY: a handle that only this thread uses now.
         unsafe { arachne_exec_wake_up(self.0.at()) };
@@ -199,7 +201,7 @@ fn round(from: u32, to: u32) -> u64 {
     }
 }
 
-/// Returns the thread that owns `seat` (a handle of the core), and the seat's index among that thread's seats.
+/// Returns the index of the thread that owns `seat` (a library handle), and the seat's index among that thread's seats.
 #[inline]
 fn owner(seat: u16) -> (usize, usize) {
     (seat as usize >> 6, seat as usize & 63)
@@ -217,17 +219,17 @@ impl Hands {
         self.crew.seats[owner * self.crew.each + which].at()
     }
 
-    /// Returns the seat (the handle) that is reserved for calls that take and put back no job.
+    /// Returns the seat (library handle) that is reserved for calls that neither take a job nor put one back.
     #[inline]
     fn any(&self) -> *mut arachne_exec {
         self.crew.seats[self.me * self.crew.each].at()
     }
 
-    /// Records that this thread has stolen `job` from another thread. This thread then uses the seat (the handle of the
-    /// core) that holds the job.
+    /// Records that this thread has stolen `job` from the thread `of`. From now on this thread uses the seat (library
+    /// handle) that holds the job.
     ///
-    /// Returns false if other threads already use `AWAY` seats of the thread `of`, to which this seat belongs. In that
-    /// case the caller must make the job ready at once, which gives the seat back to its owner.
+    /// Returns false if other threads already use `AWAY` seats of the thread `of`. Then the caller must make the job
+    /// ready at once, which gives the seat back to `of`.
     pub(crate) fn gets(&self, job: &Job, of: usize) -> bool {
         let owner = owner(job.seat).0;
         let away = &self.crew.members[owner].0.away;
@@ -266,23 +268,25 @@ impl Hands {
         }
     }
 
-    /// Begins to run a job that this thread holds. Does nothing in this form of the core.
+    /// Marks a job that this thread holds as running. Does nothing here: only the other implementation (`model.rs`)
+    /// needs the call.
     #[inline]
     pub(crate) fn begin(&self, _job: &Job) {}
 
-    /// Takes one ready job of the block `block` (64 task slots). Returns None if the block has no ready job; it may
-    /// also do so while another thread takes a job.
+    /// Takes one ready job of the block `block` (64 task slots). Returns None if no job of the block is ready, and
+    /// perhaps also if another thread takes a job at the same time.
     #[inline]
     pub(crate) fn take_any(&self, block: usize) -> Option<Job> {
         self.take(self.last_free()?, block)
     }
 
-    /// Takes the next job of a sweep over the slots of the block `block` whose bits are set in `wanted`.
+    /// Takes the next ready job of the slots in `wanted`, a bit mask of slots of the block `block`. It is for a sweep,
+    /// one pass over these slots.
     ///
-    /// A job that has become ready since the sweep of the block began may come before the jobs of these slots. The
-    /// sweep clears a slot's bit when it passes the slot, so a job that is ready again and again keeps no other
-    /// waiting. A sweep takes all its jobs through one seat (handle), unless that seat is in use. The library keeps for
-    /// each seat at which slot it searches next, so several seats would search the same slots several times.
+    /// A job that became ready after the sweep of the block began may be taken before these. Each slot that the search
+    /// passes is cleared in `wanted`, so a job that becomes ready again and again doesn't keep others waiting. A sweep
+    /// uses one seat (library handle) for all its jobs, if that seat is free: the library stores with each seat the
+    /// slot at which its next search starts, so several seats would search the same slots again.
     #[inline]
     pub(crate) fn take_next(&self, block: usize, wanted: &mut u64) -> Option<Job> {
         let seat = self.sweeping()?;
@@ -315,21 +319,22 @@ impl Hands {
         unsafe { arachne_exec_ready(self.any(), block) }
     }
 
-    /// Returns a bit mask of the blocks of the shard `shard` (64 blocks of task slots) that may have ready jobs.
+    /// Returns a bit mask of the blocks (of 64 task slots) of the shard `shard` that may have ready jobs.
     #[inline]
     pub(crate) fn shown(&self, shard: usize) -> u64 {
         // SAFETY: a handle that only this thread uses now.
         unsafe { arachne_exec_shown(self.any(), shard) }
     }
 
-    /// Does nothing, and returns true: an empty block keeps its bit in the summary word until `Parking::park` clears
-    /// it.
+    /// Does nothing, and returns true. (An empty block keeps its bit in the summary word until `Parking::park` clears
+    /// it.)
     #[inline]
     pub(crate) fn hide(&self, _block: usize) -> bool {
         true
     }
 
-    /// Records that `seat` (a handle of the core) holds no job any more, which gives it back to its owner.
+    /// Records that `seat` (a library handle) no longer holds a job. A seat of another thread is given back to that
+    /// thread.
     #[inline]
     fn is_free(&self, seat: u16) {
         let (owner, which) = owner(seat);
@@ -341,8 +346,8 @@ impl Hands {
         member.away.fetch_sub(1, Relaxed);
     }
 
-    /// Returns a bit mask of this thread's seats (handles of the core) that hold no job. If there are none, collects
-    /// the seats that other threads have given back.
+    /// Returns a bit mask of this thread's seats (library handles) that hold no job. If the thread has none, first
+    /// collects those that other threads have given back.
     #[inline]
     fn free(&self) -> u64 {
         match self.free.get() {
@@ -351,7 +356,8 @@ impl Hands {
         }
     }
 
-    /// Reserves the seat (handle) of the last sweep or, if that seat holds a job, the first free one.
+    /// Reserves a seat (library handle) for a sweep: that of the last sweep if it is free, else the first free one.
+    /// Returns None if no seat is free.
     #[inline]
     fn sweeping(&self) -> Option<u16> {
         let free = self.free();
@@ -365,7 +371,7 @@ impl Hands {
         Some(self.own(self.sweeps.get()))
     }
 
-    /// Reserves the last free seat (handle), for a call that isn't part of a sweep.
+    /// Reserves the last free seat (library handle), for a call outside of a sweep. Returns None if no seat is free.
     #[inline]
     fn last_free(&self) -> Option<u16> {
         let free = self.free();
@@ -379,8 +385,8 @@ impl Hands {
         (self.me << 6 | which) as u16
     }
 
-    /// Puts back a job that this thread holds, as ready. Returns true if the caller must wake the worker that owns the
-    /// job's slot.
+    /// Puts back a job that this thread holds, so that it is ready. Returns true if the caller must wake the worker
+    /// that owns the job's slot.
     #[inline]
     pub(crate) fn rest_ready(&self, job: &Job) -> bool {
         // SAFETY: a handle that only this thread uses now.
@@ -392,8 +398,8 @@ impl Hands {
         told.unpark != ARACHNE_NOBODY
     }
 
-    /// Puts back a job that this thread holds, as blocked until a wake; if a wake has come since it was taken, as
-    /// ready.
+    /// Puts back a job that this thread holds. The job is then blocked until it is woken; if it was woken since it was
+    /// taken, it is ready instead.
     #[inline]
     pub(crate) fn rest_blocked(&self, job: &Job) -> Rested {
         // SAFETY: a handle that only this thread uses now.
@@ -406,7 +412,7 @@ impl Hands {
         }
     }
 
-    /// Ends a job that this thread holds. The job's slot is free afterwards, and its name is never used again.
+    /// Ends a job that this thread holds. The library never gives the job's name to another job.
     #[inline]
     pub(crate) fn finish(&self, job: &Job) {
         // SAFETY: a handle that only this thread uses now.
@@ -417,8 +423,8 @@ impl Hands {
         self.is_free(job.seat);
     }
 
-    /// Wakes the job with the name `name` (its slot and generation). If the job was blocked and `keep` is true, this
-    /// thread takes the job, and then holds it.
+    /// Wakes the job with the name `name` (its slot and generation). If the job was blocked and `keep` is true, the job
+    /// isn't made ready: this thread holds it, and may run it.
     #[inline]
     pub(crate) fn wake(&self, name: u64, keep: bool) -> Woken {
         let own = if keep { self.last_free() } else { None };
@@ -450,7 +456,8 @@ impl Hands {
 
 // ---------------------------------------------------------------------------------------------- locks
 
-/// The number of locks that are made together, as a *set*. Sets are made when they are needed, and are never freed.
+/// The number of locks in a *set*, which is one allocation of the library. A set is made when no lock is left, and
+/// never freed.
 const LOCKS: usize = 1024;
 
 struct LockHandle(UnsafeCell<arachne_locks>);
@@ -473,13 +480,13 @@ impl Drop for LockHandle {
 #[derive(Default)]
 struct Sets {
     roots: Vec<LockHandle>,
-    /// The locks that are not in use, each with the index of its set and its number in the set.
+    /// The unused locks, each as the index of its set and its index in the set.
     free: Vec<(usize, usize)>,
 }
 
 static SETS: Mutex<Option<Sets>> = Mutex::new(None);
 
-/// This thread's handles of the sets of locks, by the set's index.
+/// This thread's handles of the sets of locks. The index of a handle is that of its set.
 struct LockSeats(Vec<Option<LockHandle>>);
 
 thread_local! {
@@ -509,7 +516,7 @@ fn split_locks(set: usize) -> LockHandle {
     other
 }
 
-/// Returns an odd number that no other call returns, to be used as a waiter's name in a request for a lock.
+/// Returns a number that no other call returns, and that is odd. It serves as a waiter's name in a request for a lock.
 fn odd_number() -> u64 {
     static NEXT: AtomicU64 = AtomicU64::new(0);
     ASKED.with(|asked| {
@@ -521,11 +528,11 @@ fn odd_number() -> u64 {
     })
 }
 
-/// A lock of the core, without its value: the core knows the holder and the queue of waiters.
+/// A lock without its value. The library knows which task or thread holds the lock, and which wait for it.
 pub(crate) struct LockCore {
     set: usize,
     lock: usize,
-    /// True if the lock probably has a holder; then `try_ask` fails without a call of the core.
+    /// True if somebody probably holds the lock. Then `try_ask` fails without a call of the library.
     held: AtomicBool,
 }
 
@@ -549,7 +556,7 @@ impl Default for LockCore {
 
 impl Drop for LockCore {
     fn drop(&mut self) {
-        // If a guard of the lock was leaked, the lock has a holder for ever, and is not used again.
+        // If a guard of this lock was leaked, the lock is held for ever, so it can't be used for another `Lock`.
         self.held.store(false, Relaxed);
         if let Some(who) = self.try_ask() {
             self.free(who);
@@ -574,7 +581,7 @@ impl LockCore {
         called.unwrap_or_else(|_| call(split_locks(self.set).0.get()))
     }
 
-    /// Repeats a call of the core as long as it fails because another thread's call is in progress.
+    /// Repeats a call of the library for as long as it fails because of another thread's call in progress.
     #[inline]
     fn insist(&self, call: impl Fn(*mut arachne_locks) -> arachne_lock_told) -> arachne_lock_told {
         loop {
@@ -586,8 +593,8 @@ impl LockCore {
         }
     }
 
-    /// Takes the lock if it is free. Returns the name under which the caller holds it then, or None if the lock isn't
-    /// free.
+    /// Takes the lock if it is free. Returns the name (a number) under which the caller then holds the lock, or None if
+    /// the lock isn't free.
     #[inline]
     pub(crate) fn try_ask(&self) -> Option<u64> {
         if self.held.load(Relaxed) {
@@ -600,7 +607,7 @@ impl LockCore {
         }
     }
 
-    /// Asks for the lock under the name `who`, which no other waiter or holder has.
+    /// Asks for the lock under the name `who` (a number). No other waiter or holder may have that name.
     #[inline]
     pub(crate) fn ask(&self, who: u64) -> Asked {
         // SAFETY: a handle that only this thread uses now.
@@ -614,7 +621,7 @@ impl LockCore {
         }
     }
 
-    /// Frees the lock, which `who` holds.
+    /// Frees the lock, which the caller must hold under the name `who`.
     #[inline]
     pub(crate) fn free(&self, who: u64) -> Freed {
         // SAFETY: a handle that only this thread uses now.
@@ -629,7 +636,7 @@ impl LockCore {
         }
     }
 
-    /// Removes the waiter `who` from the lock's queue. Returns false if the waiter was granted the lock meanwhile.
+    /// Removes the waiter with the name `who` from the lock's queue. Returns false if that waiter has the lock already.
     pub(crate) fn withdraw(&self, who: u64) -> bool {
         // SAFETY: a handle that only this thread uses now.
         let told = self.insist(|seat| unsafe { arachne_lock_withdraw(seat, self.lock, who) });
@@ -643,7 +650,7 @@ impl LockCore {
 
 // ---------------------------------------------------------------------------------------------- the policy
 
-/// Decides when a runtime asks for a core, and when it gives one back.
+/// Decides from the load when a runtime asks for another processor, and when it gives one back.
 pub(crate) struct Estimator(arachne_estimator);
 
 impl Estimator {

@@ -32,7 +32,7 @@ struct Table {
 // SAFETY: only the holder of a slot's job accesses the job's number: the thread that cleared the slot's bit in the free
 // word or the ready word, or changed its mark from blocked. These atomic steps order the accesses.
 unsafe impl Sync for Table {}
-// SAFETY: as above; the numbers of the jobs belong to no thread.
+// SAFETY: as above. The job numbers are plain data, which any thread may have.
 unsafe impl Send for Table {}
 
 #[inline]
@@ -55,11 +55,11 @@ impl Table {
         self.blocks[place / BLOCK].slots[place % BLOCK].get()
     }
 
-    /// Makes the job of the slot `place` ready. Returns true if the caller must wake the worker that owns the slot.
+    /// Makes the job of the slot `place` ready. Returns true if the caller must wake the worker that owns this slot.
     ///
-    /// If the block's ready word had a bit already, the thread that set the word's first bit does the steps that
-    /// follow. Their order closes the race with `park`: set the ready bit, then the summary bit, then read the idle
-    /// bit.
+    /// If another bit of the block's ready word was set already, the thread that set the word's first bit does the
+    /// remaining steps. The order of the steps closes the race with `park`: set the ready bit, then the summary bit,
+    /// then read the idle bit.
     #[inline]
     fn publish(&self, place: usize) -> bool {
         let block = place / BLOCK;
@@ -75,11 +75,11 @@ impl Table {
         self.idle.0.load(SeqCst) & idle != 0 && self.idle.0.fetch_and(!idle, SeqCst) & idle != 0
     }
 
-    /// Clears the bit of an empty block in the summary word, which shows the blocks with ready jobs. Returns false,
-    /// with the bit set again, if a job of the block has become ready.
+    /// Clears the summary bit of the block `block`, which is empty. If a job of the block has become ready meanwhile,
+    /// sets the bit again, and returns false.
     ///
-    /// The ready word must be read after the bit is cleared: `publish` sets the summary bit only for the word's first
-    /// job.
+    /// The ready word must be read after the summary bit is cleared: `publish` sets the summary bit only with the first
+    /// bit of the ready word.
     fn hide(&self, block: usize) -> bool {
         let (summary, bit) = (&self.summary[block / SHARD].0, 1 << (block % SHARD));
         summary.fetch_and(!bit, SeqCst);
@@ -97,17 +97,18 @@ impl Table {
     }
 }
 
-/// A runtime's job table, from which threads get their access (`Hands`).
+/// A runtime's job table, from which threads get their access to it (`Hands`).
 pub(crate) struct Root(Arc<Table>);
 
 /// A thread's access to the table of jobs. The value may move to another thread, and is used by one thread at a time.
 pub(crate) struct Hands {
     table: Arc<Table>,
-    /// Makes `Hands` not `Sync`.
+    /// Unused data that isn't `Sync`, so that `Hands` isn't either.
     _one_thread: Cell<()>,
 }
 
-/// A thread's right to park as the worker of all shards with one number (the shard's index modulo 64).
+/// Lets a worker ask if it may sleep. It is for all shards (of 4,096 task slots each) that have the same index modulo
+/// 64.
 pub(crate) struct Parking {
     table: Arc<Table>,
     number: usize,
@@ -133,12 +134,12 @@ impl Root {
         })))
     }
 
-    /// Returns one access (`Hands`) for each of `threads` threads.
+    /// Returns a `Hands` (access to the table) for each of `threads` threads. Never returns None.
     pub(crate) fn crew(&mut self, threads: usize, _most: usize) -> Option<Vec<Hands>> {
         Some((0..threads).map(|_| Hands { table: self.0.clone(), _one_thread: Cell::new(()) }).collect())
     }
 
-    /// Takes back a thread's access, with which it may hold no job.
+    /// Takes back a thread's access to the table. The thread must hold no job.
     pub(crate) fn join(&mut self, hands: Hands) {
         debug_assert!(Arc::ptr_eq(&self.0, &hands.table));
     }
@@ -149,10 +150,10 @@ impl Root {
 }
 
 impl Parking {
-    /// Sets the idle bit of this worker number, which asks others to wake its worker, and then reads all ready words of
-    /// the shards with this number. Returns true if all these words were empty.
+    /// Sets this worker's idle bit: whoever makes one of its jobs ready must then wake it. Then reads all ready words
+    /// of its shards. Returns true if all were empty, so that the worker may sleep.
     ///
-    /// The order of the two steps matters: a thread that publishes a job sets its ready bit before it reads the idle
+    /// The bit must be set first: a thread that makes a job ready sets the job's ready bit before it reads the idle
     /// bit.
     pub(crate) fn park(&self) -> bool {
         let table = &*self.table;
@@ -171,7 +172,7 @@ impl Parking {
         true
     }
 
-    /// Clears the idle bit of this worker number, which asks others to wake its worker, because the worker is awake.
+    /// Clears the idle bit that `park` has set, because the worker is awake and needs no wake.
     pub(crate) fn wake_up(&self) {
         self.table.wake_up(self.number);
     }
@@ -205,14 +206,15 @@ impl Hands {
         }
     }
 
-    /// Records that this thread has stolen a job from another thread. Always returns true in this form of the core.
+    /// Records that this thread has stolen a job from another thread. Does nothing here, and returns true: only the
+    /// implementation by the library needs the call.
     #[inline]
     pub(crate) fn gets(&self, _job: &Job, _of: usize) -> bool {
         true
     }
 
-    /// Begins to run a job that this thread holds, and clears its mark of a wake: the poll that follows serves all
-    /// earlier wakes.
+    /// Marks a job that this thread holds as running, and forgets the wakes that came before: the poll that follows
+    /// answers all of them.
     #[inline]
     pub(crate) fn begin(&self, job: &Job) {
         let mark = self.table.mark(job.place());
@@ -222,14 +224,15 @@ impl Hands {
         }
     }
 
-    /// Takes one ready job of the block `block` (64 slots). Returns None if the block has no ready job; it may also do
-    /// so while another thread takes a job.
+    /// Takes one ready job of the block `block` (64 task slots). Returns None if no job of the block is ready, and
+    /// perhaps also if another thread takes a job at the same time.
     pub(crate) fn take_any(&self, block: usize) -> Option<Job> {
         let mut any = self.ready(block);
         self.take_next(block, &mut any)
     }
 
-    /// Takes the next job of a sweep over the slots of the block `block` whose bits are set in `wanted`.
+    /// Takes the next ready job of the slots in `wanted`, a bit mask of slots of the block `block`. It is for a sweep,
+    /// one pass over these slots.
     #[inline]
     pub(crate) fn take_next(&self, block: usize, wanted: &mut u64) -> Option<Job> {
         let ready = &self.table.blocks[block].ready.0;
@@ -264,15 +267,15 @@ impl Hands {
         self.table.summary[shard].0.load(SeqCst)
     }
 
-    /// Clears an empty block's bit in the summary word (of blocks with ready jobs), unless a job of the block has
-    /// become ready meanwhile. Always returns false in this form of the core.
+    /// Clears the summary bit of the empty block `block`; if a job of the block has become ready meanwhile, the bit
+    /// stays set. Always returns false.
     pub(crate) fn hide(&self, block: usize) -> bool {
         self.table.hide(block);
         false
     }
 
-    /// Puts back a job that this thread holds, as ready. Returns true if the caller must wake the worker that owns the
-    /// job's slot.
+    /// Puts back a job that this thread holds, so that it is ready. Returns true if the caller must wake the worker
+    /// that owns the job's slot.
     #[inline]
     pub(crate) fn rest_ready(&self, job: &Job) -> bool {
         // SAFETY: this thread holds the job.
@@ -280,8 +283,8 @@ impl Hands {
         self.table.publish(job.place())
     }
 
-    /// Puts back a job that this thread holds, as blocked until a wake. If a wake has come since the job was taken or
-    /// begun, this thread still holds the job.
+    /// Puts back a job that this thread holds, so that it is blocked until it is woken. If it was woken since it was
+    /// taken or begun, this thread still holds it instead.
     #[inline]
     pub(crate) fn rest_blocked(&self, job: &Job) -> Rested {
         let mark = self.table.mark(job.place());
@@ -296,8 +299,8 @@ impl Hands {
         Rested::InHand
     }
 
-    /// Ends a job that this thread holds. Afterwards the job's slot is free, unless its generations are used up; the
-    /// job's name is never used again.
+    /// Ends a job that this thread holds, and frees its slot. If the slot's generations are used up, the slot is never
+    /// used again. No later job gets this job's name.
     #[inline]
     pub(crate) fn finish(&self, job: &Job) {
         let next = (job.name >> PLACE_BITS) + 1;
@@ -307,8 +310,8 @@ impl Hands {
         }
     }
 
-    /// Wakes the job with the name `name` (its slot and generation). If the job was blocked and `keep` is true, this
-    /// thread takes the job, and then holds it.
+    /// Wakes the job with the name `name` (its slot and generation). If the job was blocked and `keep` is true, the job
+    /// isn't made ready: this thread holds it, and may run it.
     #[inline]
     pub(crate) fn wake(&self, name: u64, keep: bool) -> Woken {
         let (place, generation) = (place_of(name), name >> PLACE_BITS);
@@ -342,23 +345,23 @@ const FREE: u8 = 0;
 const HELD: u8 = 1;
 const QUEUED: u8 = 2;
 
-/// A lock of the core, without its value: it knows the holder, and the queue of waiters.
+/// A lock without its value: who holds the lock, and who waits for it.
 #[derive(Default)]
 pub(crate) struct LockCore {
-    /// `FREE`; `HELD`, with nobody waiting; or `QUEUED`: held, with waiters in `line`.
+    /// One of three values: `FREE`; `HELD`, if nobody waits; `QUEUED`, if waiters are in `line`.
     state: AtomicU8,
     line: Mutex<VecDeque<u64>>,
 }
 
 impl LockCore {
-    /// Takes the lock if it is free. Returns the name under which the caller holds it then, or None if the lock isn't
-    /// free.
+    /// Takes the lock if it is free. Returns the name (a number) under which the caller then holds the lock, or None if
+    /// the lock isn't free.
     #[inline]
     pub(crate) fn try_ask(&self) -> Option<u64> {
         self.state.compare_exchange(FREE, HELD, SeqCst, SeqCst).is_ok().then_some(1)
     }
 
-    /// Asks for the lock under the name `who`, an even number that no other waiter or holder has.
+    /// Asks for the lock under the name `who`, an even number. No other waiter or holder may have that name.
     #[inline]
     pub(crate) fn ask(&self, who: u64) -> Asked {
         let mut line = self.line.lock().unwrap();
@@ -375,7 +378,7 @@ impl LockCore {
         Asked::Queued
     }
 
-    /// Frees the lock.
+    /// Frees the lock, which the caller must hold. A waiter, if there is one, has the lock then.
     #[inline]
     pub(crate) fn free(&self, _who: u64) -> Freed {
         if self.state.compare_exchange(HELD, FREE, SeqCst, SeqCst).is_ok() {
@@ -387,7 +390,7 @@ impl LockCore {
         next.map_or(Freed::Free, Freed::HandedOn)
     }
 
-    /// Removes the waiter `who` from the lock's queue. Returns false if the waiter was granted the lock meanwhile.
+    /// Removes the waiter with the name `who` from the lock's queue. Returns false if that waiter has the lock already.
     pub(crate) fn withdraw(&self, who: u64) -> bool {
         let mut line = self.line.lock().unwrap();
         let found = line.iter().position(|&w| w == who);
@@ -410,13 +413,14 @@ impl LockCore {
     }
 }
 
-/// A stand-in for the proved estimator of the core policy. Like that one, it remembers the use at which each core was
-/// added, but nothing else.
+/// A stand-in for the library's estimator, which decides when to use more or fewer processors. Like the library's, it
+/// remembers only how busy the processors were when each of them was added.
 pub(crate) struct Estimator {
     load: u64,
     hysteresis: u64,
     most: u64,
-    /// For each number of cores, the use (in thousandths of a core) at which the policy last asked for this number.
+    /// For each number of cores, how busy the cores were (in thousandths of a core) when the policy last asked for that
+    /// number.
     used: Vec<u64>,
 }
 

@@ -48,8 +48,8 @@ impl TcpListener {
 
     /// Waits for a new connection. Returns the connection with the other side's address.
     ///
-    /// Fails if the runtime's end has begun and all connections that had arrived by then are accepted;
-    /// [`crate::is_stopping`] returns true then. See the example at `TcpListener`.
+    /// After `Runtime::shutdown_within` was called, fails once all connections that had arrived by then are accepted;
+    /// then [`crate::is_stopping`] returns true. See the example at `TcpListener`.
     pub async fn accept(&self) -> io::Result<(TcpStream, SocketAddr)> {
         let (stream, from) = accept(&self.0, |listener| listener.accept()).await?;
         Ok((TcpStream::from_std(stream)?, from))
@@ -73,7 +73,7 @@ pub struct TcpStream(pub(super) Source<std::net::TcpStream>);
 impl TcpStream {
     /// Connects to the first of these addresses that accepts the connection.
     ///
-    /// A host name is looked up on the calling thread, which is blocked meanwhile; in a task use `lookup_host` first.
+    /// A host name is looked up on the calling thread, which blocks for that time; in a task use `lookup_host` first.
     ///
     /// ```
     /// # fn main() -> std::io::Result<()> {
@@ -155,7 +155,8 @@ impl TcpStream {
     /// # }
     /// ```
     pub async fn peek(&self, buffer: &mut [u8]) -> io::Result<usize> {
-        // A peek leaves the bytes in the socket, so the socket counts as ready until a call returns `WouldBlock`.
+        // A peek leaves the bytes in the socket, so a short one doesn't mean that the socket is empty: it counts as
+        // ready until a call returns `WouldBlock`.
         self.0.wait::<true, _>(0, |socket| socket.peek(buffer), |_| 0).await
     }
 }

@@ -6,7 +6,7 @@ use std::net::{SocketAddr, ToSocketAddrs};
 
 /// A socket that sends and receives datagrams. Each call takes `&self`.
 ///
-/// The type has methods for few of std's options; set other options before `from_std`.
+/// Only a few of std's options have a method here; set the others before `from_std`.
 ///
 /// ```
 /// use arachne::net::UdpSocket;

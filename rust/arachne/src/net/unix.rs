@@ -55,8 +55,8 @@ impl UnixListener {
 
     /// Waits for a new connection. Returns the connection with the other side's address.
     ///
-    /// Fails if the runtime's end has begun and all connections that had arrived by then are accepted; `is_stopping` is
-    /// true then. See the example at `UnixListener`.
+    /// After `Runtime::shutdown_within` was called, fails once all connections that had arrived by then are accepted;
+    /// then `is_stopping` returns true. See the example at `UnixListener`.
     pub async fn accept(&self) -> io::Result<(UnixStream, SocketAddr)> {
         let (stream, from) = accept(&self.0, |listener| listener.accept()).await?;
         Ok((UnixStream::from_std(stream)?, from))

@@ -1,14 +1,15 @@
-//! For the explorer: cleaning up between runs, and changing the number of active workers as an arbiter does.
+//! Functions for the explorer (a test that tries many schedules): they free what a run leaves, and change the number of
+//! active workers as an arbiter does.
 
 use super::*;
 use crate::runtime::Runtime;
 
-/// Sets the number of active workers.
+/// Sets how many workers of the runtime may run tasks.
 pub fn set_active(runtime: &Runtime, active: usize) {
     runtime.shared().set_active(active);
 }
 
-/// Frees the seats (handles of the core) and the parker that are cached for this thread.
+/// Frees what the crate keeps for this thread: its handles of the core, and the parker of `block_on`.
 pub fn forget_thread() {
     SEATS.with(|visitor| visitor.borrow_mut().seats = Vec::new());
     crate::block_on::forget_parker();

@@ -1,17 +1,19 @@
-//! How workers sleep: one waits in the epoll, a *deputy* polls the epoll now and then, and the others wait on a
-//! condition variable each, their *bell*.
+//! How workers sleep.
 //!
-//! The deputy stands in while the worker of the epoll runs tasks or has no processor. The deputy wakes after 1, 2, 4 ..
-//! ms, and each millisecond while tasks run. The deputy takes over from the worker of the epoll if that worker is stuck
-//! in a poll. So the events of sockets are seen as long as at least one worker isn't in a long poll.
+//! One waits in the epoll, a *deputy* polls the epoll now and then, and each of the others waits on a condition
+//! variable of its own, its *bell*. The deputy is needed while the worker that waits in the epoll runs tasks or has no
+//! processor. The deputy polls the epoll after 1, 2, 4 .. ms, and each millisecond while tasks run. So the events of
+//! sockets are seen as long as at least one worker isn't in a long poll.
 //!
 //! **Beside a long poll.** While any worker is awake, the worker in the epoll and the deputy check the other workers,
-//! at least every `LONG_REST` milliseconds. If they find a worker in the same poll twice, they take all jobs in its
-//! local queues, even the one to run next, fire its timers, and take the ready jobs of its blocks. A worker that is
-//! woken again and again does the same once a millisecond, before it goes back to sleep (`looks_before_sleep`), and so
-//! does a busy worker in `look_out`. So, as long as at least one worker isn't in a long poll, a ready job behind a long
-//! poll begins within about 4 ms plus the delays of the machine. If all workers sleep, nobody checks. The first worker
-//! that runs a job after a sleep wakes another worker, which checks again (`goes_on`).
+//! at least every `LONG_REST` milliseconds. So the events of sockets are seen as long as at least one worker isn't in a
+//! long poll. **Beside a long poll.** While any worker is awake, the worker in the epoll and the deputy check the other
+//! workers, at least every `LONG_REST` milliseconds. If they find a worker in the same poll twice, they take all jobs
+//! in its local queues, even the one to run next, fire its timers, and take the ready jobs in its task slots. A worker
+//! that is woken again and again does the same once a millisecond, before it goes back to sleep (`looks_before_sleep`);
+//! a busy worker does it in `look_out`. So, as long as at least one worker isn't in a long poll, a ready job behind a
+//! long poll begins within about 4 ms plus the delays of the machine. The first worker that runs a job after a sleep
+//! wakes another worker, which checks again (`goes_on`).
 //!
 //! **Without a core.** While only the first worker has a core, the second one covers for it (`cover`): each millisecond
 //! the second worker looks if the first makes progress, under an arbiter each fifth of a millisecond, since the first
@@ -29,10 +31,10 @@ use crate::shared::{add, Context, Shared, NO_ONE};
 use crate::sync::atomic::{AtomicI32, Ordering::*};
 use crate::timer::{self, now};
 
-/// The number of rounds in which an idle worker searches for work before it sleeps.
+/// The number of times that an idle worker searches all other workers for work before it sleeps.
 const SPINS: usize = 4;
-/// The most milliseconds between two checks of the other workers while one of them is awake. If a worker that checks
-/// the others sleeps for longer than this, it is woken when tasks run again.
+/// The most milliseconds between two checks of the other workers while one of them is awake. A worker whose checks are
+/// farther apart than this is woken when tasks run again.
 const LONG_REST: i32 = 2;
 /// The milliseconds between two checks of the other workers while all workers sleep: some 17 minutes, as good as never.
 const FOR_EVER: i32 = 1 << 20;
@@ -45,26 +47,26 @@ const COVER_LONG: u64 = 2_000_000;
 /// The most nanoseconds between these checks while the first worker sleeps.
 const COVER_MOST: u64 = 3_600_000_000_000;
 
-/// The reasons for which the wait of a worker without a core ends.
+/// Why the wait of a worker that has no core has ended.
 pub(crate) enum Ends {
-    /// The caller must check if the worker has a core now.
+    /// The worker may have a core now; the caller must check this.
     Core,
     Call,
     Time,
 }
 
 impl Shared {
-    /// Searches the other workers for work, and sleeps if there is none.
+    /// Searches the other workers for work. If there is none, sleeps until there may be some.
     ///
-    /// The sleeper bit must be set, and the search ended, before the last check for work: whoever makes a job ready
-    /// after the bit is set wakes this worker, and the check finds the jobs that were made ready before.
+    /// The sleeper bit must be set, and the search recorded as ended, before the last check for work. Whoever makes a
+    /// job ready after that wakes this worker, and the check finds the jobs that were made ready before.
     pub(super) fn look_around(&'static self, context: &Context, turn: &mut Turn, judge: &Option<Judge>) {
         self.searching.0.fetch_add(1, SeqCst);
         if self.finds_work(context, turn) {
             return self.stop_looking(&context.hands);
         }
-        // This worker becomes the one in the epoll before the sleeper bit is set, and stops being it after the bit is
-        // cleared: `ring` reads `waits` while the bit is set.
+        // This worker registers in `waits` before it sets its sleeper bit, and leaves `waits` after it has cleared the
+        // bit: `ring` reads `waits` while the bit is set.
         let waits = self.waits.0.compare_exchange(NO_ONE, context.me, SeqCst, SeqCst).is_ok();
         self.sleepers.0.fetch_or(1 << context.me, SeqCst);
         self.searching.0.fetch_sub(1, SeqCst);
@@ -79,8 +81,8 @@ impl Shared {
             || context.me >= self.active.0.load(SeqCst);
         let sleeps = !busy && self.may_park(context);
         let (found, called) = if sleeps { self.sleep(context, turn, judge, waits) } else { (Found::NOTHING, false) };
-        // The idle bit is cleared before the events wake tasks: otherwise a wake of a job in this worker's own blocks
-        // would unpark this worker once more.
+        // The idle bit must be cleared before the events wake tasks. Otherwise the wake of a job in this worker's own
+        // blocks would wake this worker once more.
         self.wake_up(context);
         let roused = self.awake(context);
         if waits {
@@ -93,8 +95,8 @@ impl Shared {
         }
     }
 
-    /// Searches for a job to run, for a short while. Returns true if there is a job in this worker's local queues, or a
-    /// ready one.
+    /// Searches for a job to run, for a short while. Returns true if this worker has a job in its local queues or may
+    /// find a ready one.
     fn finds_work(&'static self, context: &Context, turn: &mut Turn) -> bool {
         turn.seen.iter_mut().zip(self.workers.iter()).for_each(|(seen, w)| *seen = w.0.polls.load(Relaxed));
         for spin in 0..SPINS {
@@ -110,15 +112,15 @@ impl Shared {
         false
     }
 
-    /// Returns true if a job seems ready in the blocks (the task slots) of this worker, or of a worker that it stands
-    /// in for.
+    /// Returns true if a job seems ready in the task slots of this worker, or of a worker without a core for which it
+    /// works.
     pub(super) fn mine(&self, context: &Context) -> bool {
         let me = context.me;
         self.ready(&context.hands, me) != 0 || self.lodgers(me).any(|other| self.ready(&context.hands, other) != 0)
     }
 
-    /// Returns true if this worker may sleep. Asks the core about the shards (groups of task slots) of this worker, and
-    /// of the workers that it stands in for.
+    /// Returns true if this worker may sleep. Asks the core about the shards (groups of 4,096 task slots) of this
+    /// worker, and of the workers without a core for which it works.
     fn may_park(&self, context: &Context) -> bool {
         std::iter::once(context.me).chain(self.lodgers(context.me)).all(|owner| {
             let parking = self.workers[owner].0.parking.lock().unwrap();
@@ -126,7 +128,7 @@ impl Shared {
         })
     }
 
-    /// Clears the summary bits of the empty blocks (of task slots) of the worker `me`.
+    /// Clears the summary bits of those blocks (of task slots) of the worker `me` that are empty.
     pub(super) fn tidy(&self, me: usize) {
         for seat in self.workers[me].0.parking.lock().unwrap().iter() {
             if seat.park() {
@@ -135,21 +137,21 @@ impl Shared {
         }
     }
 
-    /// Clears the idle bits, which ask others to wake a worker, of this worker and of the workers that it stands in
-    /// for.
+    /// Clears the idle bits of this worker, and of the workers without a core for which it works: nobody need wake
+    /// them.
     fn wake_up(&self, context: &Context) {
         for owner in std::iter::once(context.me).chain(self.lodgers(context.me)) {
             let parking = self.workers[owner].0.parking.lock().unwrap();
-            // Checked under the lock: another worker may stand in for `owner` now, and may have parked with these
-            // rights.
+            // This is checked under the lock: another worker may run the jobs of `owner` now, and may sleep with these
+            // idle bits set.
             if self.keeper(owner) == context.me {
                 parking.iter().for_each(|seat| seat.wake_up());
             }
         }
     }
 
-    /// Sleeps: in the epoll if `waits` is true, otherwise as the deputy or on its bell (a condition variable). Returns
-    /// the events that were found, and true if a worker that is stuck in a poll may have jobs for this one to run.
+    /// Sleeps: in the epoll if `waits` is true, otherwise as the deputy or on this worker's condition variable. Returns
+    /// the events that were found, and true if a worker that is stuck in a poll may have jobs for this worker to run.
     fn sleep(&self, context: &Context, turn: &mut Turn, judge: &Option<Judge>, waits: bool) -> (Found, bool) {
         if self.looks_before_sleep(context, turn) {
             return (Found::NOTHING, true);
@@ -175,8 +177,8 @@ impl Shared {
         found
     }
 
-    /// Sleeps in the epoll until there is an event, `timeout` milliseconds have passed, or a worker that is stuck in a
-    /// poll has jobs for this one to run.
+    /// Sleeps in the epoll until an event comes, `timeout` milliseconds have passed, or this worker finds another one
+    /// stuck in a poll with jobs to run. Returns the events, and true in the last case.
     fn wait_in_epoll(&self, context: &Context, turn: &mut Turn, timeout: i32) -> (Found, bool) {
         let most = self.asks(self.room(context, turn));
         if self.workers.len() == 1 {
@@ -196,12 +198,12 @@ impl Shared {
         }
     }
 
-    /// Sleeps as the *deputy*, the worker that polls the epoll now and then. Returns when it is woken, `timeout`
-    /// milliseconds have passed, or there is something to do.
+    /// Sleeps as the *deputy*, which polls the epoll now and then. Returns when this worker is woken, when `timeout`
+    /// milliseconds have passed, or when there is something to do.
     ///
-    /// There is something to do in three cases: a worker that is stuck in a poll has jobs to run; nobody waits in the
-    /// epoll, and a worker that is awake makes no progress (no new poll since the last check); or the epoll has events,
-    /// and the worker that waits there has no processor to take them.
+    /// There is something to do in three cases. First, a worker that is stuck in a poll has jobs to run. Second, nobody
+    /// waits in the epoll, and a worker that is awake has made no new poll since the last check. Third, the epoll has
+    /// events, and the worker that waits there has no processor to take them.
     fn stand_in(&self, context: &Context, turn: &mut Turn, timeout: i32) -> (Found, bool) {
         let bell = &context.worker.bell;
         let mut left = timeout;
@@ -230,10 +232,11 @@ impl Shared {
         }
     }
 
-    /// Calls `look_after` before a sleep, if its last call was at least `LONG_POLL` nanoseconds ago. Returns true if a
-    /// worker that is stuck in a poll has jobs for this one to run.
+    /// Calls `look_after` before a sleep, but at most once in `LONG_POLL` nanoseconds. Returns true if a worker that is
+    /// stuck in a poll has jobs for this worker to run.
     ///
-    /// A worker that is woken again and again never sleeps for long enough to check the others within a sleep.
+    /// It is needed for a worker that is woken again and again: none of its sleeps is long enough for a check of the
+    /// others.
     fn looks_before_sleep(&self, context: &Context, turn: &mut Turn) -> bool {
         let now = context.looked.get();
         if self.workers.len() == 1 || now.saturating_sub(turn.looked) < LONG_POLL {
@@ -246,12 +249,12 @@ impl Shared {
         waits
     }
 
-    /// Takes the jobs in the local queues of workers that have made no new poll since the last call, and fires their
-    /// timers.
+    /// Takes over the workers that have made no new poll since the last call: takes the jobs in their local queues, and
+    /// fires their timers.
     ///
-    /// If a worker has not yet given back a core that it must give back, only its jobs are taken, because another
-    /// worker already fires its timers. Returns two values: true if any such worker was found, and true if it has jobs
-    /// or timers to run.
+    /// If such a worker must give back its core and hasn't done so yet, only its jobs are taken, because another worker
+    /// already fires its timers. Returns two values: true if there was any such worker, and true if one of them has
+    /// jobs or timers to run.
     fn look_after(&self, context: &Context, turn: &mut Turn) -> (bool, bool) {
         let (active, sleepers) = (self.active.0.load(SeqCst), self.sleepers.0.load(SeqCst));
         let (mut stands, mut waits) = (false, false);
@@ -329,7 +332,7 @@ impl Shared {
     /// Runs the jobs of workers that make no progress (no new poll since the last check), and the jobs of events that
     /// no worker has taken. Returns true if there were any such jobs.
     fn runs_what_waits(&self, context: &Context, turn: &mut Turn) -> bool {
-        // While this worker has jobs, other workers check it too.
+        // From now on other workers check this one too, since it has jobs.
         context.worker.away.store(false, SeqCst);
         turn.pace(context, now());
         let waits = self.look_after(context, turn).1;
@@ -353,25 +356,24 @@ impl Shared {
         self.lay_down(context, turn);
         context.worker.away.store(true, SeqCst);
         if self.next_timer(context.me) != u64::MAX {
-            // The worker that stands in for this one, and fires its timers, may be asleep.
+            // The worker that works for this one, and fires its timers, may be asleep.
             self.ring(self.keeper(context.me));
         }
         ran != 0
     }
 
-    /// Returns for how many milliseconds a worker that checks the others sleeps until its next check, and stores this
-    /// number in `told`.
+    /// Returns after how many milliseconds a sleeping worker next checks the others, and stores this number in `told`.
     ///
-    /// While tasks run, this is `least`. Each check that finds that no task has run multiplies it by `times`; while any
-    /// worker is awake, it is at most `LONG_REST`.
+    /// While tasks run, the number is `least`. Each check that finds that no task has run since multiplies it by
+    /// `times`. While any worker is awake, it is at most `LONG_REST`.
     fn rests_of(&self, me: usize, turn: &mut Turn, least: i32, times: i32, told: &AtomicI32) -> i32 {
         let polls = self.workers.iter().map(|worker| worker.0.polls.load(Relaxed)).sum();
         let longer = turn.rests.saturating_mul(times).clamp(least, FOR_EVER);
         turn.rests = if polls != turn.watched { least } else { longer };
         turn.watched = polls;
         told.store(turn.rests, SeqCst);
-        // Written before the check: a worker that wakes first clears its sleeper bit and then reads this number
-        // (`goes_on`).
+        // The number must be stored before the check: a worker that wakes first clears its sleeper bit, and then reads
+        // this number (in `goes_on`).
         if turn.rests > LONG_REST && self.is_anybody_awake(me) {
             turn.rests = LONG_REST;
             told.store(turn.rests, SeqCst);
@@ -384,12 +386,13 @@ impl Shared {
         self.workers.iter().enumerate().any(|(other, line)| sleepers >> other & 1 == 0 && !line.0.away.load(SeqCst))
     }
 
-    /// Wakes a worker so that it checks this one, which has just woken and has something to do that may take long.
+    /// Makes sure that another worker checks this one, which has just woken and is about to run something that may take
+    /// long.
     ///
-    /// If nobody waits in the epoll and there is no deputy (who polls it instead), wakes any sleeping worker, to wait
-    /// there. If the workers that check the others sleep for longer than `LONG_REST`, wakes one of them, so that it
-    /// checks more often again. If only the first worker has a core, also wakes the second worker, which checks the
-    /// first.
+    /// If nobody waits in the epoll and there is no deputy (which polls it instead), wakes any sleeping worker, to wait
+    /// there. If the workers that check the others sleep for longer than `LONG_REST`, wakes one of them, so that its
+    /// checks become frequent again. If only the first worker has a core, also wakes the second worker, which checks
+    /// the first.
     pub(crate) fn goes_on(&self) {
         if self.covers.0.load(SeqCst) > COVER_LONG {
             self.call_cover();

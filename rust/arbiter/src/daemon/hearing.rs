@@ -1,4 +1,4 @@
-//! Reads the messages of all connections before a decision, and carries out each of them.
+//! Reads the messages of all connections, and acts on each of them, before the daemon decides.
 
 use super::{Arbiter, Client, Thread};
 use crate::means::Means;
@@ -10,21 +10,21 @@ use std::io::{ErrorKind, Read};
 use std::os::unix::io::AsRawFd;
 use std::os::unix::net::UnixStream;
 
-/// The most connections of all processes together. There are descriptors for each of them: a client's connection takes
-/// three, of the usual limit of 1,024.
+/// The most connections of all processes together. A client's connection takes three descriptors, so that 300 fit into
+/// the usual limit of 1,024.
 const CONNECTIONS: usize = 300;
-/// The most connections of one process: twice the connections of 64 workers and a control connection.
+/// The most connections of one process: room for two clients of 64 workers, each with a control connection.
 const OF_A_PROCESS: usize = 130;
-/// The most passes over the sockets before the daemon decides. In each pass, the daemon reads at most this many
-/// messages of each connection, and at most this many new connections. So a client that sends all of the time can't
-/// delay a decision.
+/// The daemon reads all sockets at most this many times before it decides. Each time it reads at most this many
+/// messages of each connection, and accepts at most this many new connections. So a client that sends without pause
+/// can't delay a decision.
 const PASSES: usize = 4;
 const MESSAGES: usize = 4;
 const ACCEPTED: usize = 64;
 /// The most clients that the daemon serves at a time. The library's state numbers them from 0 to 63.
 const CLIENTS: usize = 64;
-/// The lowest number of a priority that clients of users other than root and the daemon's own may have. Such clients
-/// get no reserved cores, and each such user may have at most `OF_ANOTHER` clients.
+/// The highest priority (the lowest number) for clients of users other than root and the daemon's own user. Such
+/// clients get no reserved cores, and each such user may have at most `OF_ANOTHER` clients.
 const FOR_OTHERS: u32 = 4;
 const OF_ANOTHER: usize = 16;
 
@@ -36,21 +36,22 @@ pub(super) enum Role {
 
 pub(super) struct Connection {
     pub(super) stream: UnixStream,
-    /// The process id and the user id of the other end.
+    /// The process id and the user id of the process that has connected.
     peer: (u32, u32),
     bytes: [u8; SIZE],
     len: usize,
     pub(super) role: Role,
-    /// True if the connection has ended or was refused. The next `bury` drops the connection.
+    /// True if the connection has ended, or if the daemon has refused a message on it. The next `bury` drops the
+    /// connection.
     pub(super) gone: bool,
 }
 
 impl Arbiter {
-    /// Reads all messages that have arrived. Waits for at most `timeout` milliseconds until a message arrives.
+    /// Reads all messages that have arrived. If there is none, waits for one, for at most `timeout` milliseconds.
     ///
-    /// The call continues until nothing more arrives, for at most four passes. Otherwise the daemon might decide on a
-    /// request before it reads that threads joined or waited, although they did so first. Then cores would go to other
-    /// clients, and be taken back at once.
+    /// Messages that arrive meanwhile are read too, in at most four passes. Otherwise the daemon might decide on a
+    /// client's request before it reads that the client's threads have joined or wait, although they sent that first.
+    /// Then the cores would go to other clients, and be taken back at once.
     pub(super) fn hear(&mut self, timeout: i32) {
         let mut timeout = timeout;
         for _ in 0..PASSES {
@@ -61,8 +62,8 @@ impl Arbiter {
         }
     }
 
-    /// Reads the messages that have arrived, a few of each connection. Returns false if nothing arrives within
-    /// `timeout` milliseconds.
+    /// Makes one pass over the sockets: reads a few messages of each connection. Returns false if no message arrives
+    /// within `timeout` milliseconds.
     fn pass(&mut self, timeout: i32) -> bool {
         self.bury();
         let names: Vec<u64> = self.connections.keys().copied().collect();
@@ -73,7 +74,7 @@ impl Arbiter {
         let fds = streams.chain(processes).chain(sockets);
         let mut fds: Vec<sys::Polled> = fds.map(|fd| sys::Polled { fd, events: 1, seen: 0 }).collect();
         sys::wait(&mut fds, timeout);
-        // Processes that read the status are answered after the decision.
+        // Processes that have connected to read the status get it after the decision.
         fds.pop();
         if fds.iter().all(|it| it.seen == 0) {
             return false;
@@ -90,8 +91,8 @@ impl Arbiter {
                 Err(_) => break,
             }
         }
-        // The messages that a client's threads sent before a request read above have arrived by now, also those of
-        // threads that have connected since.
+        // If a client's threads sent messages before a request that was read above, these have arrived by now, and so
+        // have the connections that the threads made before.
         let others = self.connections.iter().filter(|(_, it)| !matches!(it.role, Role::Control(_)));
         let others: Vec<u64> = others.map(|(&name, _)| name).collect();
         others.into_iter().for_each(|name| self.read(name));
@@ -112,7 +113,7 @@ impl Arbiter {
         self.connections.insert(self.connected, connection);
     }
 
-    /// Reads the messages of a connection that have arrived, at most a few.
+    /// Reads the messages that have arrived on the connection `name`, up to a limit.
     fn read(&mut self, name: u64) {
         for _ in 0..MESSAGES {
             let connection = match self.connections.get_mut(&name) {
@@ -189,7 +190,7 @@ impl Arbiter {
             given: 0,
             forced: 0,
             until: None,
-            // The client stands behind the clients that wait for a turn already.
+            // The clients that are waiting for a turn already come before this one.
             turned: self.turns.count,
             arrives: 2,
             threads: BTreeMap::new(),

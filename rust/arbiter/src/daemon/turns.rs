@@ -1,31 +1,31 @@
-//! Shares a left-over core among the clients of one priority over time: a *turn* moves the core from one client to the
-//! next.
+//! Shares a core that is left over among the clients of one priority, one after the other. A *turn* moves the core from
+//! one client to the next.
 
 use super::{Arbiter, Client};
 use std::collections::BTreeMap;
 use std::time::{Duration, Instant};
 
-/// The most clients to which the daemon tries to move a core at a time: each client that has no thread for the core
-/// costs a decision.
+/// The most clients to which the daemon tries to move a core at a time. Each try needs a decision, even if the client
+/// has no thread for the core.
 const TRIED: usize = 8;
 
 pub(super) struct Turns {
-    /// The time between two moves of a core from client to client, or zero if cores aren't moved so.
+    /// The time between two turns; zero if cores stay with their clients.
     every: Duration,
     looked: Instant,
-    /// A count that grows with each move, and with each time that a client had no thread for a core that was moved to
-    /// it.
+    /// The number of turns so far, plus the number of times that a client had no thread for the core that a turn
+    /// brought.
     pub(super) count: u64,
     current: Option<Turn>,
 }
 
-/// A move of a core, which is in progress, from one client to another of its priority.
+/// A turn that is in progress: it moves a core from one client to another of the same priority.
 struct Turn {
     priority: u32,
     from: u32,
     to: u32,
-    /// For each client of that priority, the number of cores that it will have after the move. Until the move ends, the
-    /// daemon requests no more than this for the client.
+    /// For each client of that priority, how many cores it will have after the turn. Until the turn ends, the daemon
+    /// asks the library for no more cores for that client.
     most: BTreeMap<u32, u32>,
 }
 
@@ -36,8 +36,8 @@ impl Turns {
 }
 
 impl Arbiter {
-    /// Reports to the proved library how many cores a client asks for. During a turn of the client's priority, it
-    /// reports at most what the client will have after the turn, or the client's reserve if that is more.
+    /// Reports to the proved library how many cores a client asks for. During a turn of the client's priority, the
+    /// number is limited to what the client will have after the turn, or to its reserve if that is more.
     pub(super) fn tell(&mut self, id: u32) {
         if let Some(client) = self.clients.get(&id) {
             let turn = self.turns.current.as_ref().filter(|turn| turn.priority == client.priority);
@@ -52,16 +52,16 @@ impl Arbiter {
         ids.into_iter().for_each(|id| self.tell(id));
     }
 
-    /// Returns the time at which the next move may begin, or `None` if a move is in progress or none is possible.
+    /// Returns the time at which the next turn may begin; `None` if a turn is in progress, or if none is possible.
     pub(super) fn next_turn(&self) -> Option<Instant> {
         let Turns { every, looked, current, .. } = &self.turns;
         let may = self.clients.len() > 1 && current.is_none() && !every.is_zero();
         may.then_some(*looked + *every)
     }
 
-    /// Decides how many cores each client is allowed. Ends the turn if a client of its priority is allowed fewer cores
-    /// than the turn would give it: then other clients of that priority, for which fewer cores are requested during the
-    /// turn, may want those cores.
+    /// Decides how many cores each client is allowed. If a client of the turn's priority is allowed fewer cores than
+    /// the turn would give it, ends the turn: other clients of that priority may want those cores, and their requests
+    /// are limited during a turn.
     pub(super) fn decide(&mut self) {
         self.state.decide();
         let most = self.turns.current.as_ref().map_or(BTreeMap::new(), |turn| turn.most.clone());
@@ -71,8 +71,8 @@ impl Arbiter {
         }
     }
 
-    /// Begins to move a core from one client to another of its priority. Returns false if it is not yet time for that,
-    /// or if no core can be moved so. The caller must have carried out all earlier decisions.
+    /// Begins a turn. Returns false if it is too early for one, or if no core can be moved. The caller must have
+    /// carried out all earlier decisions.
     pub(super) fn begin_turn(&mut self) -> bool {
         if !self.next_turn().map_or(false, |at| at <= Instant::now()) {
             return false;
@@ -94,9 +94,9 @@ impl Arbiter {
         false
     }
 
-    /// Returns the next move of a core between two clients of one priority. The taker asks for more cores; the giver
-    /// has more cores than the taker and than the giver's own reserve. Of such clients, the taker is the one that has
-    /// gone without a core for the longest, and the giver the one that has had its core for the longest.
+    /// Returns the next turn, if one is possible. The taker must ask for more cores than it is allowed; the giver must
+    /// be allowed more cores than the taker, and more than its own reserve. If several clients could be the taker or
+    /// the giver, it is the one whose last turn is the longest ago.
     fn find_turn(&self) -> Option<Turn> {
         let alike = |priority| self.clients.iter().filter(move |(_, it)| it.priority == priority);
         let giver = |to: &Client| {
@@ -112,7 +112,7 @@ impl Arbiter {
         Some(Turn { priority: client.priority, from, to, most })
     }
 
-    /// Ends the turn if the client to which it moves a core has that core now. Returns true if the turn has ended.
+    /// Ends the turn if the client that should get the core has it now. Returns true if the turn has ended.
     pub(super) fn end_turn(&mut self) -> bool {
         let (from, to, most) = match &self.turns.current {
             Some(turn) => (turn.from, turn.to, turn.most[&turn.to]),

@@ -13,7 +13,7 @@ use std::sync::mpsc;
 use std::thread;
 use std::time::{Duration, Instant};
 
-/// The time within which everything that a test waits for must happen, even on a busy machine.
+/// A test fails if something that it waits for takes longer than this, even on a busy machine.
 const PATIENCE: Duration = Duration::from_secs(60);
 
 /// The path of a daemon's socket, with methods for the messages of a client.
@@ -26,7 +26,7 @@ impl Socket {
         stream
     }
 
-    /// Connects a client, and returns its control connection and the answer.
+    /// Connects a client to the daemon. Returns its control connection, and the daemon's answer.
     pub fn hello(&self, priority: u32, least: u32) -> (UnixStream, [u32; 4]) {
         let mut stream = self.connect();
         send(&mut stream, [HELLO, VERSION, priority, least << 16 | 64]);
@@ -46,14 +46,14 @@ impl Socket {
         self.join(client, numbers.recv().unwrap(), place, floats)
     }
 
-    /// Joins a thread to a client, and returns its connection.
+    /// Registers the kernel thread `thread` as one of a client's threads. Returns the thread's connection.
     pub fn join(&self, client: u32, thread: u32, place: u32, floats: bool) -> UnixStream {
         let mut stream = self.connect();
         send(&mut stream, [JOIN, client, thread, place << 1 | floats as u32]);
         stream
     }
 
-    /// Starts a kernel thread that waits for a core, and returns its connection.
+    /// Starts a kernel thread that asks for a core and waits. Returns the thread's connection.
     pub fn waiting(&self, client: u32, place: u32) -> UnixStream {
         let mut stream = self.thread(client, place, false);
         send(&mut stream, [WAIT, 0, 0, 0]);
@@ -104,7 +104,7 @@ impl Daemon {
         fs::read_to_string(format!("/proc/{id}/task/{id}/children")).unwrap().trim().parse().unwrap()
     }
 
-    /// Stops the daemon while `f` runs, so all messages that `f` sends have arrived when the daemon continues.
+    /// Stops the daemon while `f` runs. So when the daemon continues, all messages that `f` has sent have arrived.
     pub fn while_it_stands(&self, f: impl FnOnce()) {
         let child = self.child();
         signal(child, "STOP");
@@ -125,9 +125,9 @@ impl Drop for Daemon {
     }
 }
 
-/// Returns the command that starts a daemon: with cpusets if ARBITER_CPUSET names a folder, unless `words` say
-/// otherwise. This daemon doesn't know about hyperthreads, nor about the machine's host, which may take processors
-/// while a test runs.
+/// Returns the command that starts a daemon. It uses cpusets if the environment variable ARBITER_CPUSET names a folder,
+/// unless `words` say otherwise. It ignores hyperthreads, and the host of the machine, which may take processors while
+/// a test runs.
 pub fn run(path: &Path, words: &[&str]) -> Command {
     let mut command = Command::new(program());
     command.arg("run").arg(path).args(words).env("ARBITER_STAT", "/dev/null").env("ARBITER_TOPOLOGY", "/dev/null");
@@ -204,7 +204,7 @@ pub fn processors_of_process(process: &str) -> String {
     text.lines().find_map(|line| line.strip_prefix("Cpus_allowed_list:")).unwrap().trim().into()
 }
 
-/// Waits until a condition holds, and fails if it doesn't within `PATIENCE`.
+/// Waits until `is_so` returns true, and fails if it doesn't within `PATIENCE`.
 pub fn becomes(what: &str, is_so: impl Fn() -> bool) {
     let end = Instant::now() + PATIENCE;
     while !is_so() {
@@ -220,7 +220,7 @@ pub fn other(name: &str, socket: &Socket) -> Command {
     command
 }
 
-/// Returns the socket of the daemon whose test has started this process.
+/// Returns the socket of the daemon of the test that has started this process.
 pub fn given() -> Socket {
     Socket(env::var_os("ARBITER_OF").unwrap().into())
 }

@@ -1,10 +1,9 @@
-//! A client of a Redis server that measures which connections are kept waiting:
-//! `asks PORT CLIENTS IN-FLIGHT MILLISECONDS`.
+//! A client of a Redis server that measures which connections have to wait: `asks PORT CLIENTS IN-FLIGHT MILLISECONDS`.
 //!
 //! Two threads share the connections. On each connection, a *round* is IN-FLIGHT SETs that are sent at once; the next
-//! round begins when all of them are answered. The program prints the time of a round at 50, 99 and 99.9 per cent, by
-//! how many later rounds a round was overtaken, and each connection's rounds and their times. The program also prints
-//! the stretches of time in which the slowest rounds waited.
+//! round begins when all of them are answered. The program prints how long a round takes, at 50, 99 and 99.9 per cent,
+//! by how many later rounds a round was overtaken, and each connection's rounds with their times. It also prints the
+//! periods in which the slowest rounds waited.
 use std::thread;
 use std::time::{Duration, Instant};
 use tokio::io::{AsyncReadExt, AsyncWriteExt};
@@ -12,7 +11,8 @@ use tokio::io::{AsyncReadExt, AsyncWriteExt};
 const THREADS: usize = 2;
 const ANSWER: &[u8] = b"+OK\r\n";
 
-/// A round of a connection: the time at which it was sent and that of its last answer, in nanoseconds.
+/// A round of a connection (several requests sent at once): when it was sent and when its last answer came, in
+/// nanoseconds.
 #[derive(Clone, Copy)]
 struct Round {
     client: usize,
@@ -43,7 +43,7 @@ async fn ask(port: u16, client: usize, flight: usize, start: Instant, time: Dura
     Ok(rounds)
 }
 
-/// Returns for each round the number of rounds that were sent later and answered earlier.
+/// Returns for each round how many rounds were sent later and yet answered earlier.
 fn overtaken(rounds: &[Round]) -> Vec<u64> {
     let mut by_sent: Vec<usize> = (0..rounds.len()).collect();
     by_sent.sort_by_key(|&i| rounds[i].sent);
@@ -51,7 +51,7 @@ fn overtaken(rounds: &[Round]) -> Vec<u64> {
     by_sent.iter().enumerate().for_each(|(at, &i)| rank[i] = at + 1);
     let mut by_answer = by_sent;
     by_answer.sort_by_key(|&i| rounds[i].answered);
-    // A Fenwick tree over the ranks of the rounds that were answered before.
+    // A Fenwick tree (of prefix sums) over the ranks of the rounds that were answered before.
     let (mut tree, mut out) = (vec![0u64; rounds.len() + 1], Vec::with_capacity(rounds.len()));
     for (before, &i) in by_answer.iter().enumerate() {
         let (mut at, mut earlier) = (rank[i], 0);
@@ -75,8 +75,9 @@ fn points(mut numbers: Vec<u64>) -> [u64; 4] {
     [0.5, 0.99, 0.999, 1.0].map(|part| numbers[((numbers.len() as f64 * part) as usize).min(last)])
 }
 
-/// Prints the stretches of time in which a slow round (one in a thousand) waited. The figures are their number, the
-/// median of their lengths, and the median and the maximum of the number of connections that waited in one of them.
+/// Prints the periods of time in which a slow round (one in a thousand) waited. The figures are: how many such periods
+/// there were, the median of their lengths, and the median and the maximum of how many connections waited in one of
+/// them.
 fn stalls(rounds: &[Round]) {
     let times = points(rounds.iter().map(|r| r.answered - r.sent).collect());
     let mut slow: Vec<_> = rounds.iter().filter(|r| r.answered - r.sent >= times[2]).collect();

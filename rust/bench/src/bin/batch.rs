@@ -1,4 +1,4 @@
-//! A batch program, which computes whenever it gets a processor.
+//! A batch program, which computes as long as it has processors.
 //!
 //! `batch threads N` computes on N kernel threads; `batch arachne CORES [SOCKET PRIORITY]` on a runtime with a policy,
 //! and with the arbiter at SOCKET. Every 10 ms, the program prints the time in milliseconds, how many units of work (of

@@ -1,13 +1,13 @@
 //! An open-loop client of a server of Redis's protocol: `due PORT CLIENTS RATE MILLISECONDS [PROCESSOR]`.
 //!
-//! Requests (SETs of 64 bytes) are due at random times, RATE a second on average, even if earlier ones aren't answered
-//! yet. Each request goes to the next of CLIENTS connections. One kernel thread, which never sleeps, sends and
+//! Requests (SETs of 64 bytes) are due at random times, on average RATE a second, and are sent even if earlier ones
+//! aren't answered yet. They go to CLIENTS connections in turn. One kernel thread, which never sleeps, sends and
 //! receives.
 //!
-//! The program prints how many requests were answered a second, and the time from when a request was due until its
-//! answer, in us, at 50, 99 and 99.9 per cent and the maximum. The program prints by how much the client itself was
-//! late to send, at 99 and 99.9 per cent, and how often the client lost its processor for more than 200 us. The first
-//! tenth of the time isn't counted in these figures.
+//! The program prints how many requests a second were answered, and the time from when a request was due until its
+//! answer, in us, at 50, 99 and 99.9 per cent and the maximum. It prints how late the client itself was to send, at 99
+//! and 99.9 per cent, and how often the client lost its processor for more than 200 us. None of these figures includes
+//! the first tenth of the time.
 use std::collections::VecDeque;
 use std::io::{ErrorKind::WouldBlock, Read, Write};
 use std::net::TcpStream;

@@ -4,8 +4,8 @@
 //! LOAD:
 //! - spawn: spawn N tasks from outside, and join each.
 //! - fan: spawn N tasks from within a task, and join each.
-//! - pingpong: two tasks hand a number over N times.
-//! - pairs: 16 pairs of tasks hand numbers over at once, N times in all.
+//! - pingpong: two tasks pass a number to each other, N times.
+//! - pairs: 16 pairs of tasks pass numbers to each other at the same time, N times in all.
 //! - lock: 64 tasks, N critical sections in all, with a yield inside.
 //! - chain: N tasks, each spawned by the one before and awaiting the next.
 //! - yield: 64 tasks, N yields in all.
@@ -19,7 +19,7 @@ use std::time::Instant;
 
 type Boxed<T> = Pin<Box<dyn Future<Output = T> + Send>>;
 
-/// The operations that the loads need from an executor. The operations are generic, so nothing is boxed.
+/// The operations of an executor that the loads need. They are generic, so that no future is boxed.
 trait Exec: Send + Sync + Clone + 'static {
     type Join<T: Send + 'static>: Future<Output = T> + Send;
     fn spawn<F: Future + Send + 'static>(&self, f: F) -> Self::Join<F::Output>
@@ -79,7 +79,7 @@ impl Exec for Smol {
     }
 }
 
-/// A cell for a value and one task that waits for it, the same for each executor.
+/// A cell for a value, in which one task can wait for the value. All executors are measured with the same cell.
 struct Mail(Mutex<(Option<u64>, Option<Waker>)>);
 impl Mail {
     fn new() -> Arc<Mail> {

@@ -1,10 +1,10 @@
 //! An open-loop client, which sends each request when it is due, even if earlier ones aren't answered:
 //! `load redis|served:MICROS PORT RATE:MILLISECONDS..`.
 //!
-//! The client sends SETs of Redis's protocol, or requests of MICROS to `served`, on 32 connections, in phases of RATE
-//! requests a second each. For each phase, the client prints when it begins, and the latencies, counted from the time
-//! at which each request was due. Every 10 ms, the client prints the time in milliseconds, how many requests were due
-//! and answered, and the latency in us at 99 per cent and the maximum.
+//! The client sends SETs of Redis's protocol, or requests to `served` that take MICROS, on 32 connections. In each
+//! phase it sends RATE requests a second for MILLISECONDS. For each phase, it prints when the phase begins, and the
+//! latencies, counted from the time at which each request was due. Every 10 ms, it prints the time in milliseconds, how
+//! many requests were due and answered, and the latency in us at 99 per cent and the maximum.
 use std::collections::VecDeque;
 use std::io::{ErrorKind, Read, Write};
 use std::net::TcpStream;
@@ -18,7 +18,7 @@ const ROW: u64 = 10_000_000;
 
 struct Connection {
     stream: TcpStream,
-    /// The requests that aren't answered yet: when each was due, and in which phase.
+    /// The requests that aren't answered yet: the time at which each was due, and the index of its phase.
     due: VecDeque<(u64, usize)>,
     rest: usize,
 }
@@ -57,7 +57,8 @@ fn main() {
     let clock = SystemTime::now().duration_since(SystemTime::UNIX_EPOCH).unwrap().as_micros() as f64 / 1e3;
     let now = || start.elapsed().as_nanos() as u64;
     let millis = |at: u64| clock + at as f64 / 1e6;
-    // A last phase without requests waits for the answers to earlier ones, for at most two seconds.
+    // A last phase without requests is added, in which the client waits at most two seconds for answers to earlier
+    // ones.
     let phases: Vec<(u64, u64)> = words[2..]
         .iter()
         .map(|phase| phase.split_once(':').expect("RATE:MILLISECONDS"))

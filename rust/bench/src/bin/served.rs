@@ -12,8 +12,8 @@ use std::sync::atomic::{AtomicU64, Ordering::Relaxed};
 use std::thread;
 use std::time::{Duration, Instant, SystemTime};
 
-/// The length of a request, and of its answer, in bytes. Each contains the time at which the request was due, and the
-/// microseconds that its work takes.
+/// The length of a request in bytes, and also of its answer. Each contains the time at which the request was due, and
+/// the microseconds of work that the request takes.
 const SIZE: usize = 16;
 
 fn spin(time: Duration) {
@@ -23,12 +23,12 @@ fn spin(time: Duration) {
     }
 }
 
-/// Returns the milliseconds of a clock that is the same for two processes.
+/// Returns the time in milliseconds, by a clock that all processes share.
 fn clock() -> f64 {
     SystemTime::now().duration_since(SystemTime::UNIX_EPOCH).unwrap().as_micros() as f64 / 1e3
 }
 
-/// Serves each complete request in `buffer`. Returns the length of these requests in bytes.
+/// Answers every complete request in `buffer`. Returns how many bytes these requests have.
 fn serve(buffer: &[u8]) -> usize {
     for request in buffer.chunks_exact(SIZE) {
         spin(Duration::from_micros(u64::from_le_bytes(request[8..].try_into().unwrap())));
@@ -113,8 +113,8 @@ fn connect(port: u16) -> TcpStream {
     stream
 }
 
-/// Keeps `flight` requests unanswered on each connection, for `time`. The client has a kernel thread for each
-/// connection, which sends a new request for each answer.
+/// Keeps `flight` requests in flight on each connection, for `time`. Each connection has a kernel thread, which sends a
+/// new request for each answer.
 fn client(port: u16, connections: u64, flight: usize, micros: u64, time: Duration) {
     static ANSWERED: AtomicU64 = AtomicU64::new(0);
     static SENT: AtomicU64 = AtomicU64::new(0);
@@ -139,7 +139,7 @@ fn client(port: u16, connections: u64, flight: usize, micros: u64, time: Duratio
     println!("{:.0} answers a second", ANSWERED.load(Relaxed) as f64 / start.elapsed().as_secs_f64());
 }
 
-/// Reads answers, and adds the latency of each to `times`: the nanoseconds since its request was due.
+/// Reads answers. For each, adds to `times` the nanoseconds since its request was due.
 fn receive(stream: &mut TcpStream, back: &mut Vec<u8>, start: Instant, times: &mut Vec<u64>) {
     let mut bytes = [0; 4096];
     match stream.read(&mut bytes) {

@@ -1,6 +1,6 @@
-//! An echo server beside tasks that yield for ever: `yields EXECUTOR CORES [TASKS]`, on arachne or tokio. TASKS (by
-//! default one per core) yield while 8 connections each send a byte and wait for it, for two seconds. Prints the times
-//! of these round trips.
+//! Measures an echo server beside tasks that yield for ever: `yields EXECUTOR CORES [TASKS]`, on arachne or tokio.
+//! TASKS tasks (by default one per core) yield. Meanwhile, for two seconds, each of 8 connections sends a byte and
+//! waits for the echo. Prints the times of these round trips.
 use std::io::{Read, Write};
 use std::net::SocketAddr;
 use std::sync::atomic::{AtomicBool, Ordering::Relaxed};

@@ -1,6 +1,6 @@
 //! An echo server on 127.0.0.1, from "Five minutes" in docs/rust.md: `echo [CORES PORT]`.
 //!
-//! The server ends at SIGTERM: idle connections end at once, and other connections within five seconds.
+//! At SIGTERM, idle connections end at once, and all other connections within five seconds; then the server ends.
 use arachne::net::{TcpListener, TcpStream};
 use std::io;
 use std::time::Duration;

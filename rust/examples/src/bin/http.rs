@@ -7,8 +7,8 @@ use std::io;
 const PAGE: &[u8] = b"HTTP/1.1 200 OK\r\nContent-Type: text/plain\r\nContent-Length: 14\r\n\r\nHello, world!\n";
 const BAD: &[u8] = b"HTTP/1.1 400 Bad Request\r\nContent-Length: 0\r\nConnection: close\r\n\r\n";
 
-/// Returns the length of the first request's head, or None if the head is incomplete. The error is for requests other
-/// than GET, which are refused.
+/// Returns the length of the first request's head, or None if the head is incomplete. The error means that the request
+/// isn't a GET, and must be refused.
 fn head(bytes: &[u8]) -> Option<Result<usize, ()>> {
     let end = bytes.windows(4).position(|w| w == b"\r\n\r\n")? + 4;
     Some(if bytes.starts_with(b"GET ") { Ok(end) } else { Err(()) })
@@ -49,7 +49,7 @@ fn main() -> io::Result<()> {
             match listener.accept().await {
                 Ok((stream, _)) => drop(arachne::spawn_balanced(async move { connection(stream).await })),
                 Err(_) if arachne::is_stopping() => return,
-                // Descriptors have run out, or the client has gone: the next client may be accepted.
+                // The process has no descriptor left, or the client is gone. The next client may still be accepted.
                 Err(_) => arachne::sleep(std::time::Duration::from_millis(10)).await,
             }
         }

@@ -1,10 +1,10 @@
 //! A server on 127.0.0.1 for GET, SET, INCR, DEL and PING of Redis's protocol:
 //! `redis CORES PORT [policy [SOCKET PRIORITY]]`.
 //!
-//! The server ends at SIGTERM or when its standard input ends. The commands that it has read by then are answered
-//! within a second, and the server prints how many commands it has accepted, and how many of them it has answered. With
-//! `policy`, the number of active cores follows the load, and every 10 ms the server prints that number. SOCKET and
-//! PRIORITY are those of an arbiter.
+//! The server ends at SIGTERM, or when its standard input ends. Within a second, it then answers the commands that it
+//! has read, and prints how many commands it has accepted and how many of them it has answered. With `policy`, the
+//! number of active workers follows the load, and every 10 ms the server prints that number. SOCKET and PRIORITY are
+//! those of an arbiter.
 use arachne::net::{TcpListener, TcpStream};
 use examples::{wait_for_end, Arguments, Buffer, Store};
 use std::io;
@@ -13,10 +13,10 @@ use std::sync::mpsc::{channel, Receiver};
 use std::sync::Arc;
 use std::time::{Duration, Instant};
 
-/// The number of commands that were accepted, and the number that were answered, on connections that have ended.
+/// The number of commands that were accepted, and of those that were answered, on connections that have ended.
 static COMMANDS: [AtomicU64; 2] = [AtomicU64::new(0), AtomicU64::new(0)];
 
-/// Answers commands until the other side closes the connection, or the runtime's end begins.
+/// Answers commands until the other side closes the connection, or the runtime begins to end.
 async fn answer(stream: &TcpStream, store: &Store, counts: &mut [u64; 2]) -> io::Result<()> {
     let (mut buffer, mut out, mut end) = (Buffer::new(), Vec::new(), arachne::stopping());
     while !arachne::is_stopping() {
@@ -47,8 +47,8 @@ async fn connection(stream: TcpStream, store: Arc<Store>) -> io::Result<()> {
         all.fetch_add(count, SeqCst);
     }
     answered?;
-    // Commands that arrive now are still read, but not accepted: closing a socket with unread bytes would lose the last
-    // answers.
+    // Commands that arrive now are read but not accepted. If the socket were closed with unread bytes, the last answers
+    // would be lost.
     stream.shutdown(std::net::Shutdown::Write)?;
     let mut rest = [0; 4096];
     while stream.read(&mut rest).await? != 0 {}
@@ -65,13 +65,13 @@ async fn accept(listener: TcpListener, store: Arc<Store>) {
                 });
             }
             Err(_) if arachne::is_stopping() => return,
-            // Descriptors have run out, or the client has gone: the next client may be accepted.
+            // The process has no descriptor left, or the client is gone. The next client may still be accepted.
             Err(_) => arachne::sleep(std::time::Duration::from_millis(10)).await,
         }
     }
 }
 
-/// Returns a channel that receives a value at SIGTERM, or once the standard input ends.
+/// Returns a channel that receives a value at SIGTERM, or when the standard input ends.
 fn end() -> io::Result<Receiver<()>> {
     let (sender, ended) = channel();
     let (other, term) = (sender.clone(), arachne::Signal::heard(15)?);

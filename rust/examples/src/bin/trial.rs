@@ -18,8 +18,8 @@ use std::thread;
 use std::time::{Duration, Instant};
 
 /// The length of a message in bytes. A request contains the time at which it was due, in nanoseconds since the trial
-/// began, and the microseconds that its work takes. An answer contains the request's time, and says whether the request
-/// was accepted.
+/// began, and the microseconds of work that the request takes. An answer contains the same time, and a mark that says
+/// if the request was accepted.
 const SIZE: usize = 16;
 
 fn spin(time: Duration) {
@@ -33,7 +33,8 @@ async fn request(bytes: [u8; SIZE], out: Arc<Lock<Arc<TcpStream>>>, ticket: Opti
     let mut answer = bytes;
     let micros = u64::from_le_bytes(bytes[8..].try_into().unwrap());
     if ticket.is_some() {
-        // Requests that have arrived are read, and refused, before the work of this request begins.
+        // The yield lets requests that have arrived be read, and refused if there are too many, before the work of this
+        // one begins.
         arachne::yield_now().await;
         spin(Duration::from_micros(micros));
     }
@@ -81,12 +82,13 @@ fn serve(runtime: &Runtime, most: usize) -> std::net::SocketAddr {
     at
 }
 
-/// The number of requests sent, the answers, and the latencies of accepted requests from the time they were due.
+/// The numbers of requests that were sent and refused, and the latencies of the others, each counted from the time at
+/// which its request was due.
 #[derive(Default)]
 struct Answers {
     sent: u64,
     refused: u64,
-    /// The latency of each accepted answer, and the time at which its request was due.
+    /// For each accepted request, its latency and the time at which it was due.
     times: Vec<(u64, u64)>,
 }
 
@@ -231,7 +233,7 @@ fn blocking() {
     println!("slow polls {}, tasks that the watcher ran {}", stats.slow_polls, stats.rescued);
 }
 
-/// A cell for a number and one task that waits for it.
+/// A cell for a number, in which one task can wait for the number.
 #[derive(Default)]
 struct Mail(Mutex<(Option<u64>, Option<Waker>)>);
 impl Mail {
@@ -325,8 +327,8 @@ fn waiting(cores: usize) {
     println!("all were woken and have ended after {:?}", start.elapsed());
 }
 
-/// Sends commands, 64 at a time, until the server closes the connection. Returns the number that were answered on this
-/// connection, and adds it to `all`.
+/// Sends commands, 64 at a time, until the server closes the connection. Returns how many of them were answered, and
+/// adds this number to `all`.
 fn ask(port: u16, all: &AtomicU64) -> u64 {
     let mut stream = std::net::TcpStream::connect(("127.0.0.1", port)).unwrap();
     stream.set_nodelay(true).unwrap();
@@ -334,7 +336,7 @@ fn ask(port: u16, all: &AtomicU64) -> u64 {
     let mut bytes = [0; 4096];
     loop {
         if rest == 0 {
-            // If the server reads no more, only its last answers and the connection's end are left to read.
+            // If the server no longer reads, only its last answers and the connection's end are still to be read.
             rest = 64;
             let _ = stream.write_all(commands.as_bytes());
         }
@@ -348,7 +350,7 @@ fn ask(port: u16, all: &AtomicU64) -> u64 {
     }
 }
 
-/// Sends SIGTERM to a server with 50 connections of 64 commands in flight each, after a million answers.
+/// After a million answers, sends SIGTERM to a server that has 50 connections with 64 commands in flight each.
 fn drain(cores: usize) {
     let program = std::env::current_exe().unwrap().with_file_name("redis");
     let port = std::net::TcpListener::bind("127.0.0.1:0").unwrap().local_addr().unwrap().port();
@@ -383,7 +385,7 @@ fn drain(cores: usize) {
     assert_eq!(line.trim(), format!("accepted {answered} answered {answered} aborted 0"));
 }
 
-/// Does the work of one task of `soak`, of the kind `what`.
+/// Does the work of one task of the trial `soak`; `what` is the kind of work.
 async fn soaked(what: u64, lock: Arc<Lock<u64>>, done: Arc<AtomicU64>) {
     match what {
         0 => arachne::yield_now().await,
@@ -397,7 +399,8 @@ async fn soaked(what: u64, lock: Arc<Lock<u64>>, done: Arc<AtomicU64>) {
     done.fetch_add(1, Relaxed);
 }
 
-/// Runs tasks of eight kinds, 10,000 at once, for `seconds`. Every 30 s, prints their count and the resident memory.
+/// Runs tasks of eight kinds, 10,000 at a time, for `seconds`. Every 30 s, prints how many have run, and the resident
+/// memory.
 fn soak(cores: usize, seconds: u64) {
     let runtime = Runtime::new(cores);
     let (lock, done) = (Arc::new(Lock::new(0)), Arc::new(AtomicU64::new(0)));
@@ -424,7 +427,7 @@ fn soak(cores: usize, seconds: u64) {
         }
     }
     let time = start.elapsed();
-    // The handle of a task may be woken before the task's worker has put the task back.
+    // A task's handle may be woken a moment before its worker has freed the task's slot.
     (0..1000).take_while(|_| runtime.live() != 0).for_each(|_| thread::sleep(Duration::from_millis(1)));
     println!("{} tasks in {time:?}, live at the end {}", total * 9 / 8, runtime.live());
 }
