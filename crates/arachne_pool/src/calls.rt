@@ -18,7 +18,7 @@ impl<C: Seats> Pool<C> {
     ghost use Rattle.arachne_pool.specs.Calls.{HasSeatAfter};
     ghost use Rattle.arachne_pool.specs.Grounds.{ground_at};
     ghost use Rattle.arachne_pool.specs.Waking.{HasWoken};
-    ghost use Rattle.arachne_pool.specs.Workers.{IsArbiterFor, IsIdleAt, IsWorkerOf, WorksFor};
+    ghost use Rattle.arachne_pool.specs.Workers.{IsIdleAt, IsWorkerOf, WorksFor};
 
     /// Makes one round on a core: carries out the orders to open or close cores that are due, gives each job that is
     /// ready on the core a slice, and gives a place to a job of the worker that waits for one. Returns whether there
@@ -84,7 +84,7 @@ impl<C: Seats> Pool<C> {
             self.stop();
             return Err(PoolFault::Token);
         };
-        let ended = run(rounds, self);
+        let ended = run(rounds);
         if !self.leave(worker, core, &mut kernel) {
             self.stop();
             return Err(PoolFault::Token);
@@ -151,7 +151,8 @@ impl<C: Seats> Pool<C> {
         unreachable!()
     }
 
-    /// Begins a call of a worker on a core, with all that the worker has. Returns `None` if the worker has no seat.
+    /// Begins a call of a worker on a core. Returns the loop that makes its rounds, with all that the worker has, which
+    /// has nothing meanwhile, or `None` if the worker has no seat.
     fn enter<'a, H: Wait + Clock, J: PoolJob>(
         &'a self,
         rt: &'a H,
@@ -173,34 +174,14 @@ impl<C: Seats> Pool<C> {
             self.shared.hint_cores(1 << u32::from(before));
         }
         let seat = worker.seat.take()?;
-        Some(self.open(rt, worker, seat, works))
-    }
-
-    /// Returns the loop that makes the rounds of a call, with the worker's seat and data. As long as the loop has the
-    /// seat and the data, `worker` has none.
-    fn open<'a, H: Wait + Clock, J: PoolJob>(
-        &'a self,
-        rt: &'a H,
-        worker: &mut Worker<C::Seat, J>,
-        seat: C::Seat,
-        works: bool,
-    ) -> CoreWorker<'a, H, Seat<'a, H, J, C>>
-    where
-        C: Contexts<Spawned<J>>,
-        requires seat { IsIdleAt C.sits C.idle self.now.table seat }
-        requires orders { IsArbiterFor self.now.cores worker.old.arbiter }
-        requires core { worker.old.core < self.now.cores }
-        ensures { result.desk ≡ ground_at self.now.table self.now.cores }
-    {
         let empty = Worker::new(worker.bench.alloc, None, 0);
         let Worker {
             bench,
-            core,
             agenda,
             pace,
             ..
         } = replace(worker, empty);
-        CoreWorker {
+        Some(CoreWorker {
             rt,
             shared: &self.shared,
             core,
@@ -221,7 +202,7 @@ impl<C: Seats> Pool<C> {
                 has_taken: false,
                 bench,
             },
-        }
+        })
     }
 
     /// Ends a call: the worker gets back the seat and the data with which it began. Returns whether the worker has a
@@ -270,18 +251,9 @@ impl<C: Seats> Pool<C> {
     }
 }
 
-/// A worker's desk (its access to the table and to the job in hand), as the rounds use it beside the worker's loop.
-///
-/// The trait has no associated types, so that the functions over it are proved in a fraction of the time.
-pub(crate) trait PoolDesk: Desk {
-    /// Returns whether memory was refused since the last call.
-    fn take_short(&mut self) -> bool
-        ensures { self.new ≡ self.old };
-}
-
 /// Makes one round, and a second one if the first only moved a job to this core. Returns whether the last round found
 /// anything to do.
-pub(crate) fn run_once<H: Wait + Clock, D: PoolDesk>(
+fn run_once<H: Wait + Clock, D: Desk>(
     kernel: &mut CoreWorker<'_, H, D>,
 ) -> Result<bool, PoolFault>
     ensures { kernel.new.desk ≡ kernel.old.desk }
@@ -299,9 +271,8 @@ pub(crate) fn run_once<H: Wait + Clock, D: PoolDesk>(
 }
 
 /// Makes rounds until the pool has finished or its workers are stopped.
-pub(crate) fn run<H: Wait + Clock, C: Seats, D: PoolDesk>(
-    kernel: &mut CoreWorker<'_, H, D>,
-    pool: &Pool<C>,
+fn run<'a, H: Wait + Clock, J: PoolJob, C: Contexts<Spawned<J>>>(
+    kernel: &mut CoreWorker<'a, H, Seat<'a, H, J, C>>,
 ) -> Result<(), PoolFault>
     ensures { kernel.new.desk ≡ kernel.old.desk }
 {
@@ -309,7 +280,7 @@ pub(crate) fn run<H: Wait + Clock, C: Seats, D: PoolDesk>(
     let mut idle: u32 = 0;
     let mut may_be_over = true;
     for _ in kernel.rt.forever() {
-        if kernel.shared.is_stopped() || may_be_over && pool.is_over() {
+        if kernel.shared.is_stopped() || may_be_over && kernel.desk.pool.is_over() {
             if idle > 0 && kernel.shared.hints().is_asleep(kernel.core) {
                 // The worker's sleep timed out: nobody has woken the worker at the end.
                 kernel.desk.told(WorkerEvent::Overslept);
@@ -318,7 +289,7 @@ pub(crate) fn run<H: Wait + Clock, C: Seats, D: PoolDesk>(
         }
         let slices = kernel.slices;
         let found = kernel.round(idle)?;
-        if kernel.desk.take_short() {
+        if replace(&mut kernel.desk.bench.is_short, false) {
             return Err(PoolFault::Memory);
         }
         // A round without a slice may have parked, and the worker may have been unparked because all jobs have ended.

@@ -4,7 +4,6 @@ ghost use Rattle.arachne_pool.specs.Grounds.{in_hand};
 ghost use Rattle.arachne_pool.specs.Stops.{rests_as};
 ghost use Rattle.arachne_pool.specs.Workers.{IsIdleAt};
 
-use crate::calls::PoolDesk;
 use crate::job::PoolJob;
 use crate::place::{place_oldest, post_oldest};
 use crate::pool::Pool;
@@ -277,12 +276,6 @@ impl<'a, H: Wait, J: PoolJob, C: Contexts<Spawned<J>>> Desk for Seat<'a, H, J, C
     }
 }
 
-impl<'a, H: Wait, J: PoolJob, C: Contexts<Spawned<J>>> PoolDesk for Seat<'a, H, J, C> {
-    fn take_short(&mut self) -> bool {
-        replace(&mut self.bench.is_short, false)
-    }
-}
-
 impl<'a, H: Wait, J: PoolJob, C: Contexts<Spawned<J>>> Seat<'a, H, J, C> {
     /// Runs the job in hand for at most `left` steps. If a job ends without joining all of its children, releases these
     /// first. Returns `Waits` if no job is in hand.
@@ -296,14 +289,13 @@ impl<'a, H: Wait, J: PoolJob, C: Contexts<Spawned<J>>> Seat<'a, H, J, C> {
         };
         let bench = &mut self.bench;
         let may_post = self.pool.has_room();
-        let stop = held
-            .value
-            .slice(&mut bench.cells, &mut bench.tally, left, may_post);
+        let stack = &mut held.value.stack;
+        let stop = stack.slice(&mut bench.cells, &mut bench.tally, left, may_post);
         if stop != JobStop::LetsGo || !bench.let_go(&mut held.value) {
             return stop;
         }
-        held.value
-            .slice(&mut bench.cells, &mut bench.tally, left, may_post)
+        let stack = &mut held.value.stack;
+        stack.slice(&mut bench.cells, &mut bench.tally, left, may_post)
     }
 
     /// Counts the jobs that began and ended until the job in hand ended. Returns the parent of that job, if the parent
