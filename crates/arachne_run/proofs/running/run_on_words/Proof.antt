@@ -23,8 +23,8 @@ seat_send T send = search (sendable, seat.the_send, send) depth 20
 -- is checked. It is by hand, since the module of the function's goals, which an Answers.antt needs, takes more steps than
 -- the prover allows.
 pub run_on_words_spec : {M : Type 1} → statement M
-run_on_words_spec = tie.close (λ T1 T2 T3 T4 T5 T6 T7 L1 L2 L3 L4 L5 L6 L7 P H-Threads H-Threads-dict H-Wait H-Wait-dict H-Clock H-Clock-dict T-JobOf T-JobOf-dict T-RunJob T-RunJob-dict T-RunThread T-RunThread-dict T-Tagged T-Tagged-dict T-Ticket-RunTicket T-Ticket-RunTicket-dict T-Ticket-Tagged T-Ticket-Tagged-dict T-Spares-RunSpares T-Spares-RunSpares-dict R-Rng R-Rng-dict G-Gate G-Gate-dict T-Destruct-dict R-Destruct-dict T-Child-Destruct-dict T-Ticket-Destruct-dict T-Spares-Destruct-dict world b1 b2 b3 b4 b5 b6 b7 b8 b9 b10 b11 b12 b13 b14 b15 b16 b17.
-    tie.spec T1 T2 T3 T4 T5 T6 T7 L1 L2 L3 L4 L5 L6 L7 P H-Threads H-Threads-dict H-Wait H-Wait-dict H-Clock H-Clock-dict T-JobOf T-JobOf-dict T-RunJob T-RunJob-dict T-RunThread T-RunThread-dict T-Tagged T-Tagged-dict T-Ticket-RunTicket T-Ticket-RunTicket-dict T-Ticket-Tagged T-Ticket-Tagged-dict T-Spares-RunSpares T-Spares-RunSpares-dict R-Rng R-Rng-dict G-Gate G-Gate-dict T-Destruct-dict R-Destruct-dict T-Child-Destruct-dict T-Ticket-Destruct-dict T-Spares-Destruct-dict
+run_on_words_spec = tie.close (λ row1 row2 row3 row4 row5 row6 row7 laws1 laws2 laws3 laws4 laws5 laws6 laws7 P H-Threads H-Threads-dict H-Wait H-Wait-dict H-Clock H-Clock-dict T-JobOf T-JobOf-dict T-RunJob T-RunJob-dict T-RunThread T-RunThread-dict T-Tagged T-Tagged-dict T-Ticket-RunTicket T-Ticket-RunTicket-dict T-Ticket-Tagged T-Ticket-Tagged-dict T-Spares-RunSpares T-Spares-RunSpares-dict R-Rng R-Rng-dict G-Gate G-Gate-dict T-Destruct-dict R-Destruct-dict T-Child-Destruct-dict T-Ticket-Destruct-dict T-Spares-Destruct-dict world b1 b2 b3 b4 b5 b6 b7 b8 b9 b10 b11 b12 b13 b14 b15 b16 b17.
+    tie.spec row1 row2 row3 row4 row5 row6 row7 laws1 laws2 laws3 laws4 laws5 laws6 laws7 P H-Threads H-Threads-dict H-Wait H-Wait-dict H-Clock H-Clock-dict T-JobOf T-JobOf-dict T-RunJob T-RunJob-dict T-RunThread T-RunThread-dict T-Tagged T-Tagged-dict T-Ticket-RunTicket T-Ticket-RunTicket-dict T-Ticket-Tagged T-Ticket-Tagged-dict T-Spares-RunSpares T-Spares-RunSpares-dict R-Rng R-Rng-dict G-Gate G-Gate-dict T-Destruct-dict R-Destruct-dict T-Child-Destruct-dict T-Ticket-Destruct-dict T-Spares-Destruct-dict
     (λ c κs within. (
       (within.0, tt),
       (
@@ -32,7 +32,7 @@ run_on_words_spec = tie.close (λ T1 T2 T3 T4 T5 T6 T7 L1 L2 L3 L4 L5 L6 L7 P H-
         (
           within.1.1.0,
           (
-            words_laws.the_within T2 T-Tagged _ within.1.1.1.0,
+            words_laws.the_within row2 T-Tagged _ within.1.1.1.0,
             (
               within.1.1.1.1.0,
               (
@@ -48,7 +48,7 @@ run_on_words_spec = tie.close (λ T1 T2 T3 T4 T5 T6 T7 L1 L2 L3 L4 L5 L6 L7 P H-
                         (
                           ⊑_static _,
                           (
-                            seat_laws.the_within T2 _ within.1.1.1.1.1.1.1.1.1,
+                            seat_laws.the_within row2 _ within.1.1.1.1.1.1.1.1.1,
                             (
                               search (sendable, c.requires.1.1.1.1.1.1.1.0) depth 20,
                               (
@@ -64,7 +64,7 @@ run_on_words_spec = tie.close (λ T1 T2 T3 T4 T5 T6 T7 L1 L2 L3 L4 L5 L6 L7 P H-
                                         (
                                           search (sendable, hold.the_send) depth 20,
                                           (
-                                            param_send _ _ (arg_send _ no _ (seat_send (param 1 T2) c.requires.1.1.1.1.1.1.1.0)),
+                                            param_send _ _ (arg_send _ no _ (seat_send (param 1 row2) c.requires.1.1.1.1.1.1.1.0)),
                                             (
                                               search (sendable, c.requires.1.1.1.1.1.1.1.1.1.1.1.1.0) depth 20,
                                               (
