@@ -127,27 +127,29 @@ impl Exec {
         unsafe { c::arachne_exec_ready(&mut self.handle, block) }
     }
 
-    /// Takes up to so many of a block's ready jobs at once: their places, a bit for each. The lowest is the newest in
-    /// hand.
+    /// Takes up to `most` of the ready jobs of a block in one step. Returns their slots, a bit for each.
+    ///
+    /// The job of the lowest bit is the one that `start` returns first.
     pub fn take_many(&mut self, block: usize, most: u32) -> u64 {
         unsafe { c::arachne_exec_take_many(&mut self.handle, block, most) }
     }
 
-    /// The newest job in hand, which is about to run. None where there is none.
+    /// Returns the newest job that this handle holds, which is about to run, or `None` if it holds none.
     pub fn start(&mut self) -> Option<Job> {
         let told = unsafe { c::arachne_exec_start(&mut self.handle) };
         (told.code == c::RUN).then_some(Job { name: told.name, number: told.job })
     }
 
-    /// The job in hand is ready again: whose thread is to be unparked. None where there is none.
+    /// Makes the job that this handle holds ready again. Returns the number of the worker to unpark, if there is one, or
+    /// `None` if the handle holds no job.
     pub fn rest_ready(&mut self) -> Option<Option<u32>> {
         let told = unsafe { c::arachne_exec_rest_ready(&mut self.handle) };
         (told.code == c::READY).then(|| whom(&told))
     }
 
-    /// Ends the executor: the jobs that were spawned and haven't ended. The seat comes back where another wasn't
-    /// joined, a
-    /// job is in hand, or there is no memory.
+    /// Ends the executor. Returns the jobs that were spawned and haven't ended.
+    ///
+    /// Returns the handle if another one wasn't joined, if this one holds a job, or if memory is refused.
     pub fn end(mut self) -> Result<Vec<u64>, Exec> {
         let mut left = vec![0; 4096 * self.shards];
         let told = unsafe { c::arachne_exec_end(&mut self.handle, left.as_mut_ptr(), left.len()) };

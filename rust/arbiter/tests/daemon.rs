@@ -501,7 +501,7 @@ fn all_threads_that_one_with_a_core_begins_leave_it() {
     }
 }
 
-/// What a thread begins stands in the thread's own cpuset.
+/// Once a thread has left, the daemon empties and removes its cpuset, in which the threads that it began stand too.
 #[test]
 fn the_cpuset_of_a_thread_that_has_left_is_emptied_and_removed() {
     let folder = match env::var_os("ARBITER_CPUSET") {
