@@ -140,8 +140,9 @@ impl Exec {
         (told.code == c::RUN).then_some(Job { name: told.name, number: told.job })
     }
 
-    /// Makes the job that this handle holds ready again. Returns the number of the worker to unpark, if there is one, or
-    /// `None` if the handle holds no job.
+    /// Makes the job that this handle holds ready again.
+    ///
+    /// Returns the number of the worker to unpark, if there is one, or `None` if the handle holds no job.
     pub fn rest_ready(&mut self) -> Option<Option<u32>> {
         let told = unsafe { c::arachne_exec_rest_ready(&mut self.handle) };
         (told.code == c::READY).then(|| whom(&told))
