@@ -26,8 +26,7 @@ struct Row {
 }
 
 /// A thread's handles: one to work with, one to wake others, and which worker it is. A handle is written by each call,
-/// so
-/// those of two threads stand on cache lines of their own.
+/// so those of two threads stand on cache lines of their own.
 #[repr(align(128))]
 struct Library {
     exec: ArachneExec,
