@@ -570,7 +570,7 @@ struct Crew<'p, C: Seats> {
 }
 
 impl<'p, C: Contexts<Spawned<Task>>> Team<Share<C::Seat>> for Crew<'p, C> {
-    ghost has = { λ crew share. IsWorkerOf C.sits C.idle crew.pool.now.table crew.pool.now.cores share.worker };
+    ghost has = { λ crew share. IsWorkerOf crew.pool.now share.worker };
 
     ghost size = { λ crew. 2 };
 

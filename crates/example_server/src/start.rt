@@ -46,7 +46,7 @@ fn begin<C: Contexts<Spawned<Job>> + Drop>(
     settings: Settings,
     clock: HostRuntime,
 ) -> Result<(Server<'_, C>, Share<C::Seat>), AllocError>
-    ensures worker { IfOk result (λ made. IsWorkerOf C.sits C.idle made.0.pool.table made.0.pool.cores made.1.worker) }
+    ensures worker { IfOk result (λ made. IsWorkerOf made.0.pool made.1.worker) }
     ensures requests { IfOk result (λ made. made.0.requests.now ≡ requests.now) }
     ensures report { IfOk result (λ made. made.1.report ≡ None) }
     ensures some { IfOk result (λ made. 1 ≤ made.0.pool.cores) }
@@ -78,7 +78,7 @@ fn end<C: Contexts<Spawned<Job>> + Drop, R: Wait>(
     pool: Pool<C>,
     share: Share<C::Seat>,
 ) -> Option<Report>
-    requires { IsWorkerOf C.sits C.idle pool.table pool.cores share.worker }
+    requires { IsWorkerOf pool share.worker }
     ensures { IfSome result (λ report. share.report ≡ Some report) }
 {
     let Share { worker, report } = share;
