@@ -11,7 +11,6 @@ use Rattle.arachne_rule.specs.Views.{carried_at}
 use Rattle.arachne_rule.specs.Rule.{carried_of, Board, Phase, Shows}
 use Rattle.arachne_rule.specs.Plays.{Carries}
 use Rattle.arachne_rule.proofs.Shares.{my-share}
-use Rattle.arachne_rule.proofs.Marking.{no-carried}
 use Rattle.arachne_rule.proofs.Slots.{carried-says, carried-alone}
 
 module _ {T : Type 0} (tag_in : T → ℕ) (bits : ℕ) (w : World) (d : ℕ → Phase) (b : Board T) (s : Shows tag_in bits w d b)
@@ -24,7 +23,7 @@ module _ {T : Type 0} (tag_in : T → ℕ) (bits : ℕ) (w : World) (d : ℕ →
         let first = my-share tag_in bits w d b s h weight k mine x c x_in got in
         let second = my-share tag_in bits w d b s j added o theirs x f x_in also in
         let none = carried-alone (w.state x) j h (carried_of w d x) (carried_of w d x) f second n in
-        absurd (no-carried c (sym first ∙ none))
+        cc (sym first ∙ none)
   ]
 
   -- what two seats carry at one place is one context, and they are one seat

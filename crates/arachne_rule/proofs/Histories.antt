@@ -21,17 +21,7 @@ use Rattle.arachne_rule.specs.Table.{Table, Tells}
 -- an event changes no size
 pub same_size : (w : World) (e : Event) → ((after w e).cores ≡ w.cores) × ((after w e).slots ≡ w.slots) × ((after w e).last ≡ w.last)
 same_size w (event.Claim h x) = (refl, refl, refl)
-same_size w (event.Alone h x) = (refl, refl, refl)
-same_size w (event.Post h x t) = (refl, refl, refl)
-same_size w (event.Take h x) = (refl, refl, refl)
-same_size w (event.Rest h x r) = (refl, refl, refl)
-same_size w (event.Wake id) = (refl, refl, refl)
-same_size w (event.Retire h x) = (refl, refl, refl)
-same_size w (event.Release h x) = (refl, refl, refl)
-same_size w (event.CloseCore c) = (refl, refl, refl)
-same_size w (event.OpenCore c) = (refl, refl, refl)
-same_size w (event.Move h x y) = (refl, refl, refl)
-same_size w event.Still = (refl, refl, refl)
+same_size w _ = (refl, refl, refl)
 
 pub there-in : {A : Type 0} (xs : List A) (i : ℕ) (v : A) → get_elem? xs i ≡ some v → i < length xs
 there-in [] i v e = absurd (some-ne-none v (sym e))

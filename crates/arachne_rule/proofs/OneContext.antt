@@ -3,7 +3,7 @@ use Rattle.std.proofs.Common.{◌≡◌, ℕ, ◌<◌, Bool, true, false, cond, 
 use Rattle.std.proofs.lemmas.Bool.{cases_eq}
 use Rattle.arachne_core.specs.declared.place.Place.{Place}
 use Rattle.arachne_core.specs.declared.state.State.{State}
-use Rattle.arachne_core.specs.declared.state.State.TheVariants.{Free, Claimed, Ready, Blocked, Held, Spent}
+use Rattle.arachne_core.specs.declared.state.State.TheVariants.{Free, Claimed, Held, Spent}
 use Rattle.arachne_core.specs.Marked.{mark_word}
 use Rattle.arachne_core.specs.World.{World, Thread, IsContext, IsPlace, core_of}
 use Rattle.arachne_core.specs.OwnedOnce.{OwnedOnce}
@@ -28,20 +28,15 @@ abbrev pub changed : World → Change → World
 changed w c = record w { state = c.state; generation = c.generation; occupied = c.occupied; closed = c.closed; alone = c.alone; given = c.given; ended = c.ended }
 
 alone-same : (s : State) (a b : Bool) → ((s ≡ Free → ⊥) → a ≡ b) → (is_live_state s && a) ≡ (is_live_state s && b)
-alone-same (Ready t) a b e = e (λ f. cc)
-alone-same (Blocked t) a b e = e (λ f. cc)
-alone-same (Held h w t) a b e = e (λ f. cc)
 alone-same Free a b e = refl
 alone-same (Claimed h) a b e = refl
 alone-same Spent a b e = refl
+alone-same _ a b e = e (λ f. cc)
 
 carried-same : (s : State) (h : ℕ) (f g : Bool → ℕ → Carried) → ((s ≡ Free → ⊥) → (held : Bool) (tag : ℕ) → f held tag ≡ g held tag) → carried_if s h f ≡ carried_if s h g
 carried-same (Claimed k) h f g e = ap (λ (r : Carried). cond (eqb k h) (r ∷ []) []) (e (λ q. cc) false 0)
 carried-same (Held k w t) h f g e = ap (λ (r : Carried). cond (eqb k h) (r ∷ []) []) (e (λ q. cc) true t)
-carried-same Free h f g e = refl
-carried-same (Ready t) h f g e = refl
-carried-same (Blocked t) h f g e = refl
-carried-same Spent h f g e = refl
+carried-same _ h f g e = refl
 
 module _ {T : Type 0} (tag_in : T → ℕ) (bits : ℕ) where
   -- nothing has changed except at context x

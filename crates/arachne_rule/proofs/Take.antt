@@ -1,6 +1,5 @@
 -- A take.
-use Rattle.std.proofs.Common.{◌≡◌, ℕ, Bool, true, false, ◌&&◌, ◌∷◌, refl, sym, ap, ◌∙◌, subst, set, []}
-use Rattle.std.proofs.lemmas.Bool.{true≢false}
+use Rattle.std.proofs.Common.{◌≡◌, ℕ, Bool, true, false, ◌&&◌, ◌∷◌, refl, sym, ap, ◌∙◌, subst, set, [], true≢false}
 use mathlib.Core.Option as opt
 use lib.ListN.{get_elem?}
 use Rattle.std.specs.declared.option.Option.TheVariants.{Some}
