@@ -1,13 +1,10 @@
 -- Lists of carried contexts, and views of which one is changed.
 use Rattle.std.proofs.Common.{◌≡◌, ℕ, zero, suc, ◌+◌, cond, eqb, List, ◌∷◌, length, set, get_or, refl, sym, ap, ◌∙◌, arith, inl, inr, []}
-use Rattle.std.proofs.lemmas.List.{get_or-set_other}
-use Rattle.std.proofs.lemmas.Bool.{eq-eqb, ne_eqb, cases_eq, cond-true, cond-false}
+use Rattle.std.proofs.lemmas.{List.get_or-set_other, Bool.{eq-eqb, ne_eqb, cases_eq, cond-true, cond-false}}
 use mathlib.Core.Option.{some, some-injective, some-ne-none}
 use lib.ListN.{get_elem?}
-use Rattle.arachne_weights.specs.declared.token.Token.{Token}
-use Rattle.arachne_weights.specs.Tokens.{spent}
-use Rattle.arachne_rule.specs.declared.view.Carried.{Carried}
-use Rattle.arachne_rule.specs.declared.view.Known.{Known}
+use Rattle.arachne_weights.specs.{declared.token.Token.Token, Tokens.spent}
+use Rattle.arachne_rule.specs.declared.view.{Carried.Carried, Known.Known}
 use Rattle.arachne_rule.specs.Views.{blank, known_at, carried_at, without, with_carried}
 
 pub without-at : (x : ℕ) (gs : List Carried) → carried_at x (without x gs) ≡ []

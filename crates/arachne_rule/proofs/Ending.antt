@@ -6,27 +6,18 @@ use mathlib.Core.Option as opt
 use Rattle.std.proofs.Common.{Option, None, Some, ◌&&◌}
 use lib.ListN.{get_elem?}
 use Rattle.std.specs.declared.option.Option.TheVariants.{None, Some}
-use Rattle.arachne_core.specs.declared.place.Place.{Place}
-use Rattle.arachne_core.specs.declared.state.State.{State}
+use Rattle.arachne_core.specs.declared.{place.Place.Place, state.State.State}
 use Rattle.arachne_core.specs.declared.state.State.TheVariants.{Free, Claimed, Ready, Blocked, Held, Spent}
-use Rattle.arachne_core.specs.Marked.{Marked, marked_of}
-use Rattle.arachne_core.specs.World.{World, Thread, IsContext, same_thread}
+use Rattle.arachne_core.specs.{Marked.{Marked, marked_of}, World.{World, Thread, IsContext, same_thread}}
 use Rattle.arachne_core.specs.OwnedOnce.{is_live, has_thread}
-use Rattle.arachne_weights.specs.declared.token.Token.{Token}
-use Rattle.arachne_weights.specs.Weight.{whole}
-use Rattle.arachne_weights.specs.Tokens.{held, spent}
+use Rattle.arachne_weights.specs.{declared.token.Token.Token, Weight.whole, Tokens.{held, spent}}
 use Rattle.arachne_weights.proofs.Tokens.{whole-alone, whole-total}
-use Rattle.arachne_rule.specs.declared.view.Carried.{Carried}
-use Rattle.arachne_rule.specs.declared.view.Known.{Known}
-use Rattle.arachne_rule.specs.declared.view.Shape.{Shape}
+use Rattle.arachne_rule.specs.declared.view.{Carried.Carried, Known.Known, Shape.Shape}
 use Rattle.arachne_rule.specs.Views.{blank, known_at, carried_at}
 use Rattle.arachne_rule.specs.Rule.{Coherent, carried_if, carried_of, HasValue, Board, Phase, Shows}
-use Rattle.arachne_rule.specs.Layout.{contexts_in, board_of}
-use Rattle.arachne_rule.specs.Table.{Table, Holds}
+use Rattle.arachne_rule.specs.{Layout.{contexts_in, board_of}, Table.{Table, Holds}}
 use Rattle.arachne_rule.specs.Ending.{left_from, threads_of, IsSettled}
-use Rattle.arachne_rule.proofs.Carrying.{known-there}
-use Rattle.arachne_rule.proofs.Views.{more-threads}
-use Rattle.arachne_rule.proofs.Seen.{seen}
+use Rattle.arachne_rule.proofs.{Carrying.known-there, Views.more-threads, Seen.seen}
 
 -- no seat claims or holds the context
 abbrev pub IsLeft : State → Type 0

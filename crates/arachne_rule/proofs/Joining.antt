@@ -1,20 +1,16 @@
 -- A split and a join of seats, neither of which changes the World. A seat that is joined into another carries nothing.
 use Rattle.std.proofs.Common.{◌≡◌, ◌≢◌, ℕ, zero, suc, ◌+◌, cond, List, ◌∷◌, ◌++◌, length, refl, sym, ap, ◌∙◌, arith, inl, inr, set, get_or, [], count_by}
-use Rattle.std.proofs.Math.Seq.{get_or-append_seam}
-use Rattle.std.proofs.lemmas.List.{get_or_past}
+use Rattle.std.proofs.{Math.Seq.get_or-append_seam, lemmas.List.get_or_past, lemmas.List.Sums.sum_by-append}
 use Rattle.std.specs.List.{sum_by}
-use Rattle.std.proofs.lemmas.List.Sums.{sum_by-append}
 use Rattle.std.proofs.lemmas.Bool.{cases_eq}
 use mathlib.Core.Option as opt
 use lib.ListN.{get_elem?}
 use Rattle.atomic_table.proofs.Lists.{set_else}
 use Rattle.arachne_core.specs.World.{World, Thread, IsContext, same_thread}
-use Rattle.arachne_weights.specs.declared.token.Token.{Token}
-use Rattle.arachne_weights.specs.Weight.{first_part, second_part, joined}
+use Rattle.arachne_weights.specs.{declared.token.Token.Token, Weight.{first_part, second_part, joined}}
 use Rattle.arachne_weights.specs.Tokens.{held, spent, splits, joins}
 use Rattle.arachne_weights.proofs.Totals.{total-set, total-snoc}
-use Rattle.arachne_rule.specs.declared.view.Known.{Known}
-use Rattle.arachne_rule.specs.Views.{blank, known_at, carried_at, joined_known}
+use Rattle.arachne_rule.specs.{declared.view.Known.Known, Views.{blank, known_at, carried_at, joined_known}}
 use Rattle.arachne_rule.specs.Rule.{share_of, Board, Phase, Shows}
 use Rattle.arachne_rule.proofs.Carrying.{known-there, known-set, known-else}
 

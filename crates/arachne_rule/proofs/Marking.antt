@@ -3,19 +3,13 @@ use Rattle.std.proofs.Common.{◌≡◌, ℕ, ◌<◌, Bool, true, false, cond, 
 use Rattle.std.proofs.lemmas.Bool.{eqb-true, eq-eqb, ne_eqb, cond-true, cond-false, true≢false}
 use mathlib.Core.Option.{some}
 use lib.ListN.{get_elem?}
-use Rattle.arachne_core.specs.declared.place.Place.{Place}
-use Rattle.arachne_core.specs.declared.state.State.{State}
-use Rattle.arachne_core.specs.declared.state.State.TheVariants.{Claimed, Held}
-use Rattle.arachne_core.specs.World.{World, Thread, IsContext, IsPlace}
-use Rattle.arachne_core.specs.OwnedOnce.{OwnedOnce}
-use Rattle.arachne_weights.specs.declared.token.Token.{Token}
-use Rattle.arachne_weights.specs.Tokens.{held, IsReachable, learns}
-use Rattle.arachne_rule.specs.declared.view.Carried.{Carried}
-use Rattle.arachne_rule.specs.declared.view.Known.{Known}
+use Rattle.arachne_core.specs.declared.{place.Place.Place, state.State.State, state.State.TheVariants.{Claimed, Held}}
+use Rattle.arachne_core.specs.{World.{World, Thread, IsContext, IsPlace}, OwnedOnce.OwnedOnce}
+use Rattle.arachne_weights.specs.{declared.token.Token.Token, Tokens.{held, IsReachable, learns}}
+use Rattle.arachne_rule.specs.declared.view.{Carried.Carried, Known.Known}
 use Rattle.arachne_rule.specs.Views.{blank, known_at, carried_at, given_in, ended_in}
 use Rattle.arachne_rule.specs.Rule.{carried_if, share_of, Board, Phase, ShowsWord, ShowsContext, Shows}
-use Rattle.arachne_rule.proofs.OneContext.{Change, changed, one_context}
-use Rattle.arachne_rule.proofs.Views.{learned-else, learned-here}
+use Rattle.arachne_rule.proofs.{OneContext.{Change, changed, one_context}, Views.{learned-else, learned-here}}
 
 -- the parts of the table that a step on a mark word or a place word may change
 pub record Small : Type 0 where

@@ -1,17 +1,13 @@
 -- One context changed: what a step must show there, and nothing else.
 use Rattle.std.proofs.Common.{◌≡◌, ℕ, ◌<◌, Bool, true, false, cond, eqb, ◌&&◌, ◌∷◌, refl, sym, ap, ◌∙◌, subst, inl, inr, [], arith}
 use Rattle.std.proofs.lemmas.Bool.{cases_eq}
-use Rattle.arachne_core.specs.declared.place.Place.{Place}
-use Rattle.arachne_core.specs.declared.state.State.{State}
-use Rattle.arachne_core.specs.declared.state.State.TheVariants.{Free, Claimed, Held, Spent}
-use Rattle.arachne_core.specs.Marked.{mark_word}
-use Rattle.arachne_core.specs.World.{World, Thread, IsContext, IsPlace, core_of}
-use Rattle.arachne_core.specs.OwnedOnce.{OwnedOnce}
+use Rattle.arachne_core.specs.declared.{place.Place.Place, state.State.State}
+use Rattle.arachne_core.specs.{declared.state.State.TheVariants.{Free, Claimed, Held, Spent}, Marked.mark_word}
+use Rattle.arachne_core.specs.{World.{World, Thread, IsContext, IsPlace, core_of}, OwnedOnce.OwnedOnce}
 use Rattle.arachne_core.specs.ContextTable.{mark_of, is_live_state}
 use Rattle.arachne_weights.specs.Tokens.{IsReachable}
 use Rattle.arachne_core.proofs.Changes.{cases_place}
-use Rattle.arachne_rule.specs.declared.view.Carried.{Carried}
-use Rattle.arachne_rule.specs.Views.{blank, known_at, carried_at, given_in, ended_in}
+use Rattle.arachne_rule.specs.{declared.view.Carried.Carried, Views.{blank, known_at, carried_at, given_in, ended_in}}
 use Rattle.arachne_rule.specs.Rule.{Coherent, carried_if, carried_of, share_of, HasValue, Board, Phase, ShowsWord, ShowsContext, Shows}
 
 -- the parts of a World that a step at one context may change

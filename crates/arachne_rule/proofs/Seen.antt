@@ -1,17 +1,13 @@
 -- The meaning of a mark word that was seen, in the World.
 use Rattle.std.proofs.Common.{◌≡◌, ℕ, true, false, refl, sym, ap, ◌∙◌, arith}
-use Rattle.arachne_core.specs.declared.place.Place.{Place}
-use Rattle.arachne_core.specs.declared.state.State.{State}
+use Rattle.arachne_core.specs.declared.{place.Place.Place, state.State.State}
 use Rattle.arachne_core.specs.declared.state.State.TheVariants.{Free, Claimed, Ready, Blocked, Held}
 use Rattle.arachne_core.specs.declared.mark.Mark.TheVariants as mark
 use Rattle.arachne_core.specs.Marked.{mark_word, marked_of}
 use Rattle.arachne_core.specs.World.{World, IsContext, IsAtRest, IsReady, IsHeldBy, CanBeWoken, with_at, taken}
 use Rattle.arachne_core.specs.ContextTable.{mark_of, is_live_state, marked}
-use Rattle.arachne_core.proofs.Changes.{with_at-same}
-use Rattle.arachne_core.proofs.MarkWords.{marked_of-mark_word}
-use Rattle.arachne_rule.specs.Rule.{Coherent, Board, Phase, Shows}
-use Rattle.arachne_rule.specs.History.{IsMarkOf}
-use Rattle.arachne_rule.specs.Plays.{IsRestMark}
+use Rattle.arachne_core.proofs.{Changes.with_at-same, MarkWords.marked_of-mark_word}
+use Rattle.arachne_rule.specs.{Rule.{Coherent, Board, Phase, Shows}, History.IsMarkOf, Plays.IsRestMark}
 
 pub ready-mark : (s : State) → mark_of s ≡ mark.Ready → (t : ℕ) × (s ≡ Ready t)
 ready-mark (Ready t) e = (t, refl)

@@ -4,22 +4,16 @@ use Rattle.std.proofs.lemmas.Bool.{eqb-true, ne_eqb, true≢false, cond-true, co
 use mathlib.Core.Option as opt
 use lib.ListN.{get_elem?}
 use Rattle.std.specs.declared.option.Option.TheVariants.{None}
-use Rattle.arachne_core.specs.declared.place.Place.{Place}
-use Rattle.arachne_core.specs.declared.state.State.{State}
-use Rattle.arachne_core.specs.declared.state.State.TheVariants.{Claimed, Ready, Blocked, Held}
-use Rattle.arachne_core.specs.Marked.{mark_word}
-use Rattle.arachne_core.specs.World.{World, IsContext, IsPlace, with_at}
-use Rattle.arachne_core.specs.ContextTable.{marked}
+use Rattle.arachne_core.specs.declared.{place.Place.Place, state.State.State}
+use Rattle.arachne_core.specs.{declared.state.State.TheVariants.{Claimed, Ready, Blocked, Held}, Marked.mark_word}
+use Rattle.arachne_core.specs.{World.{World, IsContext, IsPlace, with_at}, ContextTable.marked}
 use Rattle.arachne_core.proofs.Changes.{with_at-same, with_at-other}
 use Rattle.arachne_weights.specs.Tokens.{held}
-use Rattle.arachne_rule.specs.declared.view.Carried.{Carried}
-use Rattle.arachne_rule.specs.declared.view.Known.{Known}
+use Rattle.arachne_rule.specs.declared.view.{Carried.Carried, Known.Known}
 use Rattle.arachne_rule.specs.Views.{carried_at, with_context}
 use Rattle.arachne_rule.specs.Rule.{Coherent, carried_if, carried_of, HasValue, Board, Phase, Shows}
-use Rattle.arachne_rule.proofs.Carrying.{with-at, with-else, known-there}
-use Rattle.arachne_rule.proofs.Views.{given-same, ended-same}
-use Rattle.arachne_rule.proofs.Marking.{Small, marking}
-use Rattle.arachne_rule.proofs.Marking.{carried-of-held}
+use Rattle.arachne_rule.proofs.{Carrying.{with-at, with-else, known-there}, Views.{given-same, ended-same}}
+use Rattle.arachne_rule.proofs.Marking.{Small, marking, carried-of-held}
 
 carried-again : (s : State) (h : ℕ) (f f' : Bool → ℕ → Carried) (g g' : Carried) → carried_if s h f ≡ g ∷ [] → ((q : Bool) (t : ℕ) → g ≡ f q t → g' ≡ f' q t) → carried_if s h f' ≡ g' ∷ []
 carried-again (Claimed k) h f f' g g' e up = let r = carried-of-held (eqb k h) (f false 0) g e in cond-true (eqb k h) (f' false 0 ∷ []) [] r.0 ∙ ap (λ (u : Carried). u ∷ []) (sym (up false 0 r.1))

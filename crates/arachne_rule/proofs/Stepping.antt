@@ -6,25 +6,15 @@ use mathlib.Core.Option.{some}
 use lib.ListN.{get_elem?}
 use Rattle.atomic_table.specs.Table.{Act, keeps, stepped, homes_after}
 use Rattle.atomic_table.proofs.Lists.{set_here}
-use Rattle.arachne_core.specs.declared.layout.TheConstants.{SLOTS}
-use Rattle.arachne_core.specs.declared.place.Place.{Place}
-use Rattle.arachne_core.specs.declared.event.Event.{Event}
+use Rattle.arachne_core.specs.declared.{layout.TheConstants.SLOTS, place.Place.Place, event.Event.Event}
 use Rattle.arachne_core.specs.declared.event.Event.TheVariants as event
 use Rattle.arachne_core.specs.World.{World, Allowed, after, with_at}
-use Rattle.arachne_weights.specs.declared.token.Token.{Token}
-use Rattle.arachne_weights.specs.Tokens.{held}
-use Rattle.arachne_rule.specs.declared.view.Known.{Known}
-use Rattle.arachne_rule.specs.declared.view.Shape.{Shape}
-use Rattle.arachne_rule.specs.declared.view.Kind.{Kind}
-use Rattle.arachne_rule.specs.Views.{noted}
-use Rattle.arachne_rule.specs.Rule.{Board, Phase, Shows}
-use Rattle.arachne_rule.specs.Changes.{with_name}
-use Rattle.arachne_rule.specs.Layout.{contexts_in, occ_index, name_index, board_of}
-use Rattle.arachne_rule.specs.History.{Makes}
-use Rattle.arachne_rule.specs.Table.{Table, Mine, Holds}
-use Rattle.arachne_rule.specs.Plays.{IsLive}
-use Rattle.arachne_rule.proofs.Noted.{noted_board}
-use Rattle.arachne_rule.proofs.Boards.{IsIn, same_board, core-steps, mark-steps, name-steps}
+use Rattle.arachne_weights.specs.{declared.token.Token.Token, Tokens.held}
+use Rattle.arachne_rule.specs.declared.view.{Known.Known, Shape.Shape, Kind.Kind}
+use Rattle.arachne_rule.specs.{Views.noted, Rule.{Board, Phase, Shows}, Changes.with_name}
+use Rattle.arachne_rule.specs.{Layout.{contexts_in, occ_index, name_index, board_of}, History.Makes}
+use Rattle.arachne_rule.specs.{Table.{Table, Mine, Holds}, Plays.IsLive}
+use Rattle.arachne_rule.proofs.{Noted.noted_board, Boards.{IsIn, same_board, core-steps, mark-steps, name-steps}}
 use Rattle.arachne_rule.proofs.Histories.{same_size, there-in, entry, tells-more}
 
 module _ {T : Type 0} (tag_in : T → ℕ) (bits : ℕ) (shape : Shape) (s : Table T) (hs : Holds tag_in bits shape s)
