@@ -121,10 +121,6 @@ module _ {K : Type 0} (nothing : K) where
   pub weight-within : {tokens : List (Token K)} → IsReachable nothing tokens → total_weight tokens ≤ whole
   weight-within r = (sound r).within
 
-  -- so two of them join to their sum
-  pub joined-sum : {tokens : List (Token K)} → IsReachable nothing tokens → (i j w x : ℕ) (mine other : K) → get_elem? tokens i ≡ some (held w mine) → j ≢ i → get_elem? tokens j ≡ some (held x other) → joined w x ≡ w + x
-  joined-sum {tokens} r i j w x mine other at n from = let s = sound r in let room = two-le-total (λ (t : Token K). t.weight) tokens i j (held w mine) (held x other) at n from in joined-exact w x (omega (arith, s.within))
-
   -- if one has the whole weight, each other is spent
   pub whole-alone : {tokens : List (Token K)} → IsReachable nothing tokens → (i j : ℕ) (t u : Token K) → get_elem? tokens i ≡ some t → t.weight ≡ whole → j ≢ i → get_elem? tokens j ≡ some u → u ≡ spent nothing
   whole-alone {tokens} r i j t u at all n from = let s = sound r in
