@@ -4,8 +4,7 @@ use Rattle.std.specs.List.{sum_by}
 use Rattle.std.proofs.lemmas.Bool.Decides.{nat_tests}
 use mathlib.Core.Option.{some, some-injective, some-ne-none}
 use lib.ListN.{get_elem?}
-use Rattle.arachne_weights.specs.declared.token.Token.{Token}
-use Rattle.arachne_weights.specs.Weight.{whole, first_part, second_part, joined}
+use Rattle.arachne_weights.specs.{declared.token.Token.Token, Weight.{whole, first_part, second_part, joined}}
 use Rattle.arachne_weights.specs.Tokens.{held, spent, total_weight, IsReachable, begins, learns, splits, joins}
 use Rattle.arachne_weights.proofs.Totals.{total-set, total-snoc, at-le-total, two-le-total, total-alone}
 
