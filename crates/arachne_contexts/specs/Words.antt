@@ -5,7 +5,7 @@ use Rattle.arachne_core.specs.declared.place.Place.{Place}
 use Rattle.arachne_core.specs.declared.thread_id.ThreadId.{ThreadId}
 use Rattle.arachne_core.specs.declared.layout.TheConstants.{CORE_BITS}
 use Rattle.arachne_core.specs.Occupancy.{Occupancy, occupancy_of}
-use Rattle.arachne_core.specs.Marked.{Marked, marked_of}
+use Rattle.arachne_core.specs.Marked.{marked_of}
 
 -- no index below `slots` is free
 abbrev pub HasNoFree : ℕ → Occupancy → Type 0
