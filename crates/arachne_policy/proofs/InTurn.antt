@@ -1,9 +1,7 @@
 -- The advice on a list of samples, for a loop that judges them one after another.
 use Rattle.std.proofs.Common.{◌≡◌, ℕ, zero, suc, ◌<◌, List, [], ◌∷◌, ◌++◌, length, reverse, take, get_or, refl, ap, arith, sym, ◌∙◌, append_assoc}
 use Rattle.std.proofs.lemmas.List.{reverse-append, append-nil}
-use Rattle.arachne_policy.specs.declared.samples.Sample.{Sample}
-use Rattle.arachne_policy.specs.declared.samples.Advice.{Advice}
-use Rattle.arachne_policy.specs.declared.samples.Advice.TheVariants.{Add}
+use Rattle.arachne_policy.specs.declared.samples.{Sample.Sample, Advice.Advice, Advice.TheVariants.Add}
 use Rattle.arachne_policy.specs.State.{State, after, StandsFor, HasJudged}
 use Rattle.arachne_policy.specs.Advice.{Settings, advice, advices_after, advices}
 
