@@ -1,6 +1,5 @@
 -- Histories that grow by one event.
-use Rattle.std.proofs.Common.{◌≡◌, ℕ, zero, suc, List, [], ◌∷◌, ◌++◌, ◌⊎◌, inl, inr, length, refl, ap, subst, arith, Some}
-use Rattle.std.specs.Prelude.{slice_get}
+use Rattle.std.proofs.Common.{◌≡◌, ℕ, zero, suc, List, [], ◌∷◌, ◌++◌, ◌⊎◌, inl, inr, length, refl, ap, subst, arith, Some, slice_get}
 use Rattle.std.proofs.lemmas.Option.{same_Some, none-some, slice_get_within}
 use Rattle.arachne_lock.specs.declared.event.QueueEvent.{QueueEvent}
 use Rattle.arachne_lock.specs.declared.event.QueueEvent.TheVariants.{Grant}

@@ -1,6 +1,5 @@
 -- The set beside a queue, and a queue that a task leaves.
-use Rattle.std.proofs.Common.{◌≡◌, ℕ, Bool, true, false, cond, ◌||◌, List, [], ◌∷◌, ◌++◌, ◌↔◌, IsTrue, inl, inr, refl, sym, ◌∙◌, ap, eqb-true, nat_eq}
-use Rattle.std.specs.Prelude.{Contains, filter, not}
+use Rattle.std.proofs.Common.{◌≡◌, ℕ, Bool, true, false, cond, ◌||◌, List, [], ◌∷◌, ◌++◌, ◌↔◌, IsTrue, inl, inr, refl, sym, ◌∙◌, ap, eqb-true, nat_eq, Contains, filter, not}
 use Rattle.std.specs.List.{list_any, IsDistinct, AllByRecursion}
 use Rattle.std.proofs.lemmas.Bool.{cases_Bool}
 use Rattle.std.proofs.lemmas.Cmp.{nat_eq_equiv}

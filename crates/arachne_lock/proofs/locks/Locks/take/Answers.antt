@@ -1,5 +1,4 @@
-use Rattle.std.proofs.Common.{◌≡◌, ◌≢◌, ℕ, Bool, inl, inr, ap, sym, subst, ◌∙◌, ◌<◌, arith, eqb, eqb-true, eq-eqb, nat_eq}
-use Rattle.std.specs.Prelude.{MatchBool}
+use Rattle.std.proofs.Common.{◌≡◌, ◌≢◌, ℕ, Bool, inl, inr, ap, sym, subst, ◌∙◌, ◌<◌, arith, eqb, eqb-true, eq-eqb, nat_eq, MatchBool}
 use Rattle.std.proofs.lemmas.Bool.{cases_Bool, true≢false}
 use prog.Atomic.{either}
 use mathlib.Core.Option.{none}
