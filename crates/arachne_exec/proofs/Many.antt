@@ -1,12 +1,9 @@
 -- Several ready bits of a block that are cleared in one step.
-use Rattle.std.proofs.Common.{◌≡◌, ◌≢◌, ◌⊎◌, inl, inr, ⊎_elim, ℕ, zero, suc, ◌+◌, ◌-◌, ◌*◌, ◌/◌, ◌%◌, ◌^◌, ◌<◌, ◌≤◌, List, [], ◌∷◌, ◌++◌, map, get_or, set, if◌then◌else◌, sym, refl, ap, ◌∙◌, subst, arith, get_or-set_same}
+use Rattle.std.proofs.Common.{◌≡◌, ◌≢◌, ◌⊎◌, inl, inr, ⊎_elim, ℕ, zero, suc, ◌+◌, ◌-◌, ◌*◌, ◌/◌, ◌%◌, ◌^◌, ◌<◌, ◌≤◌, List, [], ◌∷◌, ◌++◌, map, get_or, set, if◌then◌else◌, sym, refl, ap, ◌∙◌, subst, arith, get_or-set_same, set-set, eq-eqb, ne_eqb}
 use Rattle.std.specs.Int.{bit_at, w64}
 use Rattle.std.specs.Int.RustNames.{bit_and}
-use Rattle.std.proofs.lemmas.List.{set-set}
-use Rattle.std.specs.Int.Bits.{and_self}
-use Rattle.std.proofs.lemmas.Nat.{and_le_l, and_assoc}
+use Rattle.std.proofs.lemmas.Nat.{and_le_l}
 use Rattle.std.proofs.lemmas.Nat.Bits.{bit_at-lt, bit_at_and, bit_at_not, same_from_bits_below}
-use Rattle.std.proofs.lemmas.Bool.{eq-eqb, ne_eqb}
 use mathlib.Core.Logic.{dite}
 use mathlib.Core.Option.{some, none, some-ne-none}
 use mathlib.Core.Option as maybe
@@ -24,10 +21,6 @@ use Rattle.arachne_exec.proofs.Bits.{clear_same, clear_other, clear_le, not_one}
 use Rattle.arachne_exec.proofs.Keeping.{ready_apart}
 use Rattle.arachne_exec.proofs.Coming.{told-found, comes}
 use Rattle.arachne_exec.proofs.Moves.{ready-job, taken-law, noting}
-
--- what two words have in common is within the first
-pub and_within : (word other : ℕ) → bit_and word (bit_and word other) ≡ bit_and word other
-and_within word other = sym (and_assoc other word word) ∙ ap (λ (z : ℕ). bit_and z other) (and_self word)
 
 -- a seat that is there has the view that it was given
 set_mine : (views : List (Token Notes)) (id : ℕ) (v u : Token Notes) → get_elem? views id ≡ some v → get_elem? (set views id u) id ≡ some u

@@ -67,9 +67,6 @@ module _ (shards slots id w : ℕ) where
   unchanged k xs i s h = subst (λ ws. IsLawful shards (record { words = ws; homes = s.homes; views = set s.views id (held w k) })) (sym (set-get_or s.words i 0)) h
 
   module _ (s : Board) (h : IsLawful shards s) (k : Notes) (mine : get_elem? s.views id ≡ some (held w k)) where
-    t : Token Notes
-    t = held w k
-
     -- what it has found is noted
     telling : (ds : List (ℕ × ℕ)) → let l : Notes = record k { looks = ds } in HasCome shards (record { words = s.words; homes = s.homes; views = set s.views id (held w l) }) → Knows (64 * shards) s.words l
         → IsLawful shards (record { words = s.words; homes = s.homes; views = set s.views id (held w l) })

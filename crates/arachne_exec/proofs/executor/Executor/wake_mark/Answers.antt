@@ -1,5 +1,4 @@
-use Rattle.std.proofs.Common.{◌∷◌, ◌∙◌}
-use Rattle.std.proofs.lemmas.Bool.{eqb-true}
+use Rattle.std.proofs.Common.{◌∷◌, ◌∙◌, eqb-true}
 use Rattle.arachne_exec.specs.Changes.{unblocking, noted}
 use Rattle.arachne_exec.specs.Seats.{CallView}
 use Rattle.arachne_exec.proofs.Told.{told-view}
