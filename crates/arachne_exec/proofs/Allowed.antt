@@ -1,18 +1,14 @@
 -- What an executor's seat may do on its table, with the words and masks that a call has computed.
 use Rattle.std.proofs.Common.{◌≡◌, ℕ, ◌+◌, ◌-◌, ◌*◌, ◌/◌, ◌%◌, ◌^◌, ◌<◌, ◌≤◌, [], ◌∷◌, true, eqb, refl, sym, ap, ◌∙◌, subst, arith, eqb-true}
-use Rattle.std.specs.Int.{bit_at}
-use Rattle.std.specs.Int.RustNames.{bit_and, bit_or}
+use Rattle.std.specs.Int.{bit_at, RustNames.{bit_and, bit_or}}
 use Rattle.std.proofs.lemmas.Nat.Bits.{shr_and_one}
 use mathlib.Core.Option.{none}
 use prog.Atomic.{either}
-use Rattle.atomic_table.specs.Seated.{TableId}
-use Rattle.atomic_table.specs.Table.{step, rest, Allows, Splits, Joins}
-use Rattle.arachne_weights.specs.declared.token.Token.{Token}
-use Rattle.arachne_weights.specs.Tokens.{held, spent}
+use Rattle.atomic_table.specs.{Seated.TableId, Table.{step, rest, Allows, Splits, Joins}}
+use Rattle.arachne_weights.specs.{declared.token.Token.Token, Tokens.{held, spent}}
 use Rattle.arachne_exec.specs.declared.view.Notes.{Notes}
 use Rattle.arachne_exec.specs.Layout.{summary_at, ready_at, free_at, mark_at, last_generation, retired, worker_of, others, words_of}
-use Rattle.arachne_exec.specs.Board.{IsLawful, IsLast}
-use Rattle.arachne_exec.specs.Changes.{blank, older, first_of, second_of, both_of}
+use Rattle.arachne_exec.specs.{Board.{IsLawful, IsLast}, Changes.{blank, older, first_of, second_of, both_of}}
 use Rattle.arachne_exec.specs.Steps.{Mine, IsLive, Looks, Takes, TakesMany, Claims, Frees, Readies, Spawns, Begins, Blocks, Renews, Retires, Hears, Wakes, Marks, FindsShown, Shows, Hides, LooksAgain, LooksIdle, Unparks, Rises, Rests, LooksNext, Registers, Leaves}
 use Rattle.arachne_exec.specs.Seats.{Places, IsLaidOut, CallView, HasNewest, HasFoundMark}
 use Rattle.arachne_exec.proofs.Opening.{deals, gathers}

@@ -1,24 +1,17 @@
 -- How the list of what is left grows, place by place, and that it is what was spawned and hasn't ended.
 use Rattle.std.proofs.Common.{◌≡◌, ℕ, zero, suc, ◌+◌, ◌<◌, ◌≤◌, ◌∙◌, ap, sym, refl, arith, List, [], ◌∷◌, ◌++◌, length, drop, set, get_or, get_or-set_other, Bool, true, false, inl, inr}
-use Rattle.std.proofs.lemmas.List.{drop_all}
-use Rattle.std.proofs.lemmas.Bool.{cases_eq}
-use Rattle.std.proofs.lemmas.List.Sums.{sum_by-cons, sum_by-append}
+use Rattle.std.proofs.lemmas.{List.drop_all, Bool.cases_eq, List.Sums.{sum_by-cons, sum_by-append}}
 use mathlib.Core.Option.{some, some-injective}
 use mathlib.Core.Option as maybe
 use lib.ListN.{get_elem?}
 use Rattle.atomic_table.specs.Table.{Final, Seen}
 use Rattle.atomic_table.proofs.Lists.{drop_at}
-use Rattle.arachne_weights.specs.declared.token.Token.{Token}
-use Rattle.arachne_weights.specs.Tokens.{held}
-use Rattle.arachne_weights.specs.Weight.{whole}
+use Rattle.arachne_weights.specs.{declared.token.Token.Token, Tokens.held, Weight.whole}
 use Rattle.arachne_weights.proofs.Tokens.{whole-total}
 use Rattle.arachne_exec.specs.declared.view.Notes.{Notes}
 use Rattle.arachne_exec.specs.Board.{one, times, places_in, jobs_in, is_number, at_home, Board, IsLawful}
-use Rattle.arachne_exec.specs.Changes.{blank}
-use Rattle.arachne_exec.specs.Ending.{IsSettled}
-use Rattle.arachne_exec.proofs.Bits.{one-apart}
-use Rattle.arachne_exec.proofs.Coming.{reached}
-use Rattle.arachne_exec.proofs.Balancing.{more-times}
+use Rattle.arachne_exec.specs.{Changes.blank, Ending.IsSettled}
+use Rattle.arachne_exec.proofs.{Bits.one-apart, Coming.reached, Balancing.more-times}
 
 set-false : (fs : List Bool) (i : ℕ) → get_or (set fs i false) i false ≡ false
 set-false [] i = refl

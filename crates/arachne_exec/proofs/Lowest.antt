@@ -1,14 +1,12 @@
 -- The lowest bits of a word, picked one after the other.
 use Rattle.std.proofs.Common.{◌≡◌, ℕ, ◌+◌, ◌*◌, ◌^◌, ◌<◌, ◌≤◌, max, min, [], ◌∷◌, ◌++◌, length, sym, ap, ◌∙◌, arith, append_assoc, length-append}
-use Rattle.std.specs.Int.{bit_at}
-use Rattle.std.specs.Int.RustNames.{bit_and, bit_or}
+use Rattle.std.specs.Int.{bit_at, RustNames.{bit_and, bit_or}}
 use Rattle.std.proofs.lemmas.Nat.{pow_pos, le_or_l}
 use Rattle.std.proofs.lemmas.Nat.Bits.{bit_at-lt, bit_at_and, bit_at_or, and_pow, bit_at-pow_same, bit_at-pow_other, same_from_bits}
 use mathlib.Core.Logic.{dite}
 use native.Mathlib.Decide.{ℕ_discrete}
 use Rattle.arachne_exec.specs.Layout.{others, places_in_word}
-use Rattle.arachne_exec.proofs.Bits.{clear_same, set_other}
-use Rattle.arachne_exec.proofs.Places.{alone, highest-last, lowest-first}
+use Rattle.arachne_exec.proofs.{Bits.{clear_same, set_other}, Places.{alone, highest-last, lowest-first}}
 
 -- a bit that two words have in common
 pub common_bit : (a b i : ℕ) → bit_at (bit_and a b) i ≡ 1 → bit_at a i ≡ 1

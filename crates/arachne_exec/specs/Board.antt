@@ -1,17 +1,13 @@
 -- What holds of the words, the slots and the seats of an executor between any two steps.
 use Rattle.std.specs.Prelude.{◌≡◌, ◌≢◌, ◌⊎◌, ℕ, ◌+◌, ◌*◌, ◌/◌, ◌%◌, ◌<◌, ◌≤◌, ◌==◌, min, List, [], ◌∷◌, ◌++◌, length, slice_index, slice_set, if◌then◌else◌}
-use Rattle.std.specs.Int.{bit_at}
-use Rattle.std.specs.List.{sum_by}
+use Rattle.std.specs.{Int.bit_at, List.sum_by}
 use mathlib.Core.Option.{some, none}
 use mathlib.Core.Option as maybe
 use lib.ListN.{get_elem?}
 use Rattle.atomic_table.specs.Table.{State}
-use Rattle.arachne_weights.specs.declared.token.Token.{Token}
-use Rattle.arachne_weights.specs.Tokens.{held, spent}
-use Rattle.arachne_exec.specs.declared.view.Notes.{Notes}
-use Rattle.arachne_exec.specs.declared.view.SleepDeed.{SleepDeed}
-use Rattle.arachne_exec.specs.declared.view.SleepDeed.TheVariants.{LayDown, LayOn, Rose, Roused}
-use Rattle.arachne_exec.specs.First.{AreFirstWords}
+use Rattle.arachne_weights.specs.{declared.token.Token.Token, Tokens.{held, spent}}
+use Rattle.arachne_exec.specs.declared.view.{Notes.Notes, SleepDeed.SleepDeed}
+use Rattle.arachne_exec.specs.{declared.view.SleepDeed.TheVariants.{LayDown, LayOn, Rose, Roused}, First.AreFirstWords}
 use Rattle.arachne_exec.specs.Changes.{blank, first_view, first_of, second_of, both_of}
 use Rattle.arachne_exec.specs.Layout.{idle_at, numbers_at, summary_at, ready_at, free_at, mark_at, words_of, in_word, last_generation}
 

@@ -1,28 +1,19 @@
 -- What each call answers, by what its seat has and knows then.
 use Rattle.std.specs.Prelude.{◌≡◌, ◌≢◌, ◌⊎◌, ℕ, ◌+◌, ◌*◌, ◌/◌, ◌%◌, ◌<◌, ◌≤◌, ◌^◌, ◌↔◌, IsTrue, List, [], ◌∷◌, ◌++◌, map}
-use Rattle.std.specs.Int.{bit_at}
-use Rattle.std.specs.Int.RustNames.{bit_and}
+use Rattle.std.specs.Int.{bit_at, RustNames.bit_and}
 use Rattle.atomic_table.specs.Table.{rest}
-use Rattle.arachne_exec.specs.declared.view.Notes.{Notes}
-use Rattle.arachne_exec.specs.declared.answers.HeldJob.{HeldJob}
-use Rattle.arachne_exec.specs.declared.answers.PlacedJob.{PlacedJob}
-use Rattle.arachne_exec.specs.declared.answers.Next.{Next}
+use Rattle.arachne_exec.specs.declared.{view.Notes.Notes, answers.HeldJob.HeldJob, answers.PlacedJob.PlacedJob}
+use Rattle.arachne_exec.specs.declared.answers.{Next.Next, JobRested.JobRested, JobSpawned.JobSpawned}
 use Rattle.arachne_exec.specs.declared.answers.Next.TheVariants as next
-use Rattle.arachne_exec.specs.declared.answers.JobRested.{JobRested}
 use Rattle.arachne_exec.specs.declared.answers.JobRested.TheVariants as rested
-use Rattle.arachne_exec.specs.declared.answers.JobSpawned.{JobSpawned}
 use Rattle.arachne_exec.specs.declared.answers.JobSpawned.TheVariants as spawned
-use Rattle.arachne_exec.specs.declared.answers.SpawnedHere.{SpawnedHere}
+use Rattle.arachne_exec.specs.declared.answers.{SpawnedHere.SpawnedHere, JobWoken.JobWoken, WokenHere.WokenHere}
 use Rattle.arachne_exec.specs.declared.answers.SpawnedHere.TheVariants as spawned_here
-use Rattle.arachne_exec.specs.declared.answers.JobWoken.{JobWoken}
 use Rattle.arachne_exec.specs.declared.answers.JobWoken.TheVariants as woken
-use Rattle.arachne_exec.specs.declared.answers.WokenHere.{WokenHere}
 use Rattle.arachne_exec.specs.declared.answers.WokenHere.TheVariants as here
-use Rattle.arachne_exec.specs.declared.waking.RouseResult.{RouseResult}
+use Rattle.arachne_exec.specs.declared.{waking.RouseResult.RouseResult, turns.TakenJob.TakenJob}
 use Rattle.arachne_exec.specs.declared.waking.RouseResult.TheVariants as found
-use Rattle.arachne_exec.specs.declared.turns.TakenJob.{TakenJob}
-use Rattle.arachne_exec.specs.Seats.{CallView}
-use Rattle.arachne_exec.specs.Turns.{IsFirstFrom}
+use Rattle.arachne_exec.specs.{Seats.CallView, Turns.IsFirstFrom}
 use Rattle.arachne_exec.specs.Layout.{summary_at, ready_at, free_at, mark_at, places_in_word, PicksLowest, worker_of, last_generation, name_of}
 use Rattle.arachne_exec.specs.Changes.{older, newest_job, gaining, unblocking, laying_down, blocking, marking, noted, rousing, often, having_seen, lying, rising, using_up, heard_more, roused_more}
 

@@ -2,10 +2,8 @@
 use Rattle.std.specs.Prelude.{◌≡◌, ℕ, ◌+◌, ◌<◌, List}
 use mathlib.Core.Option.{some}
 use lib.ListN.{get_elem?}
-use Rattle.arachne_weights.specs.Tokens.{held}
-use Rattle.arachne_weights.specs.Weight.{whole}
-use Rattle.arachne_exec.specs.declared.view.Notes.{Notes}
-use Rattle.arachne_exec.specs.Board.{times, jobs_in, Board, IsLawful}
+use Rattle.arachne_weights.specs.{Tokens.held, Weight.whole}
+use Rattle.arachne_exec.specs.{declared.view.Notes.Notes, Board.{times, jobs_in, Board, IsLawful}}
 
 -- each job number but 0 was spawned as often as it has ended and is left; 0 isn't left
 pub record IsSettled (k : Notes) (left : List ℕ) : Type 0 where

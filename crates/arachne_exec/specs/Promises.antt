@@ -1,11 +1,9 @@
 -- The promises of an executor, in words of places and workers.
-use Rattle.std.specs.Prelude.{◌≡◌, ◌⊎◌, ℕ, ◌+◌, ◌*◌, ◌/◌, ◌%◌, ◌<◌, List, slice_index}
-use Rattle.std.specs.Int.{bit_at}
+use Rattle.std.specs.{Prelude.{◌≡◌, ◌⊎◌, ℕ, ◌+◌, ◌*◌, ◌/◌, ◌%◌, ◌<◌, List, slice_index}, Int.bit_at}
 use mathlib.Core.Option.{some}
 use lib.ListN.{get_elem?}
 use Rattle.arachne_weights.specs.declared.token.Token.{Token}
-use Rattle.arachne_exec.specs.declared.view.Notes.{Notes}
-use Rattle.arachne_exec.specs.Layout.{numbers_at, summary_at, ready_at, mark_at, in_word}
+use Rattle.arachne_exec.specs.{declared.view.Notes.Notes, Layout.{numbers_at, summary_at, ready_at, mark_at, in_word}}
 use Rattle.arachne_exec.specs.Board.{Board, by_all, times, places_in, jobs_in, times_at, is_at_home, is_free, is_ready, is_blocked, is_idle, in_hands, unshown_by, owed}
 use Rattle.arachne_exec.specs.Calls.{HasSeenAll}
 

@@ -1,10 +1,7 @@
 -- What contracts see of an executor and of its seats.
 use Rattle.std.specs.Prelude.{◌≡◌, ℕ, ◌*◌, ◌≤◌, List, ◌∷◌}
-use Rattle.atomic_table.specs.Seated.{TableId}
-use Rattle.atomic_table.specs.Table.{rest}
-use Rattle.arachne_exec.specs.declared.view.Notes.{Notes}
-use Rattle.arachne_exec.specs.Layout.{words_of, mark_at}
-use Rattle.arachne_exec.specs.Changes.{older, noted}
+use Rattle.atomic_table.specs.{Seated.TableId, Table.rest}
+use Rattle.arachne_exec.specs.{declared.view.Notes.Notes, Layout.{words_of, mark_at}, Changes.{older, noted}}
 
 -- which table it is, and how many shards it has
 pub record Places : Type 0 where

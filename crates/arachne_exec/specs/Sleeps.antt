@@ -1,16 +1,12 @@
 -- What a call does to the sleeps of workers, in the words of the law that counts them.
 use Rattle.std.specs.Prelude.{◌≡◌, ℕ, Bool, false}
-use Rattle.arachne_exec.specs.declared.view.Notes.{Notes}
-use Rattle.arachne_exec.specs.declared.answers.JobSpawned.{JobSpawned}
+use Rattle.arachne_exec.specs.declared.{view.Notes.Notes, answers.JobSpawned.JobSpawned, answers.JobRested.JobRested}
 use Rattle.arachne_exec.specs.declared.answers.JobSpawned.TheVariants as spawned
-use Rattle.arachne_exec.specs.declared.answers.JobRested.{JobRested}
 use Rattle.arachne_exec.specs.declared.answers.JobRested.TheVariants as rested
-use Rattle.arachne_exec.specs.declared.answers.JobWoken.{JobWoken}
+use Rattle.arachne_exec.specs.declared.answers.{JobWoken.JobWoken, Next.Next}
 use Rattle.arachne_exec.specs.declared.answers.JobWoken.TheVariants as woken
-use Rattle.arachne_exec.specs.declared.answers.Next.{Next}
 use Rattle.arachne_exec.specs.declared.answers.Next.TheVariants as next
-use Rattle.arachne_exec.specs.Changes.{roused_more, often, lain_more, risen_more}
-use Rattle.arachne_exec.specs.Calls.{HasSeenAll}
+use Rattle.arachne_exec.specs.{Changes.{roused_more, often, lain_more, risen_more}, Calls.HasSeenAll}
 
 -- an answer says to unpark the worker of its place
 abbrev pub spawn_unparks : JobSpawned → Bool

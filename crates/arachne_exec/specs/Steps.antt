@@ -1,10 +1,8 @@
 -- What each kind of step tells the seat that makes it: of the seat before, the number found and the seat after.
-use Rattle.std.specs.Prelude.{◌≡◌, ◌≢◌, ℕ, ◌+◌, ◌-◌, ◌*◌, ◌/◌, ◌%◌, ◌^◌, ◌<◌, ◌++◌, map, true, List, ◌∷◌}
-use Rattle.std.specs.Int.{bit_at}
+use Rattle.std.specs.{Prelude.{◌≡◌, ◌≢◌, ℕ, ◌+◌, ◌-◌, ◌*◌, ◌/◌, ◌%◌, ◌^◌, ◌<◌, ◌++◌, map, true, List, ◌∷◌}, Int.bit_at}
 use Rattle.std.specs.Int.RustNames.{bit_and}
 use Rattle.atomic_table.specs.Table.{Me, Step, rest}
-use Rattle.arachne_weights.specs.declared.token.Token.{Token}
-use Rattle.arachne_weights.specs.Tokens.{held}
+use Rattle.arachne_weights.specs.{declared.token.Token.Token, Tokens.held}
 use Rattle.arachne_exec.specs.declared.view.Notes.{Notes}
 use Rattle.arachne_exec.specs.Layout.{idle_at, summary_at, ready_at, free_at, mark_at, worker_of, others, places_in_word}
 use Rattle.arachne_exec.specs.Changes.{newest_place, newest_job, gained, gaining, unblocking, claiming, laying_down, freeing, blocking, spawning, beginning, ending, marking, hearing, noted, rousing, unshowing, owing, having_seen, lying, rising, working}

@@ -1,6 +1,5 @@
 -- Where a search round the bits of a word goes next.
-use Rattle.std.specs.Prelude.{◌≡◌, ℕ, ◌+◌, ◌-◌, ◌*◌, ◌%◌, ◌^◌, ◌<◌, ◌≤◌}
-use Rattle.std.specs.Int.{bit_at}
+use Rattle.std.specs.{Prelude.{◌≡◌, ℕ, ◌+◌, ◌-◌, ◌*◌, ◌%◌, ◌^◌, ◌<◌, ◌≤◌}, Int.bit_at}
 use Rattle.arachne_exec.specs.declared.turns.Unsearched.{Unsearched}
 
 -- how far the index lies behind that one, round a word
