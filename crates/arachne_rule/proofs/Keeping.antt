@@ -5,11 +5,8 @@ use lib.ListN.{get_elem?}
 use Rattle.atomic_table.specs.Table.{Act, homes_after}
 use Rattle.arachne_core.specs.World.{after}
 use Rattle.arachne_weights.specs.Tokens.{held}
-use Rattle.arachne_rule.specs.declared.view.Known.{Known}
-use Rattle.arachne_rule.specs.declared.view.Shape.{Shape}
-use Rattle.arachne_rule.specs.Rule.{Phase, Shows}
-use Rattle.arachne_rule.specs.Layout.{contexts_in, board_of}
-use Rattle.arachne_rule.specs.History.{Entry, Makes, IsNext}
+use Rattle.arachne_rule.specs.{declared.view.Known.Known, declared.view.Shape.Shape, Rule.{Phase, Shows}}
+use Rattle.arachne_rule.specs.{Layout.{contexts_in, board_of}, History.{Entry, Makes, IsNext}}
 use Rattle.arachne_rule.specs.Table.{Table, Holds, HoldsAfter, after_step}
 use Rattle.arachne_rule.proofs.Stepping.{makes-step}
 

@@ -4,9 +4,7 @@ use mathlib.Core.Option.{some}
 use lib.ListN.{get_elem?}
 use Rattle.arachne_core.specs.World.{World, IsContext}
 use Rattle.arachne_weights.specs.Tokens.{held}
-use Rattle.arachne_rule.specs.declared.view.Carried.{Carried}
-use Rattle.arachne_rule.specs.declared.view.Known.{Known}
-use Rattle.arachne_rule.specs.Views.{carried_at}
+use Rattle.arachne_rule.specs.{declared.view.Carried.Carried, declared.view.Known.Known, Views.carried_at}
 use Rattle.arachne_rule.specs.Rule.{share_of, Board, Phase, Shows}
 use Rattle.arachne_rule.proofs.Carrying.{known-there}
 
