@@ -1,16 +1,11 @@
 -- The contracts of a table's results.
 use Rattle.std.specs.Prelude.{◌≡◌, ℕ, ◌<◌, Bool, true, false, List, [], ◌∷◌, map, Option, None, Some}
-use Rattle.arachne_core.specs.declared.place.Place.{Place}
-use Rattle.arachne_core.specs.declared.state.Rest.{Rest}
+use Rattle.arachne_core.specs.declared.{place.Place.Place, state.Rest.Rest, thread_id.ThreadId.ThreadId}
 use Rattle.arachne_core.specs.declared.state.Rest.TheVariants as rest
-use Rattle.arachne_core.specs.declared.thread_id.ThreadId.{ThreadId}
-use Rattle.arachne_contexts.specs.declared.answers.Claimed.{Claimed}
+use Rattle.arachne_contexts.specs.declared.answers.{Claimed.Claimed, Taken.Taken, Rested.Rested, Woken.Woken}
 use Rattle.arachne_contexts.specs.declared.answers.Claimed.TheVariants as claimed
-use Rattle.arachne_contexts.specs.declared.answers.Taken.{Taken}
 use Rattle.arachne_contexts.specs.declared.answers.Taken.TheVariants as taken
-use Rattle.arachne_contexts.specs.declared.answers.Rested.{Rested}
 use Rattle.arachne_contexts.specs.declared.answers.Rested.TheVariants as rested
-use Rattle.arachne_contexts.specs.declared.answers.Woken.{Woken}
 use Rattle.arachne_contexts.specs.declared.answers.Woken.TheVariants as woken
 use Rattle.arachne_contexts.specs.declared.answers.Moved.{Moved}
 use Rattle.arachne_contexts.specs.declared.answers.Moved.TheVariants as moved

@@ -1,8 +1,7 @@
 -- The claims and threads that are out with a seat: it has claimed or taken them, and has not spent them yet.
 use Rattle.std.specs.Prelude.{ℕ, List, ◌∷◌, Result, Ok, Err}
-use Rattle.arachne_contexts.specs.declared.answers.Claimed.{Claimed}
+use Rattle.arachne_contexts.specs.declared.answers.{Claimed.Claimed, Taken.Taken}
 use Rattle.arachne_contexts.specs.declared.answers.Claimed.TheVariants as claimed
-use Rattle.arachne_contexts.specs.declared.answers.Taken.{Taken}
 use Rattle.arachne_contexts.specs.declared.answers.Taken.TheVariants as taken
 
 -- a claim, or a thread by its handle and its tag

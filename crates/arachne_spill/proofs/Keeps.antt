@@ -4,13 +4,10 @@ use mathlib.Core.Option.{some}
 use lib.ListN.{get_elem?}
 use Rattle.crossbeam_queue.specs.Fifo.{Pushes, Pops, Forks, Merges, Learns}
 use Rattle.crossbeam_queue.proofs.Lists.{set_else}
-use Rattle.arachne_weights.specs.declared.token.Token.{Token}
-use Rattle.arachne_weights.specs.Weight.{whole}
+use Rattle.arachne_weights.specs.{declared.token.Token.Token, Weight.whole}
 use Rattle.arachne_weights.specs.Tokens.{held, spent, begins, learns, splits, joins}
-use Rattle.arachne_weights.proofs.Tokens.{whole-total}
-use Rattle.arachne_weights.proofs.Totals.{total-set, total-snoc}
-use Rattle.std.proofs.lemmas.List.{map-append, length-map}
-use Rattle.std.proofs.lemmas.List.Sums.{sum_by-append, sum_by-cons, sum_by_push}
+use Rattle.arachne_weights.proofs.{Tokens.whole-total, Totals.{total-set, total-snoc}}
+use Rattle.std.proofs.lemmas.List.{map-append, length-map, Sums.{sum_by-append, sum_by-cons, sum_by_push}}
 use Rattle.arachne_spill.specs.declared.pass.Known.{Known}
 use Rattle.arachne_spill.proofs.Counts.{added-length}
 use Rattle.arachne_spill.specs.Balance.{blank, times, IsBalanced, IsMoment, opening_pass, after_pushing, after_popping, after_joining, first_pass, second_pass, joined_pass, after_push, after_pop, after_split, after_join, Pushed, Popped}

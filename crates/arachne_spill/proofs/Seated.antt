@@ -1,10 +1,7 @@
 -- What a pass may do at the queue that it came from.
 use Rattle.std.proofs.Common.{◌≡◌, ℕ, List, sym, ap, ◌∙◌, subst, Option, Some, None, MatchOption, IfNone, Result, Ok, Err, MatchResult, OnErr, length, ◌+◌}
-use Rattle.crossbeam_queue.specs.Fifo.{Pushes, Pops, Forks, Merges, Learns, Held}
-use Rattle.crossbeam_queue.specs.Passes.{Pass, view}
-use Rattle.arachne_weights.specs.declared.token.Token.{Token}
-use Rattle.arachne_weights.specs.Tokens.{held, spent}
-use Rattle.arachne_weights.specs.Weight.{whole}
+use Rattle.crossbeam_queue.specs.{Fifo.{Pushes, Pops, Forks, Merges, Learns, Held}, Passes.{Pass, view}}
+use Rattle.arachne_weights.specs.{declared.token.Token.Token, Tokens.{held, spent}, Weight.whole}
 use Rattle.arachne_spill.specs.declared.pass.Known.{Known}
 use Rattle.arachne_spill.specs.Balance.{blank, times, IsBalanced, IsMoment, Pushed, Popped, first_pass, second_pass, joined_pass}
 use Rattle.arachne_spill.specs.Passes.{IsHeld}

@@ -1,8 +1,7 @@
 -- What a pass keeps of its seat at the queue.
 use Rattle.std.specs.Prelude.{◌≡◌, ℕ, []}
 use Rattle.crossbeam_queue.specs.Passes.{Pass, view}
-use Rattle.arachne_weights.specs.declared.token.Token.{Token}
-use Rattle.arachne_weights.specs.Tokens.{held}
+use Rattle.arachne_weights.specs.{declared.token.Token.Token, Tokens.held}
 use Rattle.arachne_spill.specs.declared.pass.Known.{Known}
 
 -- a pass in use with this weight, which has no slot out

@@ -1,10 +1,8 @@
 -- What a contract sees of a queue and of a pass.
 use Rattle.std.specs.Prelude.{◌≡◌, ℕ, ◌+◌, List, length}
 use Rattle.atomic_table.specs.Seated.{TableId}
-use Rattle.arachne_weights.specs.Weight.{whole}
-use Rattle.arachne_weights.specs.Tokens.{held}
-use Rattle.arachne_spill.specs.declared.pass.Known.{Known}
-use Rattle.arachne_spill.specs.Balance.{IsMoment, times}
+use Rattle.arachne_weights.specs.{Weight.whole, Tokens.held}
+use Rattle.arachne_spill.specs.{declared.pass.Known.Known, Balance.{IsMoment, times}}
 
 -- how many items there is room for
 abbrev pub capacity : ℕ

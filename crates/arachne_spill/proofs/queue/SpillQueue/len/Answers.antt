@@ -1,10 +1,7 @@
 use Rattle.std.proofs.Common.{ℕ, ap, ◌∙◌, subst, refl}
-use Rattle.crossbeam_queue.specs.Fifo.{Held}
-use Rattle.crossbeam_queue.specs.Passes.{view}
-use Rattle.arachne_spill.specs.Balance.{IsMoment}
-use Rattle.arachne_spill.specs.Views.{IsAheadBy, AllCameOut}
-use Rattle.arachne_spill.proofs.Keeps.{sees}
-use Rattle.arachne_spill.proofs.Seated.{counted, settled}
+use Rattle.crossbeam_queue.specs.{Fifo.Held, Passes.view}
+use Rattle.arachne_spill.specs.{Balance.IsMoment, Views.{IsAheadBy, AllCameOut}}
+use Rattle.arachne_spill.proofs.{Keeps.sees, Seated.{counted, settled}}
 use Rattle.arachne_spill.proofs.queue.SpillQueue.len.Goals as goal
 
 pub len_as-requires-clause-rule : goal.len_as-requires-clause-rule

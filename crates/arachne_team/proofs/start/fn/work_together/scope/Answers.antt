@@ -1,5 +1,4 @@
-use Rattle.std.proofs.Common.{rules, ◌≡◌, All}
-use Rattle.std.proofs.lemmas.List.Elements.{All-push}
+use Rattle.std.proofs.{Common.◌≡◌, lemmas.List.Elements.All-push}
 use Rattle.arachne_team.proofs.start.fn.work_together.scope.Goals as goal
 
 pub loop-number-preserved : goal.loop-number-preserved
