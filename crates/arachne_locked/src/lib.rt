@@ -7,11 +7,9 @@
 //! on atomic words with this one.
 #![tactic(auto)]
 
-mod carriers;
 mod homes;
 mod locked;
 mod seat;
-mod slots;
 mod state;
 mod tokens;
 
