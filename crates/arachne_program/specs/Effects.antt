@@ -1,8 +1,6 @@
 -- The effects of evaluating an expression, beside its value: sums for the ledgers, holds of locks, and threads.
 use Rattle.std.specs.Prelude.{ℕ, zero, suc, ◌+◌, ◌-◌, ◌/◌, ◌==◌, if◌then◌else◌, List, [], ◌∷◌, ◌++◌, length, Option, Some, option_and_then, slice_get}
-use Rattle.arachne_program.specs.declared.meaning.Line.{Line}
-use Rattle.arachne_program.specs.declared.program.Class.{Class}
-use Rattle.arachne_program.specs.declared.program.Class.TheVariants.{Normal}
+use Rattle.arachne_program.specs.declared.{meaning.Line.Line, program.Class.Class, program.Class.TheVariants.Normal}
 use Rattle.arachne_program.specs.declared.program.Reduction.{Reduction}
 use Rattle.arachne_program.specs.Tree.{Tree, Number, Variable, Length, Item, Binary, Choose, Bind, Tally, Hold, Fork, Fold, Sweep}
 use Rattle.arachne_program.specs.Parts.{by_halves}
