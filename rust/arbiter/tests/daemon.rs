@@ -610,7 +610,7 @@ fn a_container() {
 #[test]
 fn while_the_host_takes_a_processor_its_thread_runs_in_the_rest() {
     let host = Host::new("stat");
-    let daemon = host.daemon("host", &[]);
+    let daemon = host.daemon("host");
     let client = granted(&daemon, 5, 0);
     let (id, cpu) = (thread_on(&daemon, client.cpu).to_string(), client.cpu);
     assert_eq!(processors_of(&id), cpu.to_string());
@@ -631,7 +631,7 @@ fn while_the_host_takes_a_processor_its_thread_runs_in_the_rest() {
 #[test]
 fn while_the_host_takes_the_machine_there_are_no_clients() {
     let (host, begin) = (Host::new("machine"), Instant::now());
-    let daemon = host.daemon("lifts", &[]);
+    let daemon = host.daemon("lifts");
     let (early, (mut control, [_, client, ..])) = (daemon.connect(), daemon.hello(5, 0));
     let ((tells, told), (goes, waits)) = (mpsc::channel(), mpsc::channel());
     thread::spawn(move || {

@@ -126,7 +126,7 @@ fn a_runtime_goes_on_without_its_daemon_and_joins_the_next() {
 #[test]
 fn while_the_host_takes_the_machine_runtimes_go_on_by_themselves() {
     let (host, cores, all) = (Host::new("machine"), cores(), processors_of(&std::process::id().to_string()));
-    let daemon = host.daemon("lifts", &[]);
+    let daemon = host.daemon("lifts");
     let (low, of_low) = busy(&daemon, cores, 7);
     let (high, of_high) = busy(&daemon, cores, 0);
     for _ in 0..2 {

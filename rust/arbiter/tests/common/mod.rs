@@ -153,9 +153,9 @@ impl Host {
     }
 
     /// Starts a daemon on this host's machine.
-    pub fn daemon(&self, name: &str, words: &[&str]) -> Daemon {
+    pub fn daemon(&self, name: &str) -> Daemon {
         let path = path_of(name);
-        let mut command = run(&path, words);
+        let mut command = run(&path, &[]);
         command.env("ARBITER_STAT", &self.file);
         Daemon::begun(command, path)
     }
