@@ -1,9 +1,9 @@
 //! Tests of the queue of waiting children: one that is filled until it refuses and then emptied, and one into which one
 //! kernel thread pushes and from which another pops.
-ghost use Rattle.arachne_spill.specs.Views.{IsPassOf};
+ghost use Rattle.arachne_jobs.specs.Views.{IsPassOf};
 
 use arachne_contexts::Tagged;
-use arachne_spill::{CAPACITY, SpillPass, SpillQueue};
+use arachne_jobs::{CAPACITY, SpillPass, SpillQueue};
 use std::alloc::AllocError;
 use std::sync::Wait;
 use std::thread;
