@@ -1,8 +1,8 @@
 //! Test of the queue of waiting children: it is filled until it refuses, and then emptied.
-ghost use Rattle.arachne_spill.specs.Views.{IsPassOf};
+ghost use Rattle.arachne_jobs.specs.Views.{IsPassOf};
 
 use arachne_contexts::Tagged;
-use arachne_spill::{CAPACITY, SpillPass, SpillQueue};
+use arachne_jobs::{CAPACITY, SpillPass, SpillQueue};
 use std::alloc::AllocError;
 use std::sync::Wait;
 
