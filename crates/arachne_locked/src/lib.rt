@@ -7,9 +7,11 @@
 //! on atomic words with this one.
 #![tactic(auto)]
 
+mod carriers;
 mod homes;
 mod locked;
 mod seat;
+mod slots;
 mod state;
 mod tokens;
 

@@ -1,6 +1,5 @@
 //! The calls on a table behind a lock: each takes the lock, changes the state, and frees the lock.
-ghost use Rattle.std.specs.Prelude.{◌≡◌, ◌<◌, ◌≤◌, ◌+◌, ◌*◌, ◌≢◌, ℕ, IsTrue, IfOk, IfErr};
-ghost use Rattle.arachne_core.specs.declared.layout.TheConstants.{SLOTS};
+ghost use Rattle.std.specs.Prelude.{◌≡◌, ◌<◌, ◌≤◌, ◌*◌, ◌≢◌, ℕ, IsTrue, IfOk, IfErr};
 ghost use Rattle.arachne_core.specs.Occupancy.{IsOccupancyWord};
 ghost use Rattle.arachne_contexts.specs.Words.{HasNoPlace, ShowsFull, ShowsNoRoom};
 ghost use Rattle.arachne_contexts.specs.Answers.{RestsAs};
@@ -8,7 +7,9 @@ ghost use Rattle.arachne_contexts.specs.Out.{Thread as a_thread, Spends};
 ghost use Rattle.arachne_weights.specs.Weight.{first_part, second_part};
 ghost use Rattle.arachne_locked.specs.Seats.{HasCounted, CountsOut};
 
+use crate::carriers::Carriers;
 use crate::seat::LockedSeat;
+use crate::slots::Slots;
 use crate::state::{TableState, no_core};
 use crate::tokens::{LockedClaim, LockedHold};
 use arachne_contexts::{Claimed, Contexts, Held, Moved, Rested, Seats, Tagged, Taken, Woken};
@@ -21,11 +22,9 @@ use std::sync::{Mutex, Wait};
 #[derive(Drop)]
 pub struct LockedContexts<T: Tagged> {
     state: Mutex<TableState<T>>,
-    /// The number of the seat that was split off last; 0 is the number of the first seat.
-    carriers: Mutex<u32>,
+    carriers: Mutex<Carriers>,
     cores: u8,
-    slots: u8,
-    ghost few: { slots ≤ SLOTS },
+    slots: Slots,
 }
 
 /// Returns the core's occupancy word, or the word of a full core if `occ` is `None` because the table has no such core.
@@ -44,7 +43,7 @@ impl<T: Tagged + Drop> LockedContexts<T> {
         ensures value { result ≡ self.now.slots }
         ensures few { result ≤ SLOTS }
     {
-        self.slots
+        self.slots.count()
     }
 }
 
@@ -53,8 +52,7 @@ impl<T: Tagged + Drop> LockedContexts<T> {
 ///
 /// The function checks this at run time, since proofs outside the lock don't know how many thread slots the cores
 /// behind the lock have.
-fn full_word(word: u64, slots: u8) -> u64
-    requires { slots ≤ SLOTS }
+fn full_word(word: u64, slots: Slots) -> u64
     ensures { ShowsFull slots result }
 {
     if let Some(occ) = OccWord::from_word(word) {
@@ -67,8 +65,7 @@ fn full_word(word: u64, slots: u8) -> u64
 
 /// Returns `word` if it is the occupancy word of a core to which no thread may be moved, and otherwise the word of a
 /// core whose `slots` thread slots are all occupied.
-fn no_room_word(word: u64, slots: u8) -> u64
-    requires { slots ≤ SLOTS }
+fn no_room_word(word: u64, slots: Slots) -> u64
     ensures { ShowsNoRoom slots result }
 {
     if let Some(occ) = OccWord::from_word(word) {
@@ -80,36 +77,17 @@ fn no_room_word(word: u64, slots: u8) -> u64
 }
 
 /// Returns whether the core belongs to one thread only, or none of its thread slots is free.
-fn has_no_place(occ: OccWord, slots: u8) -> bool
-    requires { slots ≤ SLOTS }
+fn has_no_place(occ: OccWord, slots: Slots) -> bool
     ensures { IsTrue result → HasNoPlace slots occ }
 {
-    occ.is_exclusive() || occ.lowest_free_below(slots).is_none()
+    occ.is_exclusive() || occ.lowest_free_below(slots.count()).is_none()
 }
 
 /// Returns the occupancy word of a core whose thread slots are all occupied.
-fn full_core(slots: u8) -> u64
-    requires { slots ≤ SLOTS }
+fn full_core(slots: Slots) -> u64
     ensures { ShowsFull slots result }
 {
-    no_core(slots).word()
-}
-
-/// Returns a number for a new seat (a kernel thread's right to call the table), which is split off the seat with the
-/// number `other`. `last` is the number before.
-///
-/// The result is greater than all numbers before, until all numbers of 32 bits have been used. After that, the numbers
-/// begin at 0 again; even then, a new seat's number differs from that of the seat from which it was split off.
-fn next_carrier(last: &mut u32, other: u32) -> u32
-    ensures last { last.new ≡ result }
-    ensures apart { result ≢ other }
-    ensures fresh { last.old + 1 < u32.MAX → last.old < result }
-{
-    *last = last.wrapping_add(1);
-    if *last == other {
-        *last = last.wrapping_add(1);
-    }
-    *last
+    no_core(slots.count()).word()
 }
 
 impl<T: Tagged + Drop> Seats for LockedContexts<T> {
@@ -134,9 +112,9 @@ impl<T: Tagged + Drop> Seats for LockedContexts<T> {
         let state = TableState::new(alloc, cores, slots, first_generation)?;
         let table = LockedContexts {
             state: Mutex::new(state),
-            carriers: Mutex::new(0),
+            carriers: Mutex::new(Carriers::new()),
             cores,
-            slots,
+            slots: Slots::new(slots),
         };
         let seat = LockedSeat {
             carrier: 0,
@@ -153,7 +131,7 @@ impl<T: Tagged + Drop> Seats for LockedContexts<T> {
         ensures second { result.1 ≡ record { carrier = result.1.carrier; weight = second_part seat.weight; out = 0 } }
         ensures carriers { result.1.carrier ≢ seat.carrier }
     {
-        let carrier = next_carrier(&mut *self.carriers.lock(rt), seat.carrier);
+        let carrier = self.carriers.lock(rt).next(seat.carrier);
         let (first, second) = seat.weight.split();
         let own = LockedSeat {
             weight: first,
