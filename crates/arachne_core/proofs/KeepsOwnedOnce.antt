@@ -199,11 +199,7 @@ taken_not_free h s r = absurd r
 
 taken-thread : (h : ℕ) (s : State) (tag : ℕ) → has_thread (taken h s) tag ≡ has_thread s tag
 taken-thread h (Ready t) tag = refl
-taken-thread h Free tag = refl
-taken-thread h (Claimed k) tag = refl
-taken-thread h (Blocked t) tag = refl
-taken-thread h (Held k w t) tag = refl
-taken-thread h Spent tag = refl
+taken-thread h _ tag = refl
 
 taken-given : (h : ℕ) (s : State) → IsReady s → HasGivenId (taken h s)
 taken-given h (Ready t) r = tt

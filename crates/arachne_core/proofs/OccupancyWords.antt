@@ -116,9 +116,6 @@ mask_of-none (b ∷ bs) h = omega (arith, ap bit (h 0 (omega arith)), mask_of-no
 
 -- ---- the fields of a word
 
-pub field_mask : (m n : ℕ) (x y : Bool) → m < 2 ^ MASK_BITS → n < 2 ^ 6 → (m + 2 ^ MASK_BITS * n + 2 ^ 62 * bit x + 2 ^ 63 * bit y) % 2 ^ MASK_BITS ≡ m
-field_mask m n x y a b = omega (arith, bit-le x, bit-le y)
-
 pub field_count : (m n : ℕ) (x y : Bool) → m < 2 ^ MASK_BITS → n < 2 ^ 6 → (m + 2 ^ MASK_BITS * n + 2 ^ 62 * bit x + 2 ^ 63 * bit y) / 2 ^ MASK_BITS % 2 ^ 6 ≡ n
 field_count m n x y a b = omega (arith, bit-le x, bit-le y)
 
@@ -332,9 +329,6 @@ from_bool-bit true = refl
 from_bool-bit false = refl
 
 -- ---- the laws of one index, over words
-
-same_shift : (i : ℕ) → i < 64 → 1 * 2 ^ i % 2 ^ 64 ≡ 2 ^ i
-same_shift i h = one_shl i 64 h
 
 pub has_one_more : (w i : ℕ) → IsOccupancyWord w → i < MASK_BITS → get_or (occupancy_of w).occupied i false ≡ false → HasOneMore w i (w + (2 ^ i + 2 ^ MASK_BITS))
 has_one_more w i h i_in free =

@@ -97,17 +97,7 @@ answers_owned_once e old new (Err Memory) o a = subst (λ (k : ContextTable). Ow
 -- an event leaves the number of cores
 after_cores : (w : World) (e : Event) → (after w e).cores ≡ w.cores
 after_cores w (event.Claim h x) = refl
-after_cores w (event.Alone h x) = refl
-after_cores w (event.Post h x tag) = refl
-after_cores w (event.Take h x) = refl
-after_cores w (event.Rest h x r) = refl
-after_cores w (event.Wake id) = refl
-after_cores w (event.Retire h x) = refl
-after_cores w (event.Release h x) = refl
-after_cores w (event.CloseCore c) = refl
-after_cores w (event.OpenCore c) = refl
-after_cores w (event.Move h x y) = refl
-after_cores w event.Still = refl
+after_cores w _ = refl
 
 pub answers_cores : (e : Event) (old new : ContextTable) (r : Result (Unit {0}) NotApplied) → Answers e old new r → (world_of new).cores ≡ (world_of old).cores
 answers_cores e old new (Ok u) a = ap (λ (w : World). w.cores) a.1 ∙ after_cores (world_of old) e
@@ -117,17 +107,7 @@ answers_cores e old new (Err Memory) a = ap (λ (k : ContextTable). (world_of k)
 -- an event leaves the number of places
 after_slots : (w : World) (e : Event) → (after w e).slots ≡ w.slots
 after_slots w (event.Claim h x) = refl
-after_slots w (event.Alone h x) = refl
-after_slots w (event.Post h x tag) = refl
-after_slots w (event.Take h x) = refl
-after_slots w (event.Rest h x r) = refl
-after_slots w (event.Wake id) = refl
-after_slots w (event.Retire h x) = refl
-after_slots w (event.Release h x) = refl
-after_slots w (event.CloseCore c) = refl
-after_slots w (event.OpenCore c) = refl
-after_slots w (event.Move h x y) = refl
-after_slots w event.Still = refl
+after_slots w _ = refl
 
 pub answers_slots : (e : Event) (old new : ContextTable) (r : Result (Unit {0}) NotApplied) → Answers e old new r → (world_of new).slots ≡ (world_of old).slots
 answers_slots e old new (Ok u) a = ap (λ (w : World). w.slots) a.1 ∙ after_slots (world_of old) e
