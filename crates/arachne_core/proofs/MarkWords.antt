@@ -3,11 +3,8 @@ use Rattle.std.proofs.Common.{◌≡◌, ℕ, suc, ◌+◌, ◌*◌, ◌/◌, �
 use Rattle.std.specs.Int.{bit_at}
 use Rattle.std.proofs.lemmas.Nat.{shr-shr, pow-add, mod_below, mod_low, shr_high, shr_split}
 use Rattle.std.proofs.Math.Nat.{mul_comm, mul_assoc, one-le-pow}
-use Rattle.arachne_core.specs.declared.mark.Mark.{Mark}
-use Rattle.arachne_core.specs.declared.mark.Mark.TheVariants.{Free}
-use Rattle.arachne_core.specs.declared.place.Place.{Place}
-use Rattle.arachne_core.specs.declared.layout.TheConstants.{SLOTS}
-use Rattle.arachne_core.specs.Occupancy.{bit}
+use Rattle.arachne_core.specs.declared.{mark.Mark.Mark, mark.Mark.TheVariants.Free, place.Place.Place}
+use Rattle.arachne_core.specs.{declared.layout.TheConstants.SLOTS, Occupancy.bit}
 use Rattle.arachne_core.specs.Marked.{Marked, mark_code, mark_named, mark_word, marked_of, IsMarkWord, with_mark, with_place}
 use Rattle.arachne_core.proofs.OccupancyWords.{bit-le, bit-eqb, eqb-bit}
 

@@ -1,15 +1,12 @@
 -- Occupancy words: packing what was read, reading what was packed, and one index more or less.
 use Rattle.std.proofs.Common.{◌≡◌, ℕ, zero, suc, ◌+◌, ◌-◌, ◌*◌, ◌/◌, ◌%◌, ◌^◌, ◌<◌, ◌≤◌, Bool, true, false, eqb, not, List, [], ◌∷◌, length, get_or, set, replicate, ◌↔◌, inl, inr, refl, sym, ap, ◌∙◌, subst, arith}
-use Rattle.std.specs.Int.{bit_at, w64, trailing_ones, from_bool}
-use Rattle.std.specs.Int.RustNames.{count_ones, bit_and, bit_or}
+use Rattle.std.specs.Int.{bit_at, w64, trailing_ones, from_bool, RustNames.{count_ones, bit_and, bit_or}}
 use Rattle.std.specs.Int.Count.{ones_step, ones-ones}
-use Rattle.std.proofs.lemmas.Bool.{cases_eq, true≢false, eq-eqb, ne_eqb}
-use Rattle.std.proofs.lemmas.Nat.Bits.{bit_at_lowest, bit_at-suc}
+use Rattle.std.proofs.lemmas.{Bool.{cases_eq, true≢false, eq-eqb, ne_eqb}, Nat.Bits.{bit_at_lowest, bit_at-suc}}
 use Rattle.std.proofs.lemmas.Nat.Bits.{bit_at_or, bit_at-pow_same, bit_at-pow_other, bit_at-lt, same_from_bits, and_pow, bit_at-zero, bit_at-trailing_ones}
 use Rattle.std.proofs.lemmas.Nat.{mod-pow-add, or_disjoint, and-not, and_comm, and_mask}
 use Rattle.std.proofs.lemmas.List.{set-get_or, set-set, length-set, get_or-set_same}
-use Rattle.std.proofs.lemmas.Nat.{pow_pos, pow_below, one_shl}
-use Rattle.std.proofs.Math.Nat.{pow-suc, mul_comm}
+use Rattle.std.proofs.{lemmas.Nat.{pow_pos, pow_below, one_shl}, Math.Nat.{pow-suc, mul_comm}}
 use Rattle.arachne_core.specs.declared.layout.TheConstants.{MASK_BITS}
 use Rattle.arachne_core.specs.Occupancy.{Occupancy, bit, mask_of, count_of, occupancy_word, flags, occupancy_of, count_field, IsOccupancyWord, vacant, HasOneMore}
 

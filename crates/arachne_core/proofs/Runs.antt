@@ -3,12 +3,10 @@ use Rattle.std.proofs.Common.{◌≡◌, ◌≢◌, ℕ, ◌+◌, ◌*◌, ◌/�
 use Rattle.std.proofs.lemmas.Bool.{eqb-true, ltb-true, and_parts, and_left, and_right, cases_Bool, cases_eq, true≢false, false≢true, cond-false}
 use Rattle.std.proofs.lemmas.Nat.{div_below, mod_below, div-add-mod', div-mul-add, mod-mul-add, mul-add-lt}
 use Rattle.std.proofs.Math.Nat.{mul_comm}
-use Rattle.arachne_core.specs.declared.place.Place.{Place}
-use Rattle.arachne_core.specs.declared.state.State.{State}
+use Rattle.arachne_core.specs.declared.{place.Place.Place, state.State.State}
 use Rattle.arachne_core.specs.declared.state.State.TheVariants.{Free, Claimed, Ready, Blocked, Held}
-use Rattle.arachne_core.specs.declared.event.Event.{Event}
+use Rattle.arachne_core.specs.{declared.event.Event.Event, Place.{first_place, number_of}}
 use Rattle.arachne_core.specs.declared.event.Event.TheVariants as event
-use Rattle.arachne_core.specs.Place.{first_place, number_of}
 use Rattle.arachne_core.specs.World.{World, Thread, with_at, with_place, IsContext, IsPlace, IsEmptyCore, IsReady, IsHeldBy, woken, Allowed, after}
 use Rattle.arachne_core.specs.OwnedOnce.{OwnedOnce, has_thread, is_live}
 use Rattle.arachne_core.specs.Run.{IsOpening, IsRun, after_all, IsLive, SharesNothing, IsDrained, NeverOpens, LetsGo, NeverLetsGo}

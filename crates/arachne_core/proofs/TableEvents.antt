@@ -1,17 +1,12 @@
 -- The effect of each event on the World that a table stands for.
 use Rattle.std.proofs.Common.{◌≡◌, ℕ, ◌+◌, ◌<◌, Bool, true, cond, ltb, List, [], ◌∷◌, ◌++◌, length, Result, Ok, Err, refl, sym, ap, ◌∙◌, subst}
-use Rattle.arachne_core.specs.declared.place.Place.{Place}
-use Rattle.arachne_core.specs.declared.state.Context.{Context}
-use Rattle.arachne_core.specs.declared.state.State.{State}
-use Rattle.arachne_core.specs.declared.state.State.TheVariants.{Claimed, Ready, Spent}
-use Rattle.arachne_core.specs.declared.event.Event.{Event}
+use Rattle.arachne_core.specs.declared.{place.Place.Place, state.Context.Context, state.State.State}
+use Rattle.arachne_core.specs.declared.{state.State.TheVariants.{Claimed, Ready, Spent}, event.Event.Event}
 use Rattle.arachne_core.specs.declared.event.Event.TheVariants as event
-use Rattle.arachne_core.specs.declared.event.NotApplied.{NotApplied}
-use Rattle.arachne_core.specs.declared.event.NotApplied.TheVariants.{NotAllowed, Memory}
+use Rattle.arachne_core.specs.declared.event.NotApplied.{NotApplied, TheVariants.{NotAllowed, Memory}}
 use Rattle.arachne_core.specs.declared.layout.TheConstants.{LAST_GENERATION}
 use Rattle.arachne_core.specs.World.{World, Thread, with_at, with_place, with_thread, tag_of, Allowed, after}
-use Rattle.arachne_core.specs.OwnedOnce.{OwnedOnce}
-use Rattle.arachne_core.specs.ContextTable.{ContextTable, context, world_of, Answers}
+use Rattle.arachne_core.specs.{OwnedOnce.OwnedOnce, ContextTable.{ContextTable, context, world_of, Answers}}
 use Rattle.arachne_core.specs.TableChanges.{with_context, with_occupied, with_exclusive, with_swapped, HasPlace}
 use Rattle.arachne_core.proofs.TableWorlds.{context_world, state_world, occupied_world, exclusive_world, swapped_world, given_world, ended_world}
 use Rattle.arachne_core.proofs.KeepsOwnedOnce.{keeps_owned_once}

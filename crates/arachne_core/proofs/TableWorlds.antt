@@ -1,10 +1,7 @@
 -- The World that a table stands for, after one change to its lists.
 use Rattle.std.proofs.Common.{◌≡◌, ℕ, ◌+◌, ◌<◌, Bool, true, false, cond, inl, inr, List, [], ◌∷◌, ◌++◌, length, get_or, set, refl, sym, ap, ◌∙◌, arith, length-set, get_or-set_same, get_or-set_other}
-use Rattle.std.proofs.lemmas.Bool.{cases_eq}
-use Rattle.std.proofs.lemmas.List.Sums.{sum_by_push}
-use Rattle.arachne_core.specs.declared.place.Place.{Place}
-use Rattle.arachne_core.specs.declared.state.Context.{Context}
-use Rattle.arachne_core.specs.Occupancy.{Occupancy}
+use Rattle.std.proofs.lemmas.{Bool.cases_eq, List.Sums.sum_by_push}
+use Rattle.arachne_core.specs.{declared.place.Place.Place, declared.state.Context.Context, Occupancy.Occupancy}
 use Rattle.arachne_core.specs.World.{World, Thread, with_at, with_place, with_thread, same_thread}
 use Rattle.arachne_core.specs.ContextTable.{ContextTable, context, core, no_context, no_core, times, world_of}
 use Rattle.arachne_core.specs.TableChanges.{with_context, with_occupied, with_exclusive, with_swapped, HasPlace}

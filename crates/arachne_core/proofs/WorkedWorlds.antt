@@ -5,11 +5,9 @@ use Rattle.arachne_core.specs.declared.place.Place.{Place}
 use Rattle.arachne_core.specs.declared.state.State.TheVariants.{Free, Claimed, Ready, Blocked, Held, Spent}
 use Rattle.arachne_core.specs.declared.state.Rest.TheVariants as rest
 use Rattle.arachne_core.specs.declared.mark.Mark.TheVariants as mark
-use Rattle.arachne_core.specs.declared.event.Event.{Event}
+use Rattle.arachne_core.specs.{declared.event.Event.Event, Place.first_place}
 use Rattle.arachne_core.specs.declared.event.Event.TheVariants as event
-use Rattle.arachne_core.specs.Place.{first_place}
-use Rattle.arachne_core.specs.World.{World, Thread, Allowed, after, put_back}
-use Rattle.arachne_core.specs.OwnedOnce.{OwnedOnce}
+use Rattle.arachne_core.specs.{World.{World, Thread, Allowed, after, put_back}, OwnedOnce.OwnedOnce}
 use Rattle.arachne_core.specs.Run.{IsOpening, IsRun, after_all, IsDrained, NeverOpens, NeverLetsGo}
 use Rattle.arachne_core.specs.ContextTable.{marked}
 

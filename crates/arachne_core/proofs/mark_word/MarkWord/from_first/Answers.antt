@@ -1,5 +1,4 @@
-use Rattle.std.proofs.Common.{ℕ, ◌/◌, ◌^◌, ap, ◌∙◌}
-use Rattle.std.proofs.lemmas.Nat.{and_mask}
+use Rattle.std.proofs.{Common.{ℕ, ◌/◌, ◌^◌, ap, ◌∙◌}, lemmas.Nat.and_mask}
 use Rattle.arachne_core.specs.Marked.{mark_named}
 use Rattle.arachne_core.proofs.OccupancyWords.{bit_test}
 use Rattle.arachne_core.proofs.mark_word.MarkWord.from_first.Goals as goal

@@ -1,7 +1,5 @@
-use Rattle.std.proofs.Common.{◌/◌, ◌^◌, refl, sym, ap, ◌∙◌, arith}
+use Rattle.std.proofs.{Common.{◌/◌, ◌^◌, refl, sym, ap, ◌∙◌, arith}, lemmas.Nat.and_mask, lemmas.Bool.false≢true}
 use Rattle.std.specs.Int.RustNames.{count_ones}
-use Rattle.std.proofs.lemmas.Nat.{and_mask}
-use Rattle.std.proofs.lemmas.Bool.{false≢true}
 use Rattle.arachne_core.specs.declared.layout.TheConstants.{MASK_BITS}
 use Rattle.arachne_core.proofs.OccupancyWords.{counted, counts}
 use Rattle.arachne_core.proofs.occ_word.OccWord.from_word.Goals as goal
