@@ -1,5 +1,4 @@
 //! Tests of the context tables by public calls. Each type of table must give the same results in each test case.
-ghost use Rattle.std.specs.Prelude.{ℕ};
 
 mod carriers;
 mod contention;

@@ -27,24 +27,6 @@ struct Work<S> {
     moved: u64,
 }
 
-/// The result of a run: how many threads are settled, and how many were moved.
-///
-/// A thread is settled if it was put into the table exactly once, and then either has ended or is left in the table,
-/// exactly once. If a thread is not settled, `settled` is `None`.
-#[derive(Clone, Copy)]
-struct ContentionResult {
-    settled: Option<usize>,
-    moved: u64,
-}
-
-impl ContentionResult {
-    /// Returns whether each thread of both kernel threads is settled: put in once, and then ended or left in the table
-    /// once.
-    fn is_settled(&self) -> bool {
-        self.settled == Some(2 * THREADS as usize)
-    }
-}
-
 type Words = WordContexts<TagOnly>;
 
 type WordWork = Work<WordSeat<TagOnly>>;
@@ -68,9 +50,7 @@ fn post<C: Contexts<TagOnly>, R: Wait>(
             work.posted = work.posted.wrapping_add(1);
             work.log.push(tag.wrapping_mul(2)).ok()
         }
-        Claimed::Full(_) => Some(()),
-        Claimed::Closed(_) => Some(()),
-        Claimed::Lost(_) => Some(()),
+        Claimed::Full(_) | Claimed::Closed(_) | Claimed::Lost(_) => Some(()),
     }
 }
 
@@ -79,14 +59,14 @@ fn ended(job: &TagOnly) -> u64 {
     job.0.wrapping_mul(2).wrapping_add(1)
 }
 
-/// Takes the thread in a slot, if it is ready, and ends it. Returns whether a thread was ended.
+/// Takes the thread in a slot, if it is ready, and ends it. Returns `None` if memory is refused.
 fn end<C: Contexts<TagOnly>, R: Wait>(
     rt: &R,
     table: &C,
     work: &mut Work<C::Seat>,
     core: u8,
     index: u8,
-) -> Option<bool>
+) -> Option<()>
     requires seat { C.sits table.now work.old.seat × C.idle table.now work.old.seat }
     requires core { core < C.core_count table.now }
     requires index { index < C.slot_count table.now }
@@ -95,33 +75,28 @@ fn end<C: Contexts<TagOnly>, R: Wait>(
     match table.take(rt, &mut work.seat, core, index) {
         Taken::Run(held) => {
             let job = table.finish(rt, &mut work.seat, held).ok()?;
-            work.log.push(ended(&job)).ok()?;
-            Some(true)
+            work.log.push(ended(&job)).ok()
         }
-        Taken::NotReady(_) => Some(false),
-        Taken::Lost(_) => Some(false),
+        Taken::NotReady(_) | Taken::Lost(_) => Some(()),
     }
 }
 
-/// Takes and ends each thread that is ready on a core. Returns the number of these threads.
+/// Takes and ends each thread that is ready on a core. Returns `None` if memory is refused.
 fn end_all<C: Contexts<TagOnly>, R: Wait>(
     rt: &R,
     table: &C,
     work: &mut Work<C::Seat>,
     core: u8,
-) -> Option<u64>
+) -> Option<()>
     requires seat { C.sits table.now work.old.seat × C.idle table.now work.old.seat }
     requires core { core < C.core_count table.now }
     requires slots { SLOTS ≡ C.slot_count table.now }
     ensures { IfSome result (λ _. C.sits table.now work.new.seat × C.idle table.now work.new.seat) }
 {
-    let mut ended: u64 = 0;
     for index in 0..SLOTS {
-        if end(rt, table, work, core, index)? {
-            ended = ended.wrapping_add(1);
-        }
+        end(rt, table, work, core, index)?;
     }
-    Some(ended)
+    Some(())
 }
 
 /// The calls that a kernel thread makes in each round, on a table of `cores` cores.
@@ -224,23 +199,21 @@ fn work_side_by_side<R: Threads + Wait + Sync>(
     Some((first?, second?))
 }
 
-/// Returns the number of settled threads (put in once, and ended or left once), or `None` if a thread is not settled.
+/// Returns whether each thread of both kernel threads was put into the table exactly once, and then either has ended or
+/// is left in the table, exactly once.
 ///
 /// The function joins the logs of both kernel threads, and counts the threads that are left in the table as ended.
-fn settled(
+fn are_settled(
     mut log: Vec<u64>,
     other: Vec<u64>,
     left: Vec<(ThreadId, TagOnly)>,
-) -> Result<Option<usize>, Fail> {
+) -> Result<bool, Fail> {
     log.extend(other)?;
     for (_, job) in left {
         log.push(ended(&job))?;
     }
     log.sort()?;
-    if log.chunks(2).all(|pair| is_pair(pair)) {
-        return Ok(Some(log.len() / 2));
-    }
-    Ok(None)
+    Ok(log.len() == 4 * THREADS as usize && log.chunks(2).all(|pair| is_pair(pair)))
 }
 
 /// Returns whether two adjacent entries of a sorted log show that one thread was put into the table and ended.
@@ -270,13 +243,13 @@ fn left(
 }
 
 /// Runs two kernel threads on one table of `cores` cores. If `moves` is true, the second of them moves threads away
-/// from core 1.
+/// from core 1. Returns whether each thread is settled, and how many were moved.
 fn contend<R: Threads + Wait + Sync>(
     rt: &R,
     alloc: Global,
     cores: u8,
     moves: bool,
-) -> Result<ContentionResult, Fail>
+) -> Result<(bool, u64), Fail>
     requires some { 1 ≤ cores }
     requires most { cores ≤ CORES }
 {
@@ -297,22 +270,19 @@ fn contend<R: Threads + Wait + Sync>(
     let (first, second) = works.ok_or("no memory")?;
     let moved = first.moved.wrapping_add(second.moved);
     let left = left(alloc, table, first.seat, second.seat).ok_or("not closed")?;
-    Ok(ContentionResult {
-        settled: settled(first.log, second.log, left)?,
-        moved,
-    })
+    Ok((are_settled(first.log, second.log, left)?, moved))
 }
 
 #[test]
 fn two_threads_on_one_core_of_words(rt: HostRuntime) -> Result<(), Fail> {
-    let outcome = contend(&rt, rt.alloc(), 1, false)?;
-    assert!(rt; outcome.is_settled());
+    let (are_settled, _) = contend(&rt, rt.alloc(), 1, false)?;
+    assert!(rt; are_settled);
     Ok(())
 }
 
 #[test]
 fn two_threads_one_of_which_moves_words(rt: HostRuntime) -> Result<(), Fail> {
-    let outcome = contend(&rt, rt.alloc(), 2, true)?;
-    assert!(rt; outcome.is_settled() && outcome.moved > 0);
+    let (are_settled, moved) = contend(&rt, rt.alloc(), 2, true)?;
+    assert!(rt; are_settled && moved > 0);
     Ok(())
 }
