@@ -30,8 +30,6 @@ enum Alteration {
     RefusesMemory,
     /// `claim` returns that every core except core 0 is full.
     IsFull,
-    /// `out` returns 1 for every seat, as if the seat (right to use the table) still held a slot or a thread.
-    HasOut,
     /// A claim on a core in use fails with `AllocError`. After such a failure, `finish` returns threads as errors.
     RefusesMemoryFirst,
     /// `finish` returns threads as errors. After that, a claim on a core in use fails with `AllocError`.
@@ -137,7 +135,6 @@ impl<T: Tagged + Drop> Seats for Altered<T> {
             (5, _) => Alteration::HandsBack,
             (6, _) => Alteration::RefusesMemory,
             (7, _) => Alteration::IsFull,
-            (8, _) => Alteration::HasOut,
             (9, _) => Alteration::RefusesMemoryFirst,
             (10, _) => Alteration::HandsBackFirst,
             (_, 5) => Alteration::Loses,
@@ -168,10 +165,7 @@ impl<T: Tagged + Drop> Seats for Altered<T> {
     }
 
     fn out(&self, seat: &LockedSeat) -> u32 {
-        match self.alteration {
-            Alteration::HasOut => 1,
-            _ => self.inner.out(seat),
-        }
+        self.inner.out(seat)
     }
 }
 

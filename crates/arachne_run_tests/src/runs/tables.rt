@@ -10,7 +10,7 @@ use std::test::Fail;
 
 /// The table hands back each thread that is to be finished, so that the run has no report.
 const HANDED_BACK: Row = Row {
-    shows: "what comes back, or is out in the end, gives no report",
+    shows: "what comes back gives no report",
     forms: LOCKED,
     machines: (&[5], QUANTA),
     told: (Telling::Nothing, "Worker(Token)"),
@@ -30,12 +30,6 @@ const REFUSED: Row = Row {
 
 const ROWS: &[Row] = &[
     HANDED_BACK,
-    // If a seat (right to use the table) still holds a slot or a thread at the end, the fault is `Token`, even if
-    // memory was refused too.
-    Row {
-        machines: (&[8], QUANTA),
-        ..HANDED_BACK
-    },
     // The root ends before its child has begun. When the table is closed, it hands the child back.
     Row {
         shows: "a thread that is left stops the report",
