@@ -2,7 +2,7 @@
 use Rattle.std.specs.Prelude.{◌≡◌, ◌≢◌, ◌+◌}
 use Rattle.arachne_contexts.specs.declared.seats.Seats as seats
 use Rattle.arachne_pool.specs.Leftover.{IsWhole, count_of}
-use Rattle.arachne_pool.specs.Workers.{AreKept, IsIdleAt, WorkerView}
+use Rattle.arachne_pool.specs.Workers.{IsIdleAt, WorkerView}
 use Rattle.arachne_pool.specs.declared.closing.NotClosed.{NotClosed}
 use Rattle.arachne_pool.specs.declared.closing.NotClosed.TheVariants.{NotWhole, Memory, Lost}
 use Rattle.arachne_pool.specs.declared.pool.Pool.{Pool}
@@ -15,6 +15,6 @@ module _ {C Job Seat Output : Type 0} {G : seats.Ghosts C Seat} where
   abbrev pub ComesBack : Pool C Seat G → WorkerView Seat Job → NotClosed C Job Seat Output G → Type 0
   ComesBack pool worker (NotWhole back theirs) = (back ≡ pool) × (theirs ≡ worker) × (IsWhole G.weight worker.seat → ⊥)
   ComesBack pool worker (Memory table seat near) =
-      IsIdleAt G.sits G.idle table seat × (G.weight seat ≡ whole) × AreKept worker near.items
+      IsIdleAt G.sits G.idle table seat × (G.weight seat ≡ whole) × (near.items ≡ worker.waiting)
   ComesBack pool worker (Lost left) =
-      AreKept worker left.near.items × (worker.tally.spawned ≢ worker.tally.ended + count_of left)
+      (left.near.items ≡ worker.waiting) × (worker.tally.spawned ≢ worker.tally.ended + count_of left)

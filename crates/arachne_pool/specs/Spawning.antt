@@ -1,5 +1,5 @@
 -- What comes of a spawn.
-use Rattle.std.specs.Prelude.{◌≡◌, ℕ, ◌+◌, ◌-◌, ◌^◌, ◌<◌, ◌≤◌, ◌⊎◌, List, [], ◌∷◌, ◌++◌, Option, None, IsSome}
+use Rattle.std.specs.Prelude.{◌≡◌, ℕ, ◌+◌, ◌-◌, ◌^◌, ◌<◌, ◌⊎◌, List, [], ◌∷◌, ◌++◌, Option, None, IsSome}
 use Rattle.arachne_pool.specs.Jobs.{Being}
 use Rattle.arachne_pool.specs.Workers.{HasNoCore, WorkerView}
 use Rattle.arachne_pool.specs.declared.spawning.Refusal.{Refusal}
@@ -11,19 +11,10 @@ IsRefusedBy seat NoPlace = IsSome seat
 IsRefusedBy seat Memory = Unit {0}
 IsRefusedBy seat NoSeat = seat ≡ None
 
--- a worker has counted one job more, as long as its count is exact, has told of it, and keeps as many as before
+-- a worker has counted one job more, as long as its count is exact, and has told of it
 pub record SpawnsOne {Seat Job : Type 0} (old new : WorkerView Seat Job) : Type 0 where
   pub spawned : old.tally.spawned < 2 ^ 64 - 1 → new.tally.spawned ≡ old.tally.spawned + 1
   pub ended : new.tally.ended ≡ old.tally.ended
-  pub near : new.near ≡ old.near
-  pub told : new.told ≡ new.tally
-
--- the same, but the worker keeps the new job behind the others
-pub record KeepsNew {Seat Job : Type 0} (given : Being Job) (old new : WorkerView Seat Job) : Type 0 where
-  pub spawned : old.tally.spawned < 2 ^ 64 - 1 → new.tally.spawned ≡ old.tally.spawned + 1
-  pub ended : new.tally.ended ≡ old.tally.ended
-  pub near : new.near ≡ old.near + 1
-  pub waiting : new.waiting ≡ old.waiting ++ given ∷ []
   pub told : new.told ≡ new.tally
 
 -- where there was no place the seat is there; it may be lost where a place is given back for want of memory
@@ -38,12 +29,6 @@ pub record HandsBack {Seat Job : Type 0} (job : Job) (old new : WorkerView Seat 
   pub refused : IsRefusedBy old.seat why
   pub kept : new ≡ record old { seat = new.seat }
   pub seat : IsKeptAfter new.seat why
-
--- of the jobs that it keeps a worker loses none, and has one more at most, none more where it has worked for none of so
--- many cores
-abbrev pub KeepsOneAtMost : {Seat Job : Type 0} → ℕ → WorkerView Seat Job → WorkerView Seat Job → Type 0
-KeepsOneAtMost cores old new =
-    (old.near ≤ new.near) × (new.near ≤ old.near + 1) × (HasNoCore cores old → new.near ≡ old.near)
 
 -- the jobs that it keeps are those that it kept, or these and behind them the one that it was given
 abbrev pub KeepsLast : {Job : Type 0} → Being Job → List (Being Job) → List (Being Job) → Type 0

@@ -1,5 +1,4 @@
 -- What becomes of a job by where its slice has stopped.
-use Rattle.std.specs.Prelude.{Bool, false, true}
 use Rattle.arachne_contexts.specs.declared.answers.Rested.{Rested}
 use Rattle.arachne_contexts.specs.declared.answers.Rested.TheVariants as rested
 use Rattle.arachne_core.specs.declared.state.Rest.{Rest}
@@ -8,14 +7,14 @@ use Rattle.arachne_pool.specs.declared.stack.JobStop as job
 use Rattle.arachne_pool.specs.declared.stack.JobStop.TheVariants.{Goes, Waits, Sleeps, Forks, LetsGo, Ends, Short}
 
 -- it is put back as blocked where it waits or sleeps, and else as ready
-abbrev pub blocks_after : job.JobStop → Bool
-blocks_after Goes = false
-blocks_after Waits = true
-blocks_after Sleeps = true
-blocks_after Forks = false
-blocks_after LetsGo = false
-blocks_after Ends = false
-blocks_after Short = false
+abbrev pub rest_after : job.JobStop → Rest
+rest_after Goes = rest.Ready
+rest_after Waits = rest.Blocked
+rest_after Sleeps = rest.Blocked
+rest_after Forks = rest.Ready
+rest_after LetsGo = rest.Ready
+rest_after Ends = rest.Ready
+rest_after Short = rest.Ready
 
 -- one that was woken meanwhile is ready, and else it rests as was asked
 abbrev pub rests_as : Rested → Rest → Rest

@@ -1,13 +1,18 @@
 //! The calls by which a worker works on a core, one round or until all jobs have ended, and wakes jobs that sleep.
-ghost use Rattle.std.specs.Prelude.{◌≡◌, ◌<◌, ◌↔◌, IfSome, IsNone, IsSome, IsTrue, MatchOption, None, OnOk};
+ghost use Rattle.std.specs.Prelude.{◌≡◌, ◌<◌, ◌↔◌, IfSome, IsNone, IsSome, IsTrue, MatchOption, None, max};
+ghost use Rattle.arachne_pool.specs.Calls.{HasSeatAfter};
+ghost use Rattle.arachne_pool.specs.Grounds.{ground_at};
+ghost use Rattle.arachne_pool.specs.Waking.{HasWoken};
+ghost use Rattle.arachne_pool.specs.Workers.{IsIdleAt, IsWorkerOf, WorksFor};
+ghost use Rattle.arachne_workers.specs.Agendas.{LooksWithin};
 
 use crate::job::PoolJob;
 use crate::pool::Pool;
-use crate::seat::{Seat, idle_seat};
+use crate::seat::Seat;
 use crate::spawned::Spawned;
 use crate::worker::{PoolFault, Worker};
 use arachne_contexts::{Contexts, Seats, Woken};
-use arachne_core::{MarkWord, ThreadId};
+use arachne_core::{MarkWord, Rest, ThreadId};
 use arachne_workers::{CoreWorker, Desk, WorkerEvent};
 use std::mem::replace;
 use std::sync::Wait;
@@ -15,11 +20,6 @@ use std::sync::atomic::Ordering;
 use std::time::Clock;
 
 impl<C: Seats> Pool<C> {
-    ghost use Rattle.arachne_pool.specs.Calls.{HasSeatAfter};
-    ghost use Rattle.arachne_pool.specs.Grounds.{ground_at};
-    ghost use Rattle.arachne_pool.specs.Waking.{HasWoken};
-    ghost use Rattle.arachne_pool.specs.Workers.{IsArbiterFor, IsIdleAt, IsWorkerOf, WorksFor};
-
     /// Makes one round (a pass of the worker's loop) on a core. Returns whether there was anything to do.
     ///
     /// The round carries out the orders that are due to open or close cores, runs each ready job of the core for a
@@ -34,12 +34,12 @@ impl<C: Seats> Pool<C> {
     ) -> Result<bool, PoolFault>
     where
         C: Contexts<Spawned<J>>,
-        requires worker { IsWorkerOf C.sits C.idle self.now.table self.now.cores worker.old }
+        requires worker { IsWorkerOf self.now worker.old }
         requires core { core < self.now.cores }
-        ensures worker { IsWorkerOf C.sits C.idle self.now.table self.now.cores worker.new }
-        ensures seat { OnOk result (IsSome worker.new.seat) }
-        ensures fault { HasSeatAfter worker.new.seat result }
+        ensures worker { IsWorkerOf self.now worker.new }
+        ensures seat { HasSeatAfter worker.new.seat result }
         ensures same { WorksFor core worker.new }
+        ensures heeds { LooksWithin (max 1 J.most_steps) worker.old.agenda worker.new.agenda }
     {
         let mut kernel = self.enter(rt, worker, core, false);
         let Some(rounds) = &mut kernel else {
@@ -63,6 +63,9 @@ impl<C: Seats> Pool<C> {
 
     /// Makes rounds (passes of the worker's loop) on a core until the pool is stopped, or until all its jobs have ended
     /// and it is not kept open. If this worker fails, stops the other workers too.
+    ///
+    /// Between two times at which the worker reads whether the pool is stopped, and between two at which it carries out
+    /// orders that are due, its jobs make no more steps than `PoolJob::most_steps` says.
     pub fn work<'a, H: Wait + Clock, J: PoolJob>(
         &'a self,
         rt: &'a H,
@@ -71,11 +74,12 @@ impl<C: Seats> Pool<C> {
     ) -> Result<(), PoolFault>
     where
         C: Contexts<Spawned<J>>,
-        requires worker { IsWorkerOf C.sits C.idle self.now.table self.now.cores worker.old }
+        requires worker { IsWorkerOf self.now worker.old }
         requires core { core < self.now.cores }
-        ensures worker { IsWorkerOf C.sits C.idle self.now.table self.now.cores worker.new }
+        ensures worker { IsWorkerOf self.now worker.new }
         ensures seat { HasSeatAfter worker.new.seat result }
         ensures same { WorksFor core worker.new }
+        ensures heeds { LooksWithin (max 1 J.most_steps) worker.old.agenda worker.new.agenda }
     {
         self.worked.fetch_or(1 << u32::from(core), Ordering::SeqCst);
         let mut kernel = self.enter(rt, worker, core, true);
@@ -83,7 +87,7 @@ impl<C: Seats> Pool<C> {
             self.stop();
             return Err(PoolFault::Token);
         };
-        let ended = run(rounds, self);
+        let ended = run(rounds);
         if !self.leave(worker, core, &mut kernel) {
             self.stop();
             return Err(PoolFault::Token);
@@ -109,40 +113,29 @@ impl<C: Seats> Pool<C> {
     ) -> Option<Woken>
     where
         C: Contexts<Spawned<J>>,
-        requires { IsWorkerOf C.sits C.idle self.now.table self.now.cores worker.old }
-        ensures worker { IsWorkerOf C.sits C.idle self.now.table self.now.cores worker.new }
+        requires { IsWorkerOf self.now worker.old }
+        ensures worker { IsWorkerOf self.now worker.new }
         ensures answer { MatchOption result (worker.old.seat ≡ None) (HasWoken id) }
         ensures seat { IsSome worker.old.seat → IsSome worker.new.seat }
         ensures kept { worker.new ≡ record worker.old { seat = worker.new.seat } }
     {
-        let mut seat = worker.seat.take()?;
-        let woken = self.wake_by::<H, J>(rt, &mut seat, id);
-        worker.seat = Some(seat);
-        Some(woken)
-    }
-
-    /// Wakes the job of this id, by this seat, and signals the worker of the core on which the job is now. If the job
-    /// is moved meanwhile, the arbiter signals its new core's worker.
-    fn wake_by<H: Wait, J: PoolJob>(&self, rt: &H, seat: &mut C::Seat, id: ThreadId) -> Woken
-    where
-        C: Contexts<Spawned<J>>,
-        requires { IsIdleAt C.sits C.idle self.now.table seat.old }
-        ensures seat { IsIdleAt C.sits C.idle self.now.table seat.new }
-        ensures answer { HasWoken id result }
-    {
+        let Some(seat) = &mut worker.seat else {
+            return None;
+        };
         for _ in rt.forever() {
             match self.table.wake(rt, seat, id) {
                 Woken::Woken => {
                     if id.context < u32::from(self.cores) * u32::from(self.slots) {
                         let word = self.table.look_mark(rt, seat, id.context);
                         if let Some(mark) = MarkWord::from_word(word) {
+                            // If the job is moved meanwhile, the arbiter signals its new core's worker.
                             self.shared.hint(mark.place());
                         }
                     }
-                    return Woken::Woken;
+                    return Some(Woken::Woken);
                 }
-                Woken::Already(word) => return Woken::Already(word),
-                Woken::Gone => return Woken::Gone,
+                Woken::Already(word) => return Some(Woken::Already(word)),
+                Woken::Gone => return Some(Woken::Gone),
                 // Another kernel thread was faster.
                 Woken::Lost(_) => {}
             }
@@ -151,7 +144,7 @@ impl<C: Seats> Pool<C> {
     }
 
     /// Begins a call of `worker` on a core. Returns the loop that makes the call's rounds, or `None` if the worker has
-    /// no seat (right to use the table).
+    /// no seat (right to use the table). The loop has the worker's seat and data until `leave` moves them back.
     fn enter<'a, H: Wait + Clock, J: PoolJob>(
         &'a self,
         rt: &'a H,
@@ -161,11 +154,11 @@ impl<C: Seats> Pool<C> {
     ) -> Option<CoreWorker<'a, H, Seat<'a, H, J, C>>>
     where
         C: Contexts<Spawned<J>>,
-        requires worker { IsWorkerOf C.sits C.idle self.now.table self.now.cores worker.old }
+        requires worker { IsWorkerOf self.now worker.old }
         requires core { core < self.now.cores }
-        ensures desk { IfSome result (λ kernel. kernel.desk ≡ ground_at self.now.table self.now.cores) }
-        ensures worker { IsNone result → IsWorkerOf C.sits C.idle self.now.table self.now.cores worker.new }
-        ensures same { IsNone result → WorksFor core worker.new }
+        ensures kernel { IfSome result (λ k. (k.desk ≡ ground_at self.now.table self.now.cores) × (k.agenda ≡ worker.old.agenda)) }
+        ensures worker { IsNone result → IsWorkerOf self.now worker.new }
+        ensures same { IsNone result → WorksFor core worker.new × (worker.new.agenda ≡ worker.old.agenda) }
     {
         let before = replace(&mut worker.core, core);
         if before != core && before < self.cores {
@@ -174,34 +167,14 @@ impl<C: Seats> Pool<C> {
             self.shared.hint_cores(1 << u32::from(before));
         }
         let seat = worker.seat.take()?;
-        Some(self.open(rt, worker, seat, works))
-    }
-
-    /// Moves the seat (right to use the table) and the data of `worker` into the loop that makes the rounds of a call,
-    /// and returns the loop. Until `leave` moves them back, `worker` has neither.
-    fn open<'a, H: Wait + Clock, J: PoolJob>(
-        &'a self,
-        rt: &'a H,
-        worker: &mut Worker<C::Seat, J>,
-        seat: C::Seat,
-        works: bool,
-    ) -> CoreWorker<'a, H, Seat<'a, H, J, C>>
-    where
-        C: Contexts<Spawned<J>>,
-        requires seat { IsIdleAt C.sits C.idle self.now.table seat }
-        requires orders { IsArbiterFor self.now.cores worker.old.arbiter }
-        requires core { worker.old.core < self.now.cores }
-        ensures { result.desk ≡ ground_at self.now.table self.now.cores }
-    {
         let empty = Worker::new(worker.bench.alloc, None, 0);
         let Worker {
             bench,
-            core,
             agenda,
             pace,
             ..
         } = replace(worker, empty);
-        CoreWorker {
+        Some(CoreWorker {
             rt,
             shared: &self.shared,
             core,
@@ -218,11 +191,11 @@ impl<C: Seats> Pool<C> {
                 is_broken: false,
                 seat,
                 held: None,
-                blocks: false,
+                asked: Rest::Ready,
                 has_taken: false,
                 bench,
             },
-        }
+        })
     }
 
     /// Ends a call: moves the seat (right to use the table) and the data from the loop back into `worker`. Returns
@@ -240,8 +213,9 @@ impl<C: Seats> Pool<C> {
         requires some { IsSome kernel.old }
         requires desk { IfSome kernel.old (λ k. k.desk ≡ ground_at self.now.table self.now.cores) }
         requires core { core < self.now.cores }
-        ensures worker { IsWorkerOf C.sits C.idle self.now.table self.now.cores worker.new }
+        ensures worker { IsWorkerOf self.now worker.new }
         ensures same { WorksFor core worker.new }
+        ensures agenda { IfSome kernel.old (λ k. worker.new.agenda ≡ k.agenda) }
         ensures seat { IsTrue result ↔ IsSome worker.new.seat }
     {
         let Some(kernel) = kernel.take() else {
@@ -254,7 +228,6 @@ impl<C: Seats> Pool<C> {
             ..
         } = kernel;
         let Seat {
-            pool,
             is_broken,
             seat,
             held,
@@ -262,31 +235,25 @@ impl<C: Seats> Pool<C> {
             ..
         } = desk;
         *worker = Worker {
-            seat: idle_seat::<J, C>(pool, seat, is_broken, &held),
+            seat: None,
             bench,
             core,
             agenda,
             pace,
         };
-        worker.seat.is_some()
+        if is_broken || held.is_some() {
+            return false;
+        }
+        worker.seat = Some(seat);
+        true
     }
-}
-
-/// A worker's desk (its access to the table and to the job in hand), as the rounds use it beside the worker's loop.
-///
-/// The trait has no associated types, so that the functions over it are proved in a fraction of the time.
-pub(crate) trait PoolDesk: Desk {
-    /// Returns whether memory was refused since the last call.
-    fn take_short(&mut self) -> bool
-        ensures { self.new ≡ self.old };
 }
 
 /// Makes one round, and a second one if the first only moved a job to this core. Returns whether the last round found
 /// anything to do.
-pub(crate) fn run_once<H: Wait + Clock, D: PoolDesk>(
-    kernel: &mut CoreWorker<'_, H, D>,
-) -> Result<bool, PoolFault>
-    ensures { kernel.new.desk ≡ kernel.old.desk }
+fn run_once<H: Wait + Clock, D: Desk>(kernel: &mut CoreWorker<'_, H, D>) -> Result<bool, PoolFault>
+    ensures desk { kernel.new.desk ≡ kernel.old.desk }
+    ensures heeds { LooksWithin (D.largest_quantum kernel.old.desk) kernel.old.agenda kernel.new.agenda }
 {
     kernel.tend();
     let mut found = kernel.round(0);
@@ -301,12 +268,13 @@ pub(crate) fn run_once<H: Wait + Clock, D: PoolDesk>(
 }
 
 /// Makes rounds until the pool has finished or its workers are stopped.
-pub(crate) fn run<H: Wait + Clock, C: Seats, D: PoolDesk>(
-    kernel: &mut CoreWorker<'_, H, D>,
-    pool: &Pool<C>,
+fn run<'a, H: Wait + Clock, J: PoolJob, C: Contexts<Spawned<J>>>(
+    kernel: &mut CoreWorker<'a, H, Seat<'a, H, J, C>>,
 ) -> Result<(), PoolFault>
-    ensures { kernel.new.desk ≡ kernel.old.desk }
+    ensures desk { kernel.new.desk ≡ kernel.old.desk }
+    ensures heeds { LooksWithin (max 1 J.most_steps) kernel.old.agenda kernel.new.agenda }
 {
+    let pool = kernel.desk.pool;
     // The number of consecutive rounds that have found nothing.
     let mut idle: u32 = 0;
     let mut may_be_over = true;
@@ -320,7 +288,7 @@ pub(crate) fn run<H: Wait + Clock, C: Seats, D: PoolDesk>(
         }
         let slices = kernel.slices;
         let found = kernel.round(idle)?;
-        if kernel.desk.take_short() {
+        if replace(&mut kernel.desk.bench.is_short, false) {
             return Err(PoolFault::Memory);
         }
         // A round without a slice may have parked, and the worker may have been unparked because all jobs have ended.

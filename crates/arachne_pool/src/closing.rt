@@ -1,8 +1,8 @@
 //! Replaces a pool's orders, and closes the pool, which returns the jobs that are left.
 ghost use Rattle.std.specs.Prelude.{◌≡◌, ◌+◌, ◌<◌, ◌≤◌, ◌↔◌, IfErr, IfOk, IfSome, IsSome, IsTrue, MatchOption, OnErr, OnOk};
 ghost use Rattle.arachne_policy.specs.Orders.{AreInOrder};
-ghost use Rattle.arachne_pool.specs.Jobs.{count_near};
-ghost use Rattle.arachne_pool.specs.Leftover.{IsWhole, count_placed};
+ghost use Rattle.arachne_pool.specs.Leftover.{IsWhole, count_of};
+ghost use Rattle.arachne_pool.specs.Workers.{ComeLast, IsWorkerOf};
 
 use crate::job::PoolJob;
 use crate::orders::PoolOrders;
@@ -27,13 +27,28 @@ pub struct Left<J: PoolJob> {
 }
 
 impl<J: PoolJob> Left<J> {
-    ghost use Rattle.arachne_pool.specs.Leftover.{count_of};
-
     /// Returns whether the list has no job.
     pub fn is_empty(&self) -> bool
         ensures { IsTrue result → count_of self.now ≡ 0 }
     {
         self.placed.is_empty() && self.near.is_empty()
+    }
+
+    /// Returns `count` minus the number of jobs that have not ended, including those inside the slots of others.
+    /// Returns `None` if that number is more than `count`.
+    #[tactic(auto, using(crate::proofs::Counts::placed_counts))]
+    fn taken_from(&self, count: u64) -> Option<u64>
+        ensures { MatchOption result (count < count_of self.now) (λ rest. rest + count_of self.now ≡ count) }
+    {
+        let mut rest = count;
+        let placed = self.placed.as_slice();
+        for entry in placed {
+            rest = entry.1.taken_from(rest)?;
+        }
+        for job in self.near.iter() {
+            rest = job.taken_from(rest)?;
+        }
+        Some(rest)
     }
 }
 
@@ -50,10 +65,7 @@ pub enum NotClosed<C: Seats, J: PoolJob> {
 }
 
 impl<C: Seats> Pool<C> {
-    ghost use Rattle.arachne_pool.specs.Workers.{AreKept, IsWorkerOf};
-    ghost use Rattle.arachne_pool.specs.Leftover.{count_of};
     ghost use Rattle.arachne_pool.specs.NotClosed.{ComesBack};
-    ghost use Rattle.arachne_pool.specs.Workers.{ComeLast};
 
     /// Replaces the orders by which `worker` opens and closes cores. The caller must give all orders of a pool to the
     /// same worker.
@@ -68,9 +80,9 @@ impl<C: Seats> Pool<C> {
     ) -> Result<(), AllocError>
     where
         C: Contexts<Spawned<J>>,
-        requires worker { IsWorkerOf C.sits C.idle self.now.table self.now.cores worker.old }
+        requires worker { IsWorkerOf self.now worker.old }
         requires orders { AreInOrder self.now.cores orders.items }
-        ensures worker { IsWorkerOf C.sits C.idle self.now.table self.now.cores worker.new }
+        ensures worker { IsWorkerOf self.now worker.new }
         ensures same { worker.new ≡ record worker.old { arbiter = worker.new.arbiter } }
         ensures orders { OnOk result (IfSome worker.new.arbiter (λ arbiter. ComeLast orders.items arbiter.list × (arbiter.applied ≡ 0))) }
         ensures given { OnOk result (IsSome worker.new.arbiter) }
@@ -105,9 +117,9 @@ impl<C: Seats> Pool<C> {
     ) -> Result<Left<J>, NotClosed<C, J>>
     where
         C: Contexts<Spawned<J>>,
-        requires { IsWorkerOf C.sits C.idle self.table self.cores worker }
+        requires { IsWorkerOf self worker }
         ensures each_once { IfOk result (λ left. worker.tally.spawned ≡ worker.tally.ended + count_of left) }
-        ensures near { IfOk result (λ left. AreKept worker left.near.items) }
+        ensures near { IfOk result (λ left. left.near.items ≡ worker.waiting) }
         ensures comes_back { IfErr result (ComesBack self worker) }
     {
         if !self.is_whole(&worker) {
@@ -141,46 +153,13 @@ impl<C: Seats> Pool<C> {
 }
 
 impl Tally {
-    ghost use Rattle.arachne_pool.specs.Leftover.{count_of};
-
     /// Returns whether the number of spawned jobs is the number of ended jobs plus the number of jobs in `left`.
     fn is_over<J: PoolJob>(self, left: &Left<J>) -> bool
         ensures { IsTrue result ↔ (self.spawned ≡ self.ended + count_of left.now) }
     {
-        let Some(rest) = self.spawned.checked_sub(self.ended) else {
-            return false;
-        };
-        let Some(rest) = without_placed(rest, left.placed.as_slice()) else {
-            return false;
-        };
-        let Some(rest) = without_near(rest, &left.near) else {
-            return false;
-        };
-        rest == 0
+        match left.taken_from(self.spawned) {
+            Some(rest) => rest == self.ended,
+            None => false,
+        }
     }
-}
-
-/// Returns `count` minus the number of jobs in `placed` that have not ended, including those inside their slots.
-/// Returns `None` if that number is more than `count`.
-#[tactic(auto, using(crate::proofs::Counts::placed_counts))]
-fn without_placed<J: PoolJob>(count: u64, placed: &[(ThreadId, Spawned<J>)]) -> Option<u64>
-    ensures { MatchOption result (count < count_placed placed.now) (λ rest. rest + count_placed placed.now ≡ count) }
-{
-    let mut rest = count;
-    for entry in placed {
-        rest = entry.1.taken_from(rest)?;
-    }
-    Some(rest)
-}
-
-/// Returns `count` minus the number of jobs in `near` that have not ended, including children that wait inside them.
-/// Returns `None` if that number is more than `count`.
-fn without_near<J: PoolJob>(count: u64, near: &VecDeque<Spawned<J>>) -> Option<u64>
-    ensures { MatchOption result (count < count_near near.now.items) (λ rest. rest + count_near near.now.items ≡ count) }
-{
-    let mut rest = count;
-    for job in near.iter() {
-        rest = job.taken_from(rest)?;
-    }
-    Some(rest)
 }

@@ -1,5 +1,5 @@
 //! The trait of jobs, which the pool's user implements: how a job makes a step, and how it takes the result of a child.
-ghost use Rattle.std.specs.Prelude.{◌≡◌, List, [], ◌∷◌};
+ghost use Rattle.std.specs.Prelude.{◌≡◌, ◌≤◌, ℕ, List, [], ◌∷◌, max};
 ghost use Rattle.arachne_pool.specs.Jobs.{EndsWith, ForksFresh, HasJoined, IsAwaited, KeepsChildren, KeepsResults, KnowsChildren};
 
 use arachne_contexts::Tagged;
@@ -38,6 +38,10 @@ pub trait PoolJob: Tagged + Drop {
     /// If an implementation makes it always true, `joined` learns only that the value is a result of some job.
     ghost awaits: { Self → List Self → Type 0 };
 
+    /// An upper bound of what `bound` returns, for each job of this type. An implementation that defines `bound` must
+    /// also define this.
+    ghost most_steps: { ℕ } = { 1 };
+
     /// Makes one step of the job. The pool never calls it after a step that returned `Done`.
     fn step(&mut self) -> Step<Self, Self::Output>
         requires goes_on { KnowsChildren awaits self.old }
@@ -55,7 +59,9 @@ pub trait PoolJob: Tagged + Drop {
         ensures children { HasJoined is_result awaits output self.old self.new };
 
     /// Returns the greatest number of steps of the job in one slice (its turn on the core); 0 counts as 1.
-    fn bound(&self) -> u32 {
+    fn bound(&self) -> u32
+        ensures { result ≤ max 1 most_steps }
+    {
         1
     }
 

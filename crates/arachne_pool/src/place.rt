@@ -145,7 +145,7 @@ pub(crate) fn post_oldest<H: Wait, J: PoolJob, C: Contexts<Spawned<J>>>(
     ensures hold { held.new.hold ≡ held.old.hold }
     ensures same { bench.new ≡ record bench.old { cells = bench.new.cells; chooser = bench.new.chooser; is_short = bench.new.is_short } }
 {
-    if !held.value.stack.has_aside() || !pool.has_room() {
+    if held.value.stack.links.aside() == 0 || !pool.has_room() {
         return Ok(None);
     }
     let is_exclusive = held.value.stack.links.is_oldest_exclusive();

@@ -49,7 +49,7 @@ pub struct Pool<C: Seats> {
 }
 
 impl<C: Seats + Drop> Pool<C> {
-    ghost use Rattle.arachne_pool.specs.Workers.{HasNoCore, IsWorkerOf};
+    ghost use Rattle.arachne_pool.specs.Workers.{HasMadeNoStep, HasNoCore, IsWorkerOf};
 
     /// Returns a pool without jobs, and its one worker, which has worked for no core. `orders` take cores back and
     /// grant them again while the pool works.
@@ -66,12 +66,13 @@ impl<C: Seats + Drop> Pool<C> {
         requires orders { AreInOrder cores orders.items }
         ensures cores { IfOk result (λ made. made.0.cores ≡ cores) }
         ensures slots { IfOk result (λ made. made.0.slots ≡ slots) }
-        ensures worker { IfOk result (λ made. IsWorkerOf C.sits C.idle made.0.table made.0.cores made.1) }
+        ensures worker { IfOk result (λ made. IsWorkerOf made.0 made.1) }
         ensures whole { IfOk result (λ made. IsWhole C.weight made.1.seat) }
         ensures tally { IfOk result (λ made. (made.1.tally.spawned ≡ 0) × (made.1.tally.ended ≡ 0)) }
-        ensures near { IfOk result (λ made. (made.1.waiting ≡ []) × (made.1.near ≡ 0)) }
+        ensures near { IfOk result (λ made. made.1.waiting ≡ []) }
         ensures orders { IfOk result (λ made. made.1.arbiter ≡ Some (record { list = orders.items; cores = cores; applied = 0 })) }
         ensures core { IfOk result (λ made. HasNoCore made.0.cores made.1) }
+        ensures lag { IfOk result (λ made. HasMadeNoStep made.1) }
     {
         let orders = PoolOrders::new(alloc, orders, cores)?;
         let live = Live::new(alloc, cores)?;

@@ -2,7 +2,7 @@
 //! result.
 ghost use Rattle.std.specs.Prelude.{◌≡◌, ◌≤◌, [], IfErr, IfOk, IfSome};
 ghost use Rattle.arachne_core.specs.declared.layout.TheConstants.{CORES};
-ghost use Rattle.arachne_pool.specs.Running.{HandsBackRun};
+ghost use Rattle.arachne_pool.specs.Running.{HandsBackRun, fault_of, of_team};
 ghost use Rattle.arachne_pool.specs.Workers.{IsWorkerOf};
 
 use crate::closing::Left;
@@ -33,9 +33,6 @@ pub struct Finished<O> {
 }
 
 impl From<TeamFault> for PoolFault {
-    ghost use Rattle.std.specs.Prelude.{◌≡◌};
-    ghost use Rattle.arachne_pool.specs.Running.{of_team};
-
     ghost from_gives = { λ fault e. e ≡ of_team fault };
 
     fn from(fault: TeamFault) -> PoolFault {
@@ -60,8 +57,6 @@ pub enum Unfinished<J: PoolJob> {
 }
 
 impl<J: PoolJob> Unfinished<J> {
-    ghost use Rattle.arachne_pool.specs.Running.{fault_of};
-
     /// Returns the reason why the job was not run to its end.
     pub fn why(&self) -> PoolFault
         ensures { result ≡ fault_of self.now }
@@ -187,10 +182,10 @@ impl<'p, C: Seats, J: PoolJob> Crew<'p, C, J> {
     ) -> (Option<J>, Option<Handle<J>>)
     where
         C: Contexts<Spawned<J>>,
-        requires worker { IsWorkerOf C.sits C.idle self.now.pool.now.table self.now.pool.now.cores worker.old }
+        requires worker { IsWorkerOf self.now.pool.now worker.old }
         requires fresh { J.awaits self.now.asked.value [] }
         requires job { IfSome job (λ job. job ≡ self.now.asked.value) }
-        ensures worker { IsWorkerOf C.sits C.idle self.now.pool.now.table self.now.pool.now.cores worker.new }
+        ensures worker { IsWorkerOf self.now.pool.now worker.new }
         ensures job { IfSome result.0 (λ job. job ≡ self.now.asked.value) }
         ensures handle { IfSome result.1 (λ handle. handle ≡ self.now.asked.value) }
     {
@@ -215,10 +210,7 @@ impl<'p, C: Seats, J: PoolJob> Crew<'p, C, J> {
 }
 
 impl<'p, J: PoolJob, C: Contexts<Spawned<J>>> Team<Share<C::Seat, J>> for Crew<'p, C, J> {
-    ghost use Rattle.std.specs.Prelude.{◌≡◌, ◌<◌, [], IfSome};
-    ghost use Rattle.arachne_pool.specs.Workers.{IsWorkerOf};
-
-    ghost has = { λ crew share. IsWorkerOf C.sits C.idle crew.pool.now.table crew.pool.now.cores share.worker
+    ghost has = { λ crew share. IsWorkerOf crew.pool.now share.worker
         × IfSome share.job (λ job. job ≡ crew.asked.value) × IfSome share.handle (λ handle. handle ≡ crew.asked.value) × J.awaits crew.asked.value [] };
 
     ghost size = { λ crew. crew.pool.now.cores };
@@ -306,7 +298,7 @@ fn end<C: Contexts<Spawned<J>> + Drop, R: Wait, J: PoolJob>(
     fault: Option<PoolFault>,
     asked: &Snapshot<J>,
 ) -> Result<Finished<J::Output>, Unfinished<J>>
-    requires worker { IfSome share (λ share. IsWorkerOf C.sits C.idle pool.table pool.cores share.worker) }
+    requires worker { IfSome share (λ share. IsWorkerOf pool share.worker) }
     requires job { IfSome share (λ share. IfSome share.job (λ job. job ≡ asked.now.value)) }
     requires handle { IfSome share (λ share. IfSome share.handle (λ handle. handle ≡ asked.now.value)) }
     ensures output { IfOk result (λ done. J.is_result asked.now.value done.output) }

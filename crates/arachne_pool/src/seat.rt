@@ -1,11 +1,8 @@
 //! A worker's access to the pool's table, by which it takes, runs and puts back jobs. Between two calls, the seat (the
 //! right to use the table) holds the current job, if there is one, and nothing else.
-ghost use Rattle.std.specs.Prelude.{◌≡◌, ◌<◌, ◌≤◌, IfSome, false, if◌then◌else◌};
-ghost use Rattle.arachne_pool.specs.Grounds.{in_hand};
+ghost use Rattle.std.specs.Prelude.{◌≡◌, ◌<◌, ◌≤◌, IfSome, false, max};
 ghost use Rattle.arachne_pool.specs.Stops.{rests_as};
-ghost use Rattle.arachne_pool.specs.Workers.{IsIdleAt};
 
-use crate::calls::PoolDesk;
 use crate::job::PoolJob;
 use crate::place::{place_oldest, post_oldest};
 use crate::pool::Pool;
@@ -29,16 +26,15 @@ pub(crate) struct Seat<'a, H, J: PoolJob, C: Contexts<Spawned<J>>> {
     pub(crate) pool: &'a Pool<C>,
     pub(crate) core: u8,
     /// True in `work`, in which the worker parks if its core is closed. In `turn` each job has one slice, and the
-    /// worker
-    /// doesn't wait.
+    /// worker doesn't wait.
     pub(crate) works: bool,
     /// True if the table has rejected a slot or a job that it had given to this worker. Then the seat perhaps still
     /// owns a slot or a job, and the worker must stop.
     pub(crate) is_broken: bool,
     pub(crate) seat: C::Seat,
     pub(crate) held: Option<Held<Spawned<J>, C::Hold>>,
-    /// True if the worker must put the current job, in `held`, back as blocked.
-    pub(crate) blocks: bool,
+    /// The state in which the worker must put the current job, in `held`, back.
+    pub(crate) asked: Rest,
     /// True if the worker has taken a job since it last tried to move one here from another core.
     pub(crate) has_taken: bool,
     pub(crate) bench: Bench<J>,
@@ -58,6 +54,8 @@ impl<'a, H, J: PoolJob, C: Contexts<Spawned<J>>> Model for Seat<'a, H, J, C> {
 }
 
 impl<'a, H: Wait, J: PoolJob, C: Contexts<Spawned<J>>> Desk for Seat<'a, H, J, C> {
+    ghost largest_quantum = { λ _. max 1 J.most_steps };
+
     #[inline(always)]
     fn take(&mut self, place: Place) -> Grip {
         let Place { core, index } = place;
@@ -96,7 +94,7 @@ impl<'a, H: Wait, J: PoolJob, C: Contexts<Spawned<J>>> Desk for Seat<'a, H, J, C
             // `end` counts the job as ended, after the job's slot is free and its result was sent.
             return Ok(ThreadStop::Ends);
         }
-        self.blocks = stop.blocks();
+        self.asked = stop.rest();
         // Reports the spawn before the child gets a slot, since its end must not be counted before its spawn.
         self.pool.live.add(self.core, self.bench.news());
         match stop {
@@ -125,7 +123,7 @@ impl<'a, H: Wait, J: PoolJob, C: Contexts<Spawned<J>>> Desk for Seat<'a, H, J, C
         let Some(held) = self.held.take() else {
             return Err(disowned());
         };
-        let asked = rest_of(self.blocks);
+        let asked = self.asked;
         let table = &self.pool.table;
         match table.put_back(self.rt, &mut self.seat, held, asked) {
             Ok(rested) => Ok(rests_so(rested, asked)),
@@ -279,12 +277,6 @@ impl<'a, H: Wait, J: PoolJob, C: Contexts<Spawned<J>>> Desk for Seat<'a, H, J, C
     }
 }
 
-impl<'a, H: Wait, J: PoolJob, C: Contexts<Spawned<J>>> PoolDesk for Seat<'a, H, J, C> {
-    fn take_short(&mut self) -> bool {
-        replace(&mut self.bench.is_short, false)
-    }
-}
-
 impl<'a, H: Wait, J: PoolJob, C: Contexts<Spawned<J>>> Seat<'a, H, J, C> {
     /// Runs the job in hand for at most `left` steps. If a job ends without joining all of its children, releases these
     /// first. Returns `Waits` if no job is in hand.
@@ -298,14 +290,13 @@ impl<'a, H: Wait, J: PoolJob, C: Contexts<Spawned<J>>> Seat<'a, H, J, C> {
         };
         let bench = &mut self.bench;
         let may_post = self.pool.has_room();
-        let stop = held
-            .value
-            .slice(&mut bench.cells, &mut bench.tally, left, may_post);
+        let stack = &mut held.value.stack;
+        let stop = stack.slice(&mut bench.cells, &mut bench.tally, left, may_post);
         if stop != JobStop::LetsGo || !bench.let_go(&mut held.value) {
             return stop;
         }
-        held.value
-            .slice(&mut bench.cells, &mut bench.tally, left, may_post)
+        let stack = &mut held.value.stack;
+        stack.slice(&mut bench.cells, &mut bench.tally, left, may_post)
     }
 
     /// Reports to the pool how many jobs were forked and have ended since the last report. Returns the id of the ended
@@ -354,7 +345,7 @@ impl<'a, H: Wait, J: PoolJob, C: Contexts<Spawned<J>>> Seat<'a, H, J, C> {
         let Some(held) = &self.held else {
             return JobStop::Waits;
         };
-        if held.value.stack.has_aside() {
+        if held.value.stack.links.aside() > 0 {
             *left = 0;
             return JobStop::Goes;
         }
@@ -383,11 +374,8 @@ impl<'a, H: Wait, J: PoolJob, C: Contexts<Spawned<J>>> Seat<'a, H, J, C> {
             if let Some(place) = self.waiting_on(core)
                 && self.move_here(place)
             {
-                let hints = self.pool.shared.hints();
-                hints.hint(
-                    self.core,
-                    self.pool.glance::<H, J>(self.rt, self.core).mask(),
-                );
+                let now = self.pool.glance::<H, J>(self.rt, self.core);
+                self.pool.shared.hints().hint(self.core, now.mask());
                 return true;
             }
         }
@@ -406,10 +394,8 @@ impl<'a, H: Wait, J: PoolJob, C: Contexts<Spawned<J>>> Seat<'a, H, J, C> {
             return false;
         }
         let table = &self.pool.table;
-        matches!(
-            table.move_one(self.rt, &mut self.seat, place, self.core),
-            Moved::Moved
-        )
+        let moved = table.move_one(self.rt, &mut self.seat, place, self.core);
+        matches!(moved, Moved::Moved)
     }
 
     /// Returns a slot of another core in which a job may be ready, if that core's worker is awake and has not reached
@@ -432,34 +418,6 @@ impl<'a, H: Wait, J: PoolJob, C: Contexts<Spawned<J>>> Seat<'a, H, J, C> {
         let index = u8::try_from(waiting.trailing_zeros()).ok()?;
         Some(Place { core, index })
     }
-}
-
-/// Returns the seat (right to use the table) after a worker's rounds, or `None` if the seat still owns a slot or a job.
-pub(crate) fn idle_seat<J: PoolJob, C: Contexts<Spawned<J>>>(
-    pool: &Pool<C>,
-    seat: C::Seat,
-    is_broken: bool,
-    held: &Option<Held<Spawned<J>, C::Hold>>,
-) -> Option<C::Seat>
-    requires seat { C.sits pool.now.table seat }
-    requires out { is_broken ≡ false → C.has pool.now.table seat (in_hand (λ job. job.tag) held.now) }
-    ensures { IfSome result (IsIdleAt C.sits C.idle pool.now.table) }
-{
-    if is_broken {
-        return None;
-    }
-    match held {
-        Some(_) => None,
-        None => Some(seat),
-    }
-}
-
-/// Returns the state in which a job is put back: blocked if `blocks`, else ready.
-#[inline(always)]
-fn rest_of(blocks: bool) -> Rest
-    ensures { result ≡ (if blocks then Rest.Blocked else Rest.Ready) }
-{
-    if blocks { Rest::Blocked } else { Rest::Ready }
 }
 
 /// Returns the state of a job that was put back as `asked`: a job that was woken before is ready.

@@ -1,11 +1,9 @@
 //! A job in a pool, with the children that run or wait inside its slot, and the sender of the cell for its result.
-ghost use Rattle.std.specs.Prelude.{◌≡◌, ◌+◌, ◌<◌, ◌≤◌, [], IfSome, IsSome, MatchOption, Some, None, length, true};
-ghost use Rattle.arachne_pool.specs.Frames.{CountsEach};
+ghost use Rattle.std.specs.Prelude.{◌≡◌, ◌+◌, ◌<◌, [], IfSome, IsSome, MatchOption, Some, None, length, true};
 
 use crate::handle::{Cells, ResultSender, leave_at};
 use crate::job::PoolJob;
-use crate::stack::{JobStop, Jobs, Stack};
-use crate::tally::Tally;
+use crate::stack::{Jobs, Stack};
 use arachne_contexts::Tagged;
 use arachne_core::ThreadId;
 use std::alloc::Global;
@@ -73,22 +71,6 @@ impl<J: PoolJob> Spawned<J> {
         ensures { MatchOption result (count < self.now.many) (λ rest. rest + self.now.many ≡ count) }
     {
         self.stack.taken_from(count)
-    }
-
-    /// Runs the job as `Stack::slice` does.
-    #[inline(always)]
-    pub(crate) fn slice(
-        &mut self,
-        cells: &mut Cells<J>,
-        tally: &mut Tally,
-        left: &mut u32,
-        may_post: bool,
-    ) -> JobStop
-        ensures same { self.new ≡ record self.old { many = self.new.many; jobs = self.new.jobs } }
-        ensures left { left.new ≤ left.old }
-        ensures counts { CountsEach tally.old tally.new self.old.many self.new.many }
-    {
-        self.stack.slice(cells, tally, left, may_post)
     }
 
     /// Releases one child as `Stack::let_go` does. If that child had not begun, returns it as a job of its own, whose

@@ -1,8 +1,9 @@
 //! Spawns of jobs by a worker. A job for which no core has a free place waits with the worker, or is returned.
-ghost use Rattle.std.specs.Prelude.{◌≡◌, ◌+◌, ◌<◌, [], ◌∷◌, IfErr, IfOk, None, OnErr, OnOk};
+ghost use Rattle.std.specs.Prelude.{◌≡◌, [], ◌∷◌, ◌++◌, IfErr, IfOk, None, OnOk};
 ghost use Rattle.arachne_contexts.specs.Out.{Claim};
 ghost use Rattle.arachne_pool.specs.Jobs.{one};
-ghost use Rattle.arachne_pool.specs.Spawning.{HandsBack, IsRefusedUnkept, KeepsLast, KeepsNew, KeepsOneAtMost, SpawnsOne};
+ghost use Rattle.arachne_pool.specs.Spawning.{HandsBack, IsRefusedUnkept, KeepsLast, SpawnsOne};
+ghost use Rattle.arachne_pool.specs.Workers.{HasNoCore, IsWorkerOf};
 ghost use Rattle.arachne_pool.specs.declared.spawning.Refusal.TheVariants.{Memory};
 
 use crate::handle::Handle;
@@ -35,8 +36,6 @@ pub struct Refused<J: PoolJob> {
 }
 
 impl<C: Seats> Pool<C> {
-    ghost use Rattle.arachne_pool.specs.Workers.{IsWorkerOf};
-
     /// Spawns a job and returns its handle. The job gets a place if a core has a free one, and waits with the worker
     /// otherwise.
     ///
@@ -50,18 +49,15 @@ impl<C: Seats> Pool<C> {
     ) -> Result<Handle<J>, Refused<J>>
     where
         C: Contexts<Spawned<J>>,
-        requires worker { IsWorkerOf C.sits C.idle self.now.table self.now.cores worker.old }
+        requires worker { IsWorkerOf self.now worker.old }
         requires fresh { J.awaits job [] }
-        ensures worker { IsWorkerOf C.sits C.idle self.now.table self.now.cores worker.new }
-        ensures handle { IfOk result (λ handle. handle ≡ job) }
+        ensures worker { IsWorkerOf self.now worker.new }
+        ensures begun { IfOk result (λ handle. (handle ≡ job) × SpawnsOne worker.old worker.new) }
         ensures handed_back { IfErr result (λ back. HandsBack job worker.old worker.new back.job back.why) }
         ensures unkept { IfErr result (λ back. IsRefusedUnkept self.now.cores worker.old back.why) }
-        ensures spawned { OnOk result (worker.old.tally.spawned < u64.MAX → worker.new.tally.spawned ≡ worker.old.tally.spawned + 1) }
-        ensures ended { worker.new.tally.ended ≡ worker.old.tally.ended }
-        ensures near { KeepsOneAtMost self.now.cores worker.old worker.new }
+        ensures near { HasNoCore self.now.cores worker.old → worker.new.waiting ≡ worker.old.waiting }
         ensures waiting { KeepsLast (one (J.tag_of job) job None) worker.old.waiting worker.new.waiting }
-        ensures told { OnOk result (worker.new.told ≡ worker.new.tally) }
-        ensures kept { worker.new ≡ record worker.old { seat = worker.new.seat; waiting = worker.new.waiting; near = worker.new.near; tally = worker.new.tally; told = worker.new.told } }
+        ensures kept { worker.new ≡ record worker.old { seat = worker.new.seat; waiting = worker.new.waiting; tally = worker.new.tally; told = worker.new.told } }
     {
         let Refused { job, why } = match self.try_spawn(rt, worker, job) {
             Ok(handle) => return Ok(handle),
@@ -87,9 +83,9 @@ impl<C: Seats> Pool<C> {
     ) -> Result<Handle<J>, Refused<J>>
     where
         C: Contexts<Spawned<J>>,
-        requires worker { IsWorkerOf C.sits C.idle self.now.table self.now.cores worker.old }
+        requires worker { IsWorkerOf self.now worker.old }
         requires fresh { J.awaits job [] }
-        ensures worker { IsWorkerOf C.sits C.idle self.now.table self.now.cores worker.new }
+        ensures worker { IsWorkerOf self.now worker.new }
         ensures kept { worker.new ≡ record worker.old { seat = worker.new.seat; tally = worker.new.tally; told = worker.new.told } }
         ensures begun { IfOk result (λ handle. (handle ≡ job) × SpawnsOne worker.old worker.new) }
         ensures handed_back { IfErr result (λ back. HandsBack job worker.old worker.new back.job back.why) }
@@ -121,8 +117,9 @@ impl<C: Seats> Pool<C> {
         job: J,
     ) -> Result<Handle<J>, Refused<J>>
         requires fresh { J.awaits job [] }
-        ensures kept { worker.new ≡ record worker.old { waiting = worker.new.waiting; near = worker.new.near; tally = worker.new.tally; told = worker.new.told } }
-        ensures begun { IfOk result (λ handle. (handle ≡ job) × KeepsNew (one (J.tag_of job) job None) worker.old worker.new) }
+        ensures kept { worker.new ≡ record worker.old { waiting = worker.new.waiting; tally = worker.new.tally; told = worker.new.told } }
+        ensures begun { IfOk result (λ handle. (handle ≡ job) × SpawnsOne worker.old worker.new) }
+        ensures last { OnOk result (worker.new.waiting ≡ worker.old.waiting ++ one (J.tag_of job) job None ∷ []) }
         ensures handed_back { IfErr result (λ back. (back.job ≡ job) × (back.why ≡ Memory) × (worker.new ≡ worker.old)) }
     {
         match worker.bench.begin(job) {
@@ -138,8 +135,8 @@ impl<C: Seats> Pool<C> {
         }
     }
 
-    /// Spawns a job into the slot that was claimed as `claim`. If memory is refused, frees the slot and returns the
-    /// job.
+    /// Spawns a job into the slot that was claimed as `claim` by `seat`, which was the worker's. If memory is refused,
+    /// frees the slot and returns the job.
     fn begin_at<H: Wait, J: PoolJob>(
         &self,
         rt: &H,
@@ -150,10 +147,11 @@ impl<C: Seats> Pool<C> {
     ) -> Result<Handle<J>, Refused<J>>
     where
         C: Contexts<Spawned<J>>,
-        requires worker { IsWorkerOf C.sits C.idle self.now.table self.now.cores worker.old }
+        requires worker { IsWorkerOf self.now worker.old }
+        requires taken { worker.old.seat ≡ None }
         requires seat { C.sits self.now.table seat × C.has self.now.table seat (Claim claim ∷ []) }
         requires fresh { J.awaits job [] }
-        ensures worker { IsWorkerOf C.sits C.idle self.now.table self.now.cores worker.new }
+        ensures worker { IsWorkerOf self.now worker.new }
         ensures kept { worker.new ≡ record worker.old { seat = worker.new.seat; tally = worker.new.tally; told = worker.new.told } }
         ensures begun { IfOk result (λ handle. (handle ≡ job) × SpawnsOne worker.old worker.new) }
         ensures handed_back { IfErr result (λ back. (back.why ≡ Memory) × HandsBack job worker.old worker.new back.job back.why) }
@@ -170,10 +168,7 @@ impl<C: Seats> Pool<C> {
                         worker.seat = Some(seat);
                         Ok(handle)
                     }
-                    Err(_) => {
-                        worker.seat = None;
-                        Ok(handle)
-                    }
+                    Err(_) => Ok(handle),
                 }
             }
             Err(job) => {
@@ -183,10 +178,7 @@ impl<C: Seats> Pool<C> {
                         worker.seat = Some(seat);
                         Err(Refused { job, why })
                     }
-                    Err(_) => {
-                        worker.seat = None;
-                        Err(Refused { job, why })
-                    }
+                    Err(_) => Err(Refused { job, why }),
                 }
             }
         }

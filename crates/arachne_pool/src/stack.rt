@@ -3,13 +3,13 @@
 ghost use Rattle.std.specs.Prelude.{◌≡◌, ◌+◌, ◌<◌, ◌≤◌, [], ◌∷◌, List, None, IfSome, IsSome, MatchOption, length, false, true};
 ghost use Rattle.arachne_pool.specs.Frames.{CountsEach, IsServed, KeepsMany, count_none, unless_ended};
 ghost use Rattle.arachne_pool.specs.Jobs.{children_of};
-ghost use Rattle.arachne_pool.specs.Stops.{blocks_after};
+ghost use Rattle.arachne_pool.specs.Stops.{rest_after};
 
 use crate::handle::Cells;
 use crate::job::{PoolJob, Step};
 use crate::links::Links;
 use crate::tally::Tally;
-use arachne_core::ThreadId;
+use arachne_core::{Rest, ThreadId};
 use std::alloc::Global;
 use std::collections::VecDeque;
 use std::marker::Model;
@@ -36,15 +36,15 @@ pub(crate) enum JobStop {
 }
 
 impl JobStop {
-    /// Returns whether the job is put back as blocked: if it waits or sleeps.
+    /// Returns the state in which the job is put back: blocked if it waits or sleeps, otherwise ready.
     #[inline(always)]
-    pub(crate) fn blocks(self) -> bool
-        ensures { result ≡ blocks_after self }
+    pub(crate) fn rest(self) -> Rest
+        ensures { result ≡ rest_after self }
     {
         match self {
-            JobStop::Waits | JobStop::Sleeps => true,
+            JobStop::Waits | JobStop::Sleeps => Rest::Blocked,
             JobStop::Goes | JobStop::Forks | JobStop::LetsGo | JobStop::Ends | JobStop::Short =>
-                false,
+                Rest::Ready,
         }
     }
 }
@@ -86,9 +86,8 @@ impl<J: PoolJob> JobFrame<J> {
 /// it, which waits for it; no slot was free for it. Only the topmost job makes steps.
 ///
 /// Contracts see the first job, as it was spawned, and the jobs that have not ended, as they are now, with their
-/// number.
-/// They also see what the topmost job has forked just now, or has ended with, and whether it has asked for the result
-/// of its newest child.
+/// number. They also see what the topmost job has forked just now, or has ended with, and whether it has asked for the
+/// result of its newest child.
 #[derive(Drop)]
 pub(crate) struct Stack<J: PoolJob> {
     /// A ghost copy (of zero bytes) of the first job as it was spawned.
@@ -146,11 +145,6 @@ impl<J: PoolJob> Stack<J> {
     /// Returns the topmost job.
     pub(crate) fn job(&self) -> &J {
         &self.top.job
-    }
-
-    /// Returns whether a child in this stack waits to begin.
-    pub(crate) fn has_aside(&self) -> bool {
-        self.links.aside() > 0
     }
 
     /// Returns `count` minus the number of jobs in this stack that have not ended. Returns `None` if that number is
@@ -233,12 +227,12 @@ impl<J: PoolJob> Stack<J> {
                 JobStop::Goes
             }
             Step::Forks(child) => {
-                tally.count_spawned();
+                tally.spawned = tally.spawned.saturating_add(1);
                 self.child = Some(child);
                 self.put_aside(may_post)
             }
             Step::Done(output) => {
-                tally.count_ended();
+                tally.ended = tally.ended.saturating_add(1);
                 self.ended = Some(output);
                 self.pass_on()
             }

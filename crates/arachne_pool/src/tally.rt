@@ -1,5 +1,4 @@
 //! Counts of jobs that were spawned and that have ended: a worker's own, and those that all workers have reported.
-ghost use Rattle.std.specs.Prelude.{◌≡◌, ◌+◌, ◌≤◌, min};
 
 use crossbeam_utils::CachePadded;
 use std::alloc::{AllocError, Global};
@@ -11,36 +10,6 @@ use std::sync::atomic::{AtomicU64, Ordering};
 pub struct Tally {
     pub spawned: u64,
     pub ended: u64,
-}
-
-impl Tally {
-    /// Returns a tally in which no job was spawned or has ended.
-    pub(crate) fn new() -> Tally
-        ensures { (result.spawned ≡ 0) × (result.ended ≡ 0) }
-    {
-        Tally {
-            spawned: 0,
-            ended: 0,
-        }
-    }
-
-    /// Adds 1 to the number of spawned jobs.
-    pub(crate) fn count_spawned(&mut self)
-        ensures spawned { self.new.spawned ≡ min (self.old.spawned + 1) u64.MAX }
-        ensures grows { self.old.spawned ≤ self.new.spawned }
-        ensures ended { self.new.ended ≡ self.old.ended }
-    {
-        self.spawned = self.spawned.saturating_add(1);
-    }
-
-    /// Adds 1 to the number of ended jobs.
-    pub(crate) fn count_ended(&mut self)
-        ensures ended { self.new.ended ≡ min (self.old.ended + 1) u64.MAX }
-        ensures grows { self.old.ended ≤ self.new.ended }
-        ensures spawned { self.new.spawned ≡ self.old.spawned }
-    {
-        self.ended = self.ended.saturating_add(1);
-    }
 }
 
 /// The counts that the workers of one core have reported.

@@ -1,10 +1,11 @@
 //! A worker: one kernel thread's access to a pool. A worker can be split in two, for another kernel thread, and two
 //! workers can be joined again.
 ghost use Rattle.std.specs.Option.{option_or};
-ghost use Rattle.std.specs.Prelude.{◌≡◌, ◌+◌, ◌<◌, ◌≤◌, [], IfErr, IfOk, None, OnErr, if◌then◌else◌, false, true};
+ghost use Rattle.std.specs.Prelude.{◌≡◌, ◌+◌, ◌<◌, ◌≤◌, [], ◌++◌, IfErr, IfOk, IfSome, IsOk, IsSome, None, OnErr, if◌then◌else◌, false, true};
 ghost use Rattle.std.specs.VecDeque.{deque_capacity, deque_len};
-ghost use Rattle.arachne_pool.specs.Jobs.{one};
-ghost use Rattle.arachne_pool.specs.Workers.{HasNoCore};
+ghost use Rattle.arachne_pool.specs.Jobs.{count_near, one};
+ghost use Rattle.arachne_pool.specs.Leftover.{HalvesWeight, JoinsWeights};
+ghost use Rattle.arachne_pool.specs.Workers.{HasMadeNoStep, HasNoCore, IsIdleAt, IsWorkerOf};
 
 use crate::handle::{Cells, Handle, WantedResult};
 use crate::job::PoolJob;
@@ -79,8 +80,6 @@ pub(crate) struct Bench<J: PoolJob> {
 }
 
 impl<J: PoolJob> Bench<J> {
-    ghost use Rattle.arachne_pool.specs.Jobs.{count_near};
-
     /// Begins a job, and makes room for it among the jobs that wait for a place. Returns the job's handle, and the job.
     /// If memory is refused, the job is returned as an error.
     pub(crate) fn begin(&mut self, job: J) -> Result<(Handle<J>, Spawned<J>), J>
@@ -104,7 +103,7 @@ impl<J: PoolJob> Bench<J> {
         let Ok((receiver, sender)) = self.cells.open(self.alloc, &wanted) else {
             return Err(job);
         };
-        self.tally.count_spawned();
+        self.tally.spawned = self.tally.spawned.saturating_add(1);
         let begun = Spawned::begin(self.alloc, job, Some(sender), None);
         Ok((Handle { receiver }, begun))
     }
@@ -120,7 +119,7 @@ impl<J: PoolJob> Bench<J> {
     {
         for _ in 0..job.stack.orphans() {
             let Ok(()) = self.near.reserve(1) else {
-                if job.stack.has_aside() {
+                if job.stack.links.aside() > 0 {
                     self.is_short = true;
                     return false;
                 }
@@ -156,8 +155,8 @@ impl<J: PoolJob> Bench<J> {
 /// A worker: a kernel thread's access to a pool. A worker is used by one kernel thread at a time, for one core.
 ///
 /// Contracts see the worker's seat; the orders by which cores are closed and opened, if the worker has them; its jobs
-/// that have no place, and their number; its counts, and what it has reported of them; and the core for which it was
-/// last called.
+/// that have no place; its counts, and what it has reported of them; the core for which it was last called; and its
+/// agenda, which has what it runs next, and the steps of its jobs since it last read the stop word and its orders.
 #[derive(Drop)]
 pub struct Worker<S, J: PoolJob> {
     pub(crate) seat: Option<S>,
@@ -169,7 +168,6 @@ pub struct Worker<S, J: PoolJob> {
 }
 
 impl<S, J: PoolJob> Model for Worker<S, J> {
-    ghost use Rattle.std.specs.VecDeque.{deque_len};
     ghost use Rattle.arachne_pool.specs.Workers.{WorkerView};
 
     ghost Value = { WorkerView S J };
@@ -177,11 +175,11 @@ impl<S, J: PoolJob> Model for Worker<S, J> {
     ghost view = { λ w. record {
       seat = w.seat;
       waiting = w.bench.near.items;
-      near = deque_len w.bench.near;
       tally = w.bench.tally;
       told = w.bench.told;
       arbiter = w.bench.orders;
       core = w.core;
+      agenda = w.agenda;
     } };
 }
 
@@ -198,18 +196,23 @@ impl<S, J: PoolJob> Worker<S, J> {
     /// core yet. `seed` seeds its random generator.
     pub(crate) fn new(alloc: Global, seat: Option<S>, seed: u64) -> Worker<S, J>
         ensures seat { result.seat ≡ seat }
-        ensures nothing { (result.tally.spawned ≡ 0) × (result.tally.ended ≡ 0) × (result.near ≡ 0) }
+        ensures nothing { (result.tally.spawned ≡ 0) × (result.tally.ended ≡ 0) }
         ensures untold { (result.told ≡ result.tally) × (result.waiting ≡ []) }
         ensures orders { result.arbiter ≡ None }
         ensures core { result.core ≡ u8.MAX }
+        ensures lag { HasMadeNoStep result }
     {
+        let none = Tally {
+            spawned: 0,
+            ended: 0,
+        };
         let bench = Bench {
             alloc,
             near: VecDeque::new(alloc),
             cells: Cells::new(alloc),
             chooser: Xoshiro256PlusPlus::seed_from_u64(seed),
-            tally: Tally::new(),
-            told: Tally::new(),
+            tally: none,
+            told: none,
             orders: None,
             is_short: false,
             has_ended: false,
@@ -225,10 +228,6 @@ impl<S, J: PoolJob> Worker<S, J> {
 }
 
 impl<C: Seats> Pool<C> {
-    ghost use Rattle.std.specs.Prelude.{IfSome, IsSome, ◌++◌, IsOk};
-    ghost use Rattle.arachne_pool.specs.Leftover.{HalvesWeight, JoinsWeights};
-    ghost use Rattle.arachne_pool.specs.Workers.{IsIdleAt, IsWorkerOf};
-
     /// Splits a worker in two.
     ///
     /// The first worker keeps the jobs, the counts, the orders and the core of `worker`. The second worker gets half of
@@ -239,13 +238,14 @@ impl<C: Seats> Pool<C> {
         rt: &H,
         worker: Worker<C::Seat, J>,
     ) -> (Worker<C::Seat, J>, Worker<C::Seat, J>)
-        requires { IsWorkerOf C.sits C.idle self.now.table self.now.cores worker }
-        ensures own { IsWorkerOf C.sits C.idle self.now.table self.now.cores result.0 }
-        ensures others { IsWorkerOf C.sits C.idle self.now.table self.now.cores result.1 }
+        requires { IsWorkerOf self.now worker }
+        ensures own { IsWorkerOf self.now result.0 }
+        ensures others { IsWorkerOf self.now result.1 }
         ensures kept { result.0 ≡ record worker { seat = result.0.seat } }
-        ensures nothing { (result.1.tally.spawned ≡ 0) × (result.1.tally.ended ≡ 0) × (result.1.near ≡ 0) × (result.1.arbiter ≡ None) }
+        ensures nothing { (result.1.tally.spawned ≡ 0) × (result.1.tally.ended ≡ 0) × (result.1.arbiter ≡ None) }
         ensures untold { (result.1.told ≡ result.1.tally) × (result.1.waiting ≡ []) }
         ensures cores { HasNoCore self.now.cores result.1 }
+        ensures lag { HasMadeNoStep result.1 }
         ensures seats { IsSome worker.seat → IsSome result.0.seat × IsSome result.1.seat }
         ensures weight { HalvesWeight C.weight worker.seat result.0.seat result.1.seat }
     {
@@ -271,14 +271,14 @@ impl<C: Seats> Pool<C> {
         worker: Worker<C::Seat, J>,
         other: Worker<C::Seat, J>,
     ) -> Result<Worker<C::Seat, J>, (Worker<C::Seat, J>, Worker<C::Seat, J>)>
-        requires worker { IsWorkerOf C.sits C.idle self.now.table self.now.cores worker }
-        requires other { IsWorkerOf C.sits C.idle self.now.table self.now.cores other }
-        ensures both { IfOk result (IsWorkerOf C.sits C.idle self.now.table self.now.cores) }
-        ensures near { IfOk result (λ both. both.near ≡ worker.near + other.near) }
+        requires worker { IsWorkerOf self.now worker }
+        requires other { IsWorkerOf self.now other }
+        ensures both { IfOk result (IsWorkerOf self.now) }
         ensures waiting { IfOk result (λ both. both.waiting ≡ worker.waiting ++ other.waiting) }
-        ensures seat { IfOk result (λ both. (both.core ≡ worker.core) × (IsSome worker.seat → IsSome other.seat → IsSome both.seat)) }
+        ensures same { IfOk result (λ both. (both.core ≡ worker.core) × (both.agenda ≡ worker.agenda)) }
+        ensures seat { IfOk result (λ both. IsSome worker.seat → IsSome other.seat → IsSome both.seat) }
         ensures weight { IfOk result (λ both. JoinsWeights C.weight worker.seat other.seat both.seat) }
-        ensures spare { other.near ≡ 0 → IsOk result }
+        ensures spare { other.waiting ≡ [] → IsOk result }
         ensures told { IfOk result (λ both. both.told ≡ both.tally) }
         ensures orders { IfOk result (λ both. both.arbiter ≡ option_or worker.arbiter other.arbiter) }
         ensures spawned { worker.tally.spawned + other.tally.spawned ≤ u64.MAX → IfOk result (λ both. both.tally.spawned ≡ worker.tally.spawned + other.tally.spawned) }

@@ -142,7 +142,7 @@ pub(crate) fn begin<C: Contexts<Spawned<Task>> + Drop, R: Wait + Clock>(
     board: &Arc<Board>,
     row: &Row,
 ) -> Option<(Pool<C>, Worker<C::Seat, Task>)>
-    ensures { IfSome result (λ made. IsWorkerOf C.sits C.idle made.0.table made.0.cores made.1) }
+    ensures { IfSome result (λ made. IsWorkerOf made.0 made.1) }
 {
     let Row { cores, slots, .. } = *row;
     if cores < 1 || cores > CORES || slots < 1 || slots > SLOTS {
@@ -167,7 +167,7 @@ pub(crate) fn end<C: Contexts<Spawned<Task>> + Drop, R: Wait + Clock>(
     share: Share<C::Seat>,
     row: &Row,
 ) -> bool
-    requires { IsWorkerOf C.sits C.idle pool.table pool.cores share.worker }
+    requires { IsWorkerOf pool share.worker }
 {
     let Share { mut worker, busy } = share;
     if !all_hold::<C, R>(rt, alloc, &pool, board, &mut worker, row.then) {
@@ -215,8 +215,8 @@ fn all_hold<C: Contexts<Spawned<Task>>, R: Wait + Clock>(
     worker: &mut Worker<C::Seat, Task>,
     acts: &[Act],
 ) -> bool
-    requires worker { IsWorkerOf C.sits C.idle pool.now.table pool.now.cores worker.old }
-    ensures worker { IsWorkerOf C.sits C.idle pool.now.table pool.now.cores worker.new }
+    requires worker { IsWorkerOf pool.now worker.old }
+    ensures worker { IsWorkerOf pool.now worker.new }
 {
     let mut hoard: Option<Hoard> = None;
     for act in acts {
@@ -247,8 +247,8 @@ fn holds<C: Contexts<Spawned<Task>>, R: Wait + Clock>(
     worker: &mut Worker<C::Seat, Task>,
     act: Act,
 ) -> bool
-    requires worker { IsWorkerOf C.sits C.idle pool.now.table pool.now.cores worker.old }
-    ensures worker { IsWorkerOf C.sits C.idle pool.now.table pool.now.cores worker.new }
+    requires worker { IsWorkerOf pool.now worker.old }
+    ensures worker { IsWorkerOf pool.now worker.new }
 {
     match act {
         Act::Spawns(sort) => spawns::<C, R>(rt, pool, board, worker, 1, sort),
@@ -299,9 +299,9 @@ fn turns<C: Contexts<Spawned<Task>>, R: Wait + Clock>(
     core: u8,
     rounds: u32,
 ) -> bool
-    requires worker { IsWorkerOf C.sits C.idle pool.now.table pool.now.cores worker.old }
+    requires worker { IsWorkerOf pool.now worker.old }
     requires core { core < pool.now.cores }
-    ensures worker { IsWorkerOf C.sits C.idle pool.now.table pool.now.cores worker.new }
+    ensures worker { IsWorkerOf pool.now worker.new }
 {
     for _ in 0..rounds {
         if pool.turn(rt, worker, core) != Ok(true) {
@@ -358,8 +358,8 @@ fn spawns<C: Contexts<Spawned<Task>>, R: Wait>(
     jobs: u32,
     sort: Sort,
 ) -> bool
-    requires worker { IsWorkerOf C.sits C.idle pool.now.table pool.now.cores worker.old }
-    ensures worker { IsWorkerOf C.sits C.idle pool.now.table pool.now.cores worker.new }
+    requires worker { IsWorkerOf pool.now worker.old }
+    ensures worker { IsWorkerOf pool.now worker.new }
 {
     for _ in 0..jobs {
         let Some(task) = Task::new(sort, board) else {
@@ -381,8 +381,8 @@ fn tries<C: Contexts<Spawned<Task>>, R: Wait>(
     sort: Sort,
     wanted: Option<Refusal>,
 ) -> bool
-    requires worker { IsWorkerOf C.sits C.idle pool.now.table pool.now.cores worker.old }
-    ensures worker { IsWorkerOf C.sits C.idle pool.now.table pool.now.cores worker.new }
+    requires worker { IsWorkerOf pool.now worker.old }
+    ensures worker { IsWorkerOf pool.now worker.new }
 {
     let Some(task) = Task::new(sort, board) else {
         return false;
@@ -394,8 +394,7 @@ fn tries<C: Contexts<Spawned<Task>>, R: Wait>(
 }
 
 /// Spawns a job while memory is used up, and makes rounds on core 0 until all jobs have ended, with a little more
-/// memory
-/// after each refusal. Returns true if all have ended, and a spawn and more than 20 rounds were refused.
+/// memory after each refusal. Returns true if all have ended, and a spawn and more than 20 rounds were refused.
 fn ends_in_need<C: Contexts<Spawned<Task>>, R: Wait + Clock>(
     rt: &R,
     alloc: Global,
@@ -404,9 +403,9 @@ fn ends_in_need<C: Contexts<Spawned<Task>>, R: Wait + Clock>(
     worker: &mut Worker<C::Seat, Task>,
     sort: Sort,
 ) -> bool
-    requires worker { IsWorkerOf C.sits C.idle pool.now.table pool.now.cores worker.old }
+    requires worker { IsWorkerOf pool.now worker.old }
     requires core { 0 < pool.now.cores }
-    ensures worker { IsWorkerOf C.sits C.idle pool.now.table pool.now.cores worker.new }
+    ensures worker { IsWorkerOf pool.now worker.new }
 {
     let Ok(mut hoard) = Hoard::take(alloc) else {
         return false;

@@ -343,7 +343,7 @@ const ROWS: &[Row] = &[
         ..NOTHING
     },
     Row {
-        shows: "new orders can grant each of many cores that were closed",
+        shows: "new orders leave closed what was closed, and can grant each of many cores",
         cores: 20,
         slots: 1,
         orders: &[(0, RELEASE, 1), (0, RELEASE, 18)],
@@ -352,30 +352,17 @@ const ROWS: &[Row] = &[
             Act::Has(1, 0, Is::Closed),
             Act::Has(17, 0, Is::Open),
             Act::Has(18, 0, Is::Closed),
-            Act::Orders(&[(0, GRANT, 1), (0, GRANT, 18)]),
-            Act::Turns(0, 0),
-            Act::Has(1, 0, Is::Open),
-            Act::Has(17, 0, Is::Open),
-            Act::Has(18, 0, Is::Open),
-        ],
-        ..NOTHING
-    },
-    Row {
-        shows: "new orders leave closed what was closed, and can grant it",
-        cores: 3,
-        slots: 4,
-        orders: &[(0, RELEASE, 1)],
-        acts: &[
-            Act::Turns(0, 0),
-            Act::Has(1, 0, Is::Closed),
             Act::Orders(&[(0, RELEASE, 2)]),
             Act::Turns(0, 0),
             Act::Has(1, 0, Is::Closed),
             Act::Has(2, 0, Is::Closed),
-            Act::Orders(&[(0, GRANT, 1)]),
+            Act::Has(18, 0, Is::Closed),
+            Act::Orders(&[(0, GRANT, 1), (0, GRANT, 18)]),
             Act::Turns(0, 0),
             Act::Has(1, 0, Is::Open),
             Act::Has(2, 0, Is::Closed),
+            Act::Has(17, 0, Is::Open),
+            Act::Has(18, 0, Is::Open),
             Act::Orders(&[]),
             Act::Turns(0, 0),
             Act::Has(1, 0, Is::Open),
@@ -570,7 +557,7 @@ struct Crew<'p, C: Seats> {
 }
 
 impl<'p, C: Contexts<Spawned<Task>>> Team<Share<C::Seat>> for Crew<'p, C> {
-    ghost has = { λ crew share. IsWorkerOf C.sits C.idle crew.pool.now.table crew.pool.now.cores share.worker };
+    ghost has = { λ crew share. IsWorkerOf crew.pool.now share.worker };
 
     ghost size = { λ crew. 2 };
 

@@ -48,9 +48,8 @@ pub(crate) enum Spell {
     /// second value is true, it waits first until the kernel thread of core 1 sleeps too.
     Wakes(u32, bool),
     /// This number of times spawns a job and passes the turn. Once that job has begun on core 1, works to the end if
-    /// the
-    /// last value is true, or looks until all jobs have ended. Then polls the handle, and counts an answer if it gives
-    /// the result. At last stops the pool.
+    /// the last value is true, or looks until all jobs have ended. Then polls the handle, and counts an answer if it
+    /// gives the result. At last stops the pool.
     Polls(u32, Sort, bool),
     /// Once a job has begun on core 1, spawns a leaf there, ends the job that is alone on core 0, and makes rounds on
     /// core 0 until the leaf has begun or an answer was counted. Counts an answer if a round has found something to do
@@ -69,8 +68,8 @@ pub(crate) fn work<C: Contexts<Spawned<Task>>, R: Wait + Clock>(
     core: u8,
     spell: Spell,
 )
-    requires { IsWorkerOf C.sits C.idle pool.now.table pool.now.cores worker.old }
-    ensures { IsWorkerOf C.sits C.idle pool.now.table pool.now.cores worker.new }
+    requires { IsWorkerOf pool.now worker.old }
+    ensures { IsWorkerOf pool.now worker.new }
 {
     match spell {
         Spell::Not => {}
@@ -113,9 +112,9 @@ fn to_the_stop<C: Contexts<Spawned<Task>>, R: Wait + Clock>(
     worker: &mut Worker<C::Seat, Task>,
     core: u8,
 )
-    requires worker { IsWorkerOf C.sits C.idle pool.now.table pool.now.cores worker.old }
+    requires worker { IsWorkerOf pool.now worker.old }
     requires core { core < pool.now.cores }
-    ensures worker { IsWorkerOf C.sits C.idle pool.now.table pool.now.cores worker.new }
+    ensures worker { IsWorkerOf pool.now worker.new }
 {
     let mut turns: u64 = 0;
     for _ in rt.forever() {
@@ -139,9 +138,9 @@ fn turns<C: Contexts<Spawned<Task>>, R: Wait + Clock>(
     rounds: u32,
     least: u64,
 )
-    requires worker { IsWorkerOf C.sits C.idle pool.now.table pool.now.cores worker.old }
+    requires worker { IsWorkerOf pool.now worker.old }
     requires core { core < pool.now.cores }
-    ensures worker { IsWorkerOf C.sits C.idle pool.now.table pool.now.cores worker.new }
+    ensures worker { IsWorkerOf pool.now worker.new }
 {
     for _ in 0..rounds {
         if pool.live() <= least || pool.is_stopped() {
@@ -161,10 +160,10 @@ fn turns_until_open<C: Contexts<Spawned<Task>>, R: Wait + Clock>(
     core: u8,
     own: u8,
 )
-    requires worker { IsWorkerOf C.sits C.idle pool.now.table pool.now.cores worker.old }
+    requires worker { IsWorkerOf pool.now worker.old }
     requires core { core < pool.now.cores }
     requires own { own < pool.now.cores }
-    ensures worker { IsWorkerOf C.sits C.idle pool.now.table pool.now.cores worker.new }
+    ensures worker { IsWorkerOf pool.now worker.new }
 {
     for _ in 0..GLANCES {
         let _ = pool.turn(rt, worker, core);
@@ -186,9 +185,9 @@ fn in_need<C: Contexts<Spawned<Task>>, R: Wait + Clock>(
     worker: &mut Worker<C::Seat, Task>,
     core: u8,
 )
-    requires worker { IsWorkerOf C.sits C.idle pool.now.table pool.now.cores worker.old }
+    requires worker { IsWorkerOf pool.now worker.old }
     requires core { core < pool.now.cores }
-    ensures worker { IsWorkerOf C.sits C.idle pool.now.table pool.now.cores worker.new }
+    ensures worker { IsWorkerOf pool.now worker.new }
 {
     await_sign(rt, pool, board, Sign::Begun(0));
     let hoard = Hoard::take(board.alloc);
@@ -207,9 +206,9 @@ fn feeds<C: Contexts<Spawned<Task>>, R: Wait + Clock>(
     worker: &mut Worker<C::Seat, Task>,
     jobs: u32,
 )
-    requires worker { IsWorkerOf C.sits C.idle pool.now.table pool.now.cores worker.old }
+    requires worker { IsWorkerOf pool.now worker.old }
     requires core { 1 < pool.now.cores }
-    ensures worker { IsWorkerOf C.sits C.idle pool.now.table pool.now.cores worker.new }
+    ensures worker { IsWorkerOf pool.now worker.new }
 {
     for job in 0..jobs {
         let Some(task) = Task::new(LEAF, board) else {
@@ -251,8 +250,8 @@ fn wakes<C: Contexts<Spawned<Task>>, R: Wait + Clock>(
     times: u32,
     sleeps: bool,
 )
-    requires { IsWorkerOf C.sits C.idle pool.now.table pool.now.cores worker.old }
-    ensures { IsWorkerOf C.sits C.idle pool.now.table pool.now.cores worker.new }
+    requires { IsWorkerOf pool.now worker.old }
+    ensures { IsWorkerOf pool.now worker.new }
 {
     for time in 0..times {
         await_sign(rt, pool, board, Sign::Sleeps(u64::from(time)));
@@ -274,9 +273,9 @@ fn polls<C: Contexts<Spawned<Task>>, R: Wait + Clock>(
     sort: Sort,
     works: bool,
 )
-    requires worker { IsWorkerOf C.sits C.idle pool.now.table pool.now.cores worker.old }
+    requires worker { IsWorkerOf pool.now worker.old }
     requires core { 1 < pool.now.cores }
-    ensures worker { IsWorkerOf C.sits C.idle pool.now.table pool.now.cores worker.new }
+    ensures worker { IsWorkerOf pool.now worker.new }
 {
     for time in 0..times {
         let Some(task) = Task::new(sort, board) else {
@@ -307,9 +306,9 @@ fn fetches<C: Contexts<Spawned<Task>>, R: Wait + Clock>(
     board: &Arc<Board>,
     worker: &mut Worker<C::Seat, Task>,
 )
-    requires worker { IsWorkerOf C.sits C.idle pool.now.table pool.now.cores worker.old }
+    requires worker { IsWorkerOf pool.now worker.old }
     requires core { 1 < pool.now.cores }
-    ensures worker { IsWorkerOf C.sits C.idle pool.now.table pool.now.cores worker.new }
+    ensures worker { IsWorkerOf pool.now worker.new }
 {
     await_sign(rt, pool, board, Sign::Begun(0));
     if let Some(task) = Task::new(LEAF, board) {

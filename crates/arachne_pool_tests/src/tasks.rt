@@ -148,6 +148,8 @@ impl PoolJob for Task {
 
     ghost awaits = { λ task children. Unit {0} };
 
+    ghost most_steps = { 4294967295 };
+
     fn step(&mut self) -> Step<Task, u64> {
         let is_first = !replace(&mut self.has_begun, true);
         self.board.counts_step(is_first);

@@ -44,8 +44,8 @@ pub fn send<R: Wait + Clock, C: Contexts<Spawned<Job>>>(
     server: &Server<'_, C>,
     worker: Worker<C::Seat, Job>,
 ) -> Option<(Worker<C::Seat, Job>, Report)>
-    requires { IsWorkerOf C.sits C.idle server.now.pool.table server.now.pool.cores worker }
-    ensures worker { IfSome result (λ sent. IsWorkerOf C.sits C.idle server.now.pool.table server.now.pool.cores sent.0) }
+    requires { IsWorkerOf server.now.pool worker }
+    ensures worker { IfSome result (λ sent. IsWorkerOf server.now.pool sent.0) }
     ensures all { IfSome result (λ sent. vec_len sent.1.answers + sent.1.refused ≡ length server.now.requests.now) }
 {
     let mut worker = worker;
@@ -72,10 +72,10 @@ fn send_all<R: Wait + Clock, C: Contexts<Spawned<Job>>>(
     keeper: &mut Keeper,
     report: &mut Report,
 ) -> Option<()>
-    requires worker { IsWorkerOf C.sits C.idle server.now.pool.table server.now.pool.cores worker.old }
+    requires worker { IsWorkerOf server.now.pool worker.old }
     requires cores { keeper.old.most + 1 ≡ server.now.pool.cores }
     requires none { (vec_len report.old.answers ≡ 0) × (report.old.refused ≡ 0) }
-    ensures worker { IsWorkerOf C.sits C.idle server.now.pool.table server.now.pool.cores worker.new }
+    ensures worker { IsWorkerOf server.now.pool worker.new }
     ensures all { OnSome result (vec_len report.new.answers + report.new.refused ≡ length server.now.requests.now) }
 {
     let mut sent: VecDeque<Handle<Job>> = VecDeque::new(server.alloc);
@@ -132,9 +132,9 @@ fn settles<R: Wait, C: Contexts<Spawned<Job>>>(
     report: &mut Report,
     sent: &mut VecDeque<Handle<Job>>,
 ) -> Option<bool>
-    requires worker { IsWorkerOf C.sits C.idle server.now.pool.table server.now.pool.cores worker.old }
+    requires worker { IsWorkerOf server.now.pool worker.old }
     requires few { report.old.refused < usize.MAX }
-    ensures worker { IsWorkerOf C.sits C.idle server.now.pool.table server.now.pool.cores worker.new }
+    ensures worker { IsWorkerOf server.now.pool worker.new }
     ensures answers { vec_len report.new.answers ≡ vec_len report.old.answers }
     ensures all { IfSome result (λ settled. report.new.refused + deque_len sent.new ≡ report.old.refused + deque_len sent.old + (if settled then 1 else 0)) }
 {
@@ -183,9 +183,9 @@ fn keep_cores<R: Wait + Clock, C: Contexts<Spawned<Job>>>(
     now: u64,
     busy: u64,
 ) -> Option<()>
-    requires worker { IsWorkerOf C.sits C.idle server.now.pool.table server.now.pool.cores worker.old }
+    requires worker { IsWorkerOf server.now.pool worker.old }
     requires cores { keeper.old.most + 1 ≡ server.now.pool.cores }
-    ensures worker { IsWorkerOf C.sits C.idle server.now.pool.table server.now.pool.cores worker.new }
+    ensures worker { IsWorkerOf server.now.pool worker.new }
     ensures most { keeper.new.most ≡ keeper.old.most }
 {
     let asleep = server.timer.sleepers();

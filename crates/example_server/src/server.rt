@@ -37,7 +37,7 @@ pub struct Share<S> {
 }
 
 impl<'r, C: Contexts<Spawned<Job>>> Team<Share<C::Seat>> for Server<'r, C> {
-    ghost has = { λ server share. IsWorkerOf C.sits C.idle server.pool.table server.pool.cores share.worker
+    ghost has = { λ server share. IsWorkerOf server.pool share.worker
         × IfSome share.report (λ report. vec_len report.answers + report.refused ≡ length server.requests.now) };
 
     ghost size = { λ server. server.pool.cores };

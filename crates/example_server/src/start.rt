@@ -8,6 +8,7 @@ use crate::requests::Due;
 use crate::send::Report;
 use crate::server::{Server, Share};
 use crate::timer::Timer;
+use arachne_core::SLOTS;
 use arachne_policy::OrderKind;
 use arachne_pool::{Pool, Spawned};
 use arachne_table::{Contexts, WordContexts};
@@ -16,12 +17,6 @@ use std::alloc::{AllocError, Global};
 use std::sync::{Arc, Wait};
 use std::thread::Threads;
 use std::time::Clock;
-
-/// The type of context table that the server's pool uses.
-type Table = WordContexts<Spawned<Job>>;
-
-/// The number of slots of each core.
-const PLACES: u8 = 56;
 
 /// Answers or refuses all requests of a list. Returns `None` if memory or a kernel thread is refused.
 pub fn run<R: Threads + Wait + Clock + Sync>(
@@ -33,9 +28,10 @@ pub fn run<R: Threads + Wait + Clock + Sync>(
 ) -> Option<Report>
     ensures { IfSome result (λ report. vec_len report.answers + report.refused ≡ length requests.now) }
 {
-    let (server, share) = begin::<Table>(alloc, requests, settings, clock).ok()?;
+    let begun = begin::<WordContexts<Spawned<Job>>>(alloc, requests, settings, clock);
+    let (server, share) = begun.ok()?;
     let share = work_together(rt, alloc, &server, share)?;
-    end::<Table, R>(rt, alloc, server.pool, share)
+    end(rt, alloc, server.pool, share)
 }
 
 /// Creates the server, and the data that its kernel threads split among them. The server's pool has one core more than
@@ -46,15 +42,15 @@ fn begin<C: Contexts<Spawned<Job>> + Drop>(
     settings: Settings,
     clock: HostRuntime,
 ) -> Result<(Server<'_, C>, Share<C::Seat>), AllocError>
-    ensures worker { IfOk result (λ made. IsWorkerOf C.sits C.idle made.0.pool.table made.0.pool.cores made.1.worker) }
+    ensures worker { IfOk result (λ made. IsWorkerOf made.0.pool made.1.worker) }
     ensures requests { IfOk result (λ made. made.0.requests.now ≡ requests.now) }
     ensures report { IfOk result (λ made. made.1.report ≡ None) }
     ensures some { IfOk result (λ made. 1 ≤ made.0.pool.cores) }
 {
     let cores = settings.most + 1;
-    let timer = Timer::new(alloc, u32::from(cores) * u32::from(PLACES))?;
+    let timer = Timer::new(alloc, u32::from(cores) * u32::from(SLOTS))?;
     let orders = vec![in alloc; order(OrderKind::Release, settings.most)]?;
-    let (pool, worker) = Pool::<C>::new::<Job>(alloc, cores, PLACES, orders)?;
+    let (pool, worker) = Pool::<C>::new::<Job>(alloc, cores, SLOTS, orders)?;
     pool.keep_open();
     let server = Server {
         pool,
@@ -78,11 +74,10 @@ fn end<C: Contexts<Spawned<Job>> + Drop, R: Wait>(
     pool: Pool<C>,
     share: Share<C::Seat>,
 ) -> Option<Report>
-    requires { IsWorkerOf C.sits C.idle pool.table pool.cores share.worker }
+    requires { IsWorkerOf pool share.worker }
     ensures { IfSome result (λ report. share.report ≡ Some report) }
 {
     let Share { worker, report } = share;
     let left = pool.close(rt, alloc, worker).ok()?;
-    let is_over = left.placed.is_empty() && left.near.is_empty();
-    if is_over { report } else { None }
+    if left.is_empty() { report } else { None }
 }

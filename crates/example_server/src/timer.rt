@@ -80,8 +80,8 @@ pub fn wake_due<R: Wait, C: Contexts<Spawned<Job>>>(
     worker: &mut Worker<C::Seat, Job>,
     now: u64,
 )
-    requires { IsWorkerOf C.sits C.idle server.now.pool.table server.now.pool.cores worker.old }
-    ensures { IsWorkerOf C.sits C.idle server.now.pool.table server.now.pool.cores worker.new }
+    requires { IsWorkerOf server.now.pool worker.old }
+    ensures { IsWorkerOf server.now.pool worker.new }
 {
     let contexts = u32::from(server.pool.cores) * u32::from(server.pool.slots);
     for context in 0..contexts {

@@ -3,4 +3,4 @@ use Rattle.arachne_pool_tests.proofs.rounds.all_hold.Given as goal
 
 -- between two acts the worker is the pool's
 abbrev pub invariant-loop-act : goal.invariant-loop-act
-invariant-loop-act g l = IsWorkerOf g.C.Seats.sits g.C.Seats.idle l.pool.table l.pool.cores l.worker
+invariant-loop-act g l = IsWorkerOf l.pool l.worker

@@ -3,4 +3,4 @@ use Rattle.arachne_pool_tests.proofs.spells.feeds.Given as goal
 
 -- between two jobs the worker is the pool's
 abbrev pub invariant-loop-job : goal.invariant-loop-job
-invariant-loop-job g l = IsWorkerOf g.C.Seats.sits g.C.Seats.idle l.pool.table l.pool.cores l.worker
+invariant-loop-job g l = IsWorkerOf l.pool l.worker

@@ -3,4 +3,4 @@ use Rattle.arachne_pool_tests.proofs.spells.polls.Given as goal
 
 -- between two jobs the worker is the pool's
 abbrev pub invariant-loop-time : goal.invariant-loop-time
-invariant-loop-time g l = IsWorkerOf g.C.Seats.sits g.C.Seats.idle l.pool.table l.pool.cores l.worker
+invariant-loop-time g l = IsWorkerOf l.pool l.worker

@@ -3,4 +3,4 @@ use Rattle.arachne_pool_tests.proofs.spells.turns_until_open.Given as goal
 
 -- between two rounds the worker is the pool's
 abbrev pub invariant-loop : goal.invariant-loop
-invariant-loop g l = IsWorkerOf g.C.Seats.sits g.C.Seats.idle l.pool.table l.pool.cores l.worker
+invariant-loop g l = IsWorkerOf l.pool l.worker

@@ -6,7 +6,7 @@ use Rattle.example_server.proofs.send.send_all.Given as goal
 -- between two rounds the worker is the pool's, and each request so far was answered or refused, or is sent
 abbrev pub invariant-loop : goal.invariant-loop
 invariant-loop g l =
-    IsWorkerOf g.C.Seats.sits g.C.Seats.idle l.server.pool.table l.server.pool.cores l.worker
+    IsWorkerOf l.server.pool l.worker
     × (l.keeper.most + 1 ≡ l.server.pool.cores)
     × (vec_len l.report.answers + l.report.refused + deque_len l.sent ≡ l.next)
     × (l.next ≤ length l.server.requests.now)

@@ -33,4 +33,4 @@ of_ok P r same is = subst (λ o. IfSome o P) (sym same) (passed_on P r is)
 pub returns : goal.returns
 returns g c = IfSome_then c.end.result c.end.ensures (λ report is.
     subst (λ r. IfSome r (λ report. vec_len report.answers + report.refused ≡ length c.in_ok-server.server.requests.now)) is c.in_ok-share.ensures.1
-    ∙ ap length (of_ok _ c.begin.result c.in_ok-server.ensures.value c.begin.ensures.requests))
+    ∙ ap length (of_ok _ c.begin-begun.result c.in_ok-server.ensures.value c.begin-begun.ensures.requests))

@@ -3,4 +3,4 @@ use Rattle.example_server.proofs.timer.wake_due.Given as goal
 
 -- between two wakes the worker is the pool's
 abbrev pub invariant-loop-context : goal.invariant-loop-context
-invariant-loop-context g l = IsWorkerOf g.C.Seats.sits g.C.Seats.idle l.server.pool.table l.server.pool.cores l.worker
+invariant-loop-context g l = IsWorkerOf l.server.pool l.worker

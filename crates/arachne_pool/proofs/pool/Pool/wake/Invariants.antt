@@ -1,5 +1,5 @@
 use Rattle.arachne_pool.specs.Workers.{IsIdleAt}
-use Rattle.arachne_pool.proofs.pool.Pool.wake_by.Given as goal
+use Rattle.arachne_pool.proofs.pool.Pool.wake.Given as goal
 
 -- between two tries the seat is idle
 abbrev pub invariant-loop : goal.invariant-loop

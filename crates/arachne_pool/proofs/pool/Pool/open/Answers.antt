@@ -1,9 +1,0 @@
-use Rattle.std.proofs.Common.{rules}
-use Rattle.arachne_pool.specs.Workers.{IsArbiterFor}
-use Rattle.arachne_pool.proofs.pool.Pool.open.Goals as goal
-
--- the worker's seat is idle, so nothing is out with it
-pub invariant_of-result : goal.invariant_of-result
-invariant_of-result g c =
-    let orders : IsArbiterFor c.args.self.now.cores c.bench.inside.bench.orders = search rules in
-    (search rules, c.requires.seat.0, orders, λ _. g.met.C.Contexts.nothing_out c.args.self.now.table c.args.seat c.requires.seat.1)
