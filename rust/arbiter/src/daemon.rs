@@ -158,7 +158,9 @@ impl Arbiter {
             }
             self.answer_readers();
         }
+        let begun = self.look_at_strangers().threads;
         self.drop_clients();
+        begun.filter(|&thread| self.is_on_one(thread)).for_each(|thread| self.means.free(thread, &self.all));
         println!("by force {}, after {:.0} s", self.forced, self.start.elapsed().as_secs_f64());
     }
 
@@ -381,10 +383,8 @@ impl Arbiter {
     /// Checks some threads of clients' processes: moves those of a newly connected client to `rest`, and others off
     /// granted cores.
     fn look_at_threads(&mut self) {
-        let cpus: Vec<usize> = self.cores.iter().map(|core| core.cpus[0]).collect();
         let threads = self.clients.values().flat_map(|client| client.threads.values());
         let known: HashSet<u32> = threads.map(|thread| thread.id).collect();
-        let is_on_one = |thread| matches!(sys::affinity_of(thread)[..], [cpu] if cpus.contains(&cpu));
         for _ in 0..AT_ONCE {
             let (all, thread) = match self.look.as_mut().map(|look| (look.all, look.threads.next())) {
                 Some((all, Some(thread))) => (all, thread),
@@ -395,10 +395,15 @@ impl Arbiter {
             }
             if all {
                 self.means.admit(thread);
-            } else if is_on_one(thread) {
+            } else if self.is_on_one(thread) {
                 self.means.free(thread, &self.all);
             }
         }
+    }
+
+    /// Returns true if a thread is kept on the first processor of a core.
+    fn is_on_one(&self, thread: u32) -> bool {
+        matches!(sys::affinity_of(thread)[..], [cpu] if self.cores.iter().any(|core| core.cpus[0] == cpu))
     }
 
     /// Returns the next look: at the threads of a client that has connected, each second at threads that clients'

@@ -73,11 +73,10 @@ impl Host {
 
     fn read(&mut self) -> Vec<usize> {
         let text = fs::read_to_string(&self.file).unwrap_or_default();
-        let times = self.all_cpus.iter().map(|&cpu| account(&text, cpu)).collect::<Option<Vec<_>>>();
-        if let Some(times) = times {
-            let sum = times.into_iter().fold((0, 0), |sum, it| (sum.0 + it.0, sum.1 + it.1));
-            self.machine.reads(sum, CALM_MACHINE);
-        }
+        // A processor that is offline has no line.
+        let times = self.all_cpus.iter().filter_map(|&cpu| account(&text, cpu));
+        let sum = times.fold((0, 0), |sum, it| (sum.0 + it.0, sum.1 + it.1));
+        self.machine.reads(sum, CALM_MACHINE);
         let mut changed = Vec::new();
         for (nth, processor) in self.processors.iter_mut().enumerate() {
             if account(&text, self.cpus[nth]).map_or(false, |times| processor.reads(times, CALM)) {

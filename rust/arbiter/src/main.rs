@@ -25,7 +25,7 @@ use means::Means;
 use options::Options;
 use std::fs;
 use std::io::{self, ErrorKind};
-use std::os::unix::fs::PermissionsExt;
+use std::os::unix::fs::{FileTypeExt, PermissionsExt};
 use std::os::unix::net::{UnixListener, UnixStream};
 use std::path::Path;
 use std::process::Command;
@@ -75,14 +75,26 @@ fn guard(options: &Options) {
             sys::terminate(child.id());
         }
     };
-    // If there was another daemon before, it owns the socket and the cpusets.
-    if status != THERE_IS_ONE {
-        let _ = fs::remove_file(&options.socket);
-        let _ = fs::remove_file(status::path_of(&options.socket));
-        options.cpuset.as_deref().map(means::restore);
-        means::release_groups(&options.groups);
+    // A daemon that ended has put all back. If there was another daemon before, it owns the socket and the cpusets.
+    if ![0, THERE_IS_ONE].contains(&status) {
+        put_back(options);
     }
     std::process::exit(status);
+}
+
+/// Removes the sockets and the cpusets, and lets all threads run on all processors again.
+fn put_back(options: &Options) {
+    remove_socket(&options.socket);
+    remove_socket(&status::path_of(&options.socket));
+    options.cpuset.as_deref().map(means::restore);
+    means::release_groups(&options.groups);
+}
+
+/// Removes a socket. A file that is none stays.
+fn remove_socket(path: &Path) {
+    if fs::symlink_metadata(path).map_or(false, |it| it.file_type().is_socket()) {
+        let _ = fs::remove_file(path);
+    }
 }
 
 fn serve(options: &Options) -> io::Result<()> {
@@ -101,11 +113,12 @@ fn serve(options: &Options) -> io::Result<()> {
     let mut arbiter = daemon::Arbiter::new(options, means, clients, readers)?;
     println!("ready");
     arbiter.run();
+    put_back(options);
     Ok(())
 }
 
 fn listen(path: &Path, options: &Options) -> io::Result<UnixListener> {
-    let _ = fs::remove_file(path);
+    remove_socket(path);
     let listener = UnixListener::bind(path)?;
     fs::set_permissions(path, fs::Permissions::from_mode(if options.open { 0o666 } else { 0o600 }))?;
     listener.set_nonblocking(true)?;

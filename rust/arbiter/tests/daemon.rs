@@ -372,9 +372,24 @@ fn a_daemon_that_is_killed_leaves_no_socket() {
 }
 
 #[test]
+fn a_daemon_whose_guardian_is_killed_puts_all_back() {
+    let mut daemon = Daemon::new("guardian");
+    let client = granted(&daemon, 5, 0);
+    let id = thread_on(&daemon, client.cpu).to_string();
+    daemon.guardian.kill().unwrap();
+    daemon.guardian.wait().unwrap();
+    becomes("there is no socket", || !daemon.socket.0.exists());
+    becomes("it may run everywhere", || processors_of(&id) == processors_of(&std::process::id().to_string()));
+    if let Some(folder) = env::var_os("ARBITER_CPUSET") {
+        becomes("the sets are removed", || !PathBuf::from(&folder).join("arbiter").exists());
+    }
+}
+
+#[test]
 fn another_begins_where_a_daemon_was_killed_with_its_guardian() {
     let mut first = Daemon::new("both");
     let (child, path) = (first.child(), first.socket.0.clone());
+    signal(child, "STOP");
     first.guardian.kill().unwrap();
     kill(child);
     first.guardian.wait().unwrap();

@@ -93,6 +93,7 @@ fn a_runtime_goes_on_without_its_daemon_and_joins_the_next() {
     for with_guardian in [false, true] {
         let child = daemon.child();
         if with_guardian {
+            signal(child, "STOP");
             daemon.guardian.kill().unwrap();
         }
         kill(child);
