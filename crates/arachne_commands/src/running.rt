@@ -10,7 +10,7 @@ ghost use Rattle.arachne_commands.specs.Running.{IsRefusal, IsSetUpBy, MayRun, c
 use arachne_cli::RunSettings;
 use arachne_core::CORES;
 use arachne_lang::Program;
-use arachne_run::{Job, OpenGate, Report, RunFault, Setup, run_on_words};
+use arachne_run::{BoxedJob, OpenGate, Report, RunFault, Setup, run_on_words};
 use rand_core::SeedableRng;
 use rand_xoshiro::Xoshiro256PlusPlus;
 use std::alloc::{AllocError, Global};
@@ -33,7 +33,7 @@ pub fn run_program<'p, R: Threads + Wait + Clock + Sync>(
 {
     let made = set_up(alloc, settings)?;
     let (setup, choosers) = made;
-    run_on_words::<R, Job<'p>, Xoshiro256PlusPlus, OpenGate>(
+    run_on_words::<R, BoxedJob<'p>, Xoshiro256PlusPlus, OpenGate>(
         rt, alloc, program, setup, choosers, &OpenGate,
     )
 }

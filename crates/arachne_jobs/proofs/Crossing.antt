@@ -9,6 +9,8 @@ use Rattle.arachne_join.proofs.Crossing.{sender_send, receiver_send, unused_send
 use Rattle.arachne_machine.proofs.Crossing.{contents_send, thread_field_send, detached_send, spares_field_send}
 use Rattle.arachne_join.proofs.cell.JoinCell.TheSendSync as cell
 use Rattle.arachne_join.proofs.sending_end.SendingEnd.TheSendSync as sending_end
+use Rattle.arachne_jobs.specs.contracts.boxed_job.BoxedJob as boxed
+use Rattle.arachne_jobs.specs.contracts.boxed_job.SpareBoxes as spare_boxes
 use Rattle.arachne_jobs.specs.contracts.ends.End as an_end
 use Rattle.arachne_jobs.specs.contracts.ends.WaitEnd as wait_end
 use Rattle.arachne_jobs.specs.contracts.job.Job as job
@@ -55,8 +57,14 @@ ties_send = search (sendable, std.crosses, end_send, id.the_field_send) depth 30
 pub job_send : (κ : NamedLft) → IsSend (job.the_row κ)
 job_send κ = search (sendable, std.crosses, thread_field_send, ties_send, contents_send, wait_end_send) depth 30
 
+pub boxed_send : (κ : NamedLft) → IsSend (boxed.the_row κ)
+boxed_send κ = search (sendable, std.crosses, job_send) depth 30
+
+spare_boxes_send : (κ : NamedLft) → IsSend (spare_boxes.the_field κ).row
+spare_boxes_send κ = search (sendable, std.crosses, job_send) depth 30
+
 spare_ties_send : IsSend spare_ties.the_field.row
 spare_ties_send = search (sendable, std.crosses, ties_send) depth 30
 
 pub spares_send : (κ : NamedLft) → IsSend (spares.the_row κ)
-spares_send κ = search (sendable, std.crosses, spares_field_send, spare_ties_send, unused_send, detached_send) depth 30
+spares_send κ = search (sendable, std.crosses, spares_field_send, spare_ties_send, spare_boxes_send, unused_send, detached_send) depth 30

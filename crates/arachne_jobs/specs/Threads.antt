@@ -1,5 +1,5 @@
 -- The view of a thread in a run, with those that run in its place.
-use Rattle.std.specs.Prelude.{◌≡◌, ℕ, List, Option, None, Some}
+use Rattle.std.specs.Prelude.{◌≡◌, ℕ, List, [], Option, None, Some}
 use Rattle.arachne_core.specs.declared.thread_id.ThreadId.{ThreadId}
 use Rattle.arachne_program.specs.declared.program.Program.{Program}
 use Rattle.arachne_machine.specs.declared.pause.Pending.{Pending}
@@ -46,3 +46,29 @@ HasWaited thread = (whole thread).label.ran ≡ Spill
 pub record Posted : Type 0 where
   pub thread : Thread
   pub parent : Option ThreadId
+
+-- the view of a job in its box, which is never `None`
+
+abbrev pub boxed_tag : Option Posted → ℕ
+boxed_tag (Some job) = tag_of job.thread
+boxed_tag None = 0
+
+abbrev pub boxed_running_tag : Option Posted → ℕ
+boxed_running_tag (Some job) = running_tag_of job.thread
+boxed_running_tag None = 0
+
+abbrev pub boxed_name : Option Posted → List ℕ
+boxed_name (Some job) = name_of job.thread
+boxed_name None = []
+
+abbrev pub boxed_parent : Option Posted → Option ThreadId
+boxed_parent (Some job) = job.parent
+boxed_parent None = None
+
+abbrev pub boxed_pause : Option Posted → Option Pending
+boxed_pause (Some job) = pause_of job.thread
+boxed_pause None = None
+
+abbrev pub IsBoxForking : Option Posted → Thread → Type 0
+IsBoxForking (Some job) child = IsForking job.thread child
+IsBoxForking None child = ⊥

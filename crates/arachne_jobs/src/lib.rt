@@ -8,6 +8,7 @@
 //! A *tag* is the number by which a run identifies a thread. Workers see a job only through the traits in `slice`.
 #![tactic(auto)]
 
+mod boxed_job;
 mod classes;
 mod ends;
 mod fault;
@@ -22,6 +23,7 @@ mod ties;
 mod waiting;
 mod wanted;
 
+pub use boxed_job::BoxedJob;
 pub use classes::has_exclusive;
 pub use fault::JobFault;
 pub use job::Job;

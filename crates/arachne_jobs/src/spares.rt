@@ -1,4 +1,5 @@
 //! Memory of ended threads, which a worker keeps for new threads.
+use crate::boxed_job::SpareBoxes;
 use crate::slice::RunSpares;
 use crate::ties::SpareTies;
 use crate::wanted::Wanted;
@@ -6,8 +7,8 @@ use arachne_join::SpareCells;
 use arachne_machine::{DetachedOutcome, Spares as SpareThreads};
 use std::alloc::Global;
 
-/// A store of memory for new threads: the states of ended threads, the [`Ties`] of their jobs, and join cells that are
-/// free again.
+/// A store of memory for new threads: the states of ended threads, the [`Ties`] and the boxes of their jobs, and
+/// join cells that are free again.
 ///
 /// Each worker has a store of its own, so that most forks allocate memory only for a long name.
 #[derive(Drop)]
@@ -15,6 +16,7 @@ pub struct JobSpares<'p> {
     pub(crate) threads: SpareThreads<'p>,
     pub(crate) ties: SpareTies,
     pub(crate) cells: SpareCells<DetachedOutcome, Wanted>,
+    pub(crate) boxes: SpareBoxes<'p>,
 }
 
 impl<'p> RunSpares for JobSpares<'p> {
@@ -23,6 +25,7 @@ impl<'p> RunSpares for JobSpares<'p> {
             threads: SpareThreads::new(alloc),
             ties: SpareTies::new(alloc),
             cells: SpareCells::new(alloc),
+            boxes: SpareBoxes::new(alloc),
         }
     }
 }

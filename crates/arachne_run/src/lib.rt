@@ -23,7 +23,7 @@ mod shared;
 mod stack;
 mod workers;
 
-pub use arachne_jobs::{Job, RunJob, SpillPass, SpillQueue, Ticket};
+pub use arachne_jobs::{BoxedJob, Job, RunJob, SpillPass, SpillQueue, Ticket};
 pub use arachne_workers::{Cause, SliceEnd, WorkerEvent};
 pub use fault::{RunFault, WorkerFault};
 pub use gate::{Gate, OpenGate};

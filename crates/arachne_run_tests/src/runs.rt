@@ -8,7 +8,7 @@ use crate::choosers::Progression;
 use crate::gates::Watch;
 use crate::hasty::Hasty;
 use arachne_lang::Program;
-use arachne_run::{Job, Report, RunFault, Setup, run};
+use arachne_run::{BoxedJob, Job, Report, RunFault, Setup, run};
 use arachne_words::WordContexts;
 use std::alloc::Global;
 use std::sync::Wait;
@@ -53,7 +53,7 @@ fn run_on_words<'p, R: Threads + Wait + Clock + Sync>(
 ) -> Result<Report, RunFault>
     requires { IsChecked (source_of program.now) }
 {
-    arachne_run::run_on_words::<R, Job<'p>, Progression, Watch>(
+    arachne_run::run_on_words::<R, BoxedJob<'p>, Progression, Watch>(
         rt, alloc, program, setup, choosers, gate,
     )
 }

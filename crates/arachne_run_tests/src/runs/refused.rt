@@ -5,7 +5,7 @@ ghost use Rattle.arachne_lang.specs.Program.{source_of};
 
 use super::rows::{ROW, Row, program_of};
 use arachne_core::ThreadId;
-use arachne_jobs::{Job, JobOf, JobSpares, Openings, Room, RunJob, RunSpares, Slice, Ticket};
+use arachne_jobs::{BoxedJob, JobOf, JobSpares, Openings, Room, RunJob, RunSpares, Slice, Ticket};
 use arachne_lang::Program;
 use arachne_shortage::Hoard;
 use std::alloc::Global;
@@ -36,7 +36,7 @@ struct Means<'p> {
 
 impl<'p> Means<'p> {
     /// Runs a thread until it ends. Returns false if the thread waits for a child, since nobody else runs that child.
-    fn ends(&mut self, job: &mut Job<'p>) -> bool {
+    fn ends(&mut self, job: &mut BoxedJob<'p>) -> bool {
         for _ in 0..SLICES {
             let mut left = STEPS;
             match job.slice(&mut left, &mut self.spares, &self.room, &mut self.openings) {
@@ -50,7 +50,7 @@ impl<'p> Means<'p> {
 
     /// Runs the root until it has forked a child, and then makes the child wait for a slot. Returns the child's ticket
     /// (its entry for the queue).
-    fn ticket_of(&mut self, alloc: Global, root: &mut Job<'p>) -> Option<Ticket<'p>> {
+    fn ticket_of(&mut self, alloc: Global, root: &mut BoxedJob<'p>) -> Option<Ticket<'p>> {
         let me = ThreadId {
             context: 0,
             generation: 0,
@@ -73,11 +73,11 @@ fn is_refused(alloc: Global, program: &Program, bytes: usize) -> Option<bool>
         spares: JobSpares::none(alloc),
         openings: Openings::new(),
     };
-    let (mut root, _receiver) = Job::begin(alloc, program, &mut means.spares).ok()?;
+    let (mut root, _receiver) = BoxedJob::begin(alloc, program, &mut means.spares).ok()?;
     let ticket = means.ticket_of(alloc, &mut root)?;
     let mut hoard = Hoard::take(alloc).ok()?;
     hoard.give_back(bytes);
-    let job = Job::of_ticket(alloc, ticket, &mut means.spares);
+    let job = BoxedJob::of_ticket(alloc, ticket, &mut means.spares);
     drop(hoard);
     let is_refused = job.is_none();
     if let Some(mut child) = job {

@@ -2,7 +2,7 @@ use Rattle.std.proofs.Common.{refl}
 use denote.Param.Send.{sendable}
 use Rattle.rand_xoshiro.proofs.xoshiro256.Xoshiro256PlusPlus.TheSendSync as chooser
 use Rattle.arachne_machine.proofs.Crossing.{thread_send}
-use Rattle.arachne_jobs.proofs.Crossing.{job_send, spares_send, ticket_send}
+use Rattle.arachne_jobs.proofs.Crossing.{boxed_send, spares_send, ticket_send}
 use Rattle.arachne_run.proofs.gate.OpenGate.TheSendSync as gate
 use Rattle.arachne_commands.proofs.RunRefusals.{allowed_as_set_up, refused_as_set_up}
 use Rattle.arachne_commands.proofs.running.run_program.Goals as goal
@@ -10,7 +10,7 @@ use Rattle.arachne_commands.proofs.running.run_program.Goals as goal
 -- the values that a run sends to its kernel threads and shares with them may cross; the program is checked
 pub run_on_words-requires : goal.run_on_words-requires
 run_on_words-requires g c κs = (
-  search (sendable, job_send) depth 20,
+  search (sendable, boxed_send) depth 20,
   (
     search (sendable, chooser.the_send) depth 20,
     (

@@ -6,11 +6,11 @@ use contract.Lifetimes.{Lfts}
 use denote.Ref.{NamedLft}
 use mir.Syntax.{named}
 use Rattle.arachne_machine.proofs.thread.Thread.TheLaws as thread
-use Rattle.arachne_jobs.proofs.job.Job.TheLaws as job
+use Rattle.arachne_jobs.proofs.boxed_job.BoxedJob.TheLaws as boxed
 use Rattle.arachne_jobs.proofs.waiting.Ticket.TheLaws as ticket
 use Rattle.arachne_jobs.proofs.spares.JobSpares.TheLaws as spares
 use Rattle.arachne_machine.proofs.Crossing.{thread_send}
-use Rattle.arachne_jobs.proofs.Crossing.{job_send, spares_send, ticket_send}
+use Rattle.arachne_jobs.proofs.Crossing.{boxed_send, spares_send, ticket_send}
 use Rattle.arachne_run_tests.proofs.choosers.Progression.TheSendSync as chooser
 use Rattle.arachne_run_tests.proofs.gates.Watch.TheSendSync as watch
 use Rattle.arachne_run_tests.proofs.runs.run_on_words.Statement.{statement}
@@ -28,7 +28,7 @@ run_on_words_spec = tie.close (λ R laws threads threads-dict wait wait-dict clo
     (λ c κs within. (
       within.1.1.1.1,
       (
-        job.the_within (program κs) _ within.0,
+        boxed.the_within (program κs) _ within.0,
         (
           ⊑_static _,
           (
@@ -40,7 +40,7 @@ run_on_words_spec = tie.close (λ R laws threads threads-dict wait wait-dict clo
                 (
                   spares.the_within (program κs) _ within.1.1.1.0,
                   (
-                    search (sendable, job_send) depth 20,
+                    search (sendable, boxed_send) depth 20,
                     (
                       search (sendable, chooser.the_send) depth 20,
                       (
