@@ -26,27 +26,19 @@ enum Alteration {
     None,
     /// `finish` returns the thread as an error instead of ending it.
     HandsBack,
-    /// If the core is in use, `claim` fails with `AllocError`, as if memory were refused.
-    RefusesMemory,
     /// `claim` returns that every core except core 0 is full.
     IsFull,
     /// A claim on a core in use fails with `AllocError`. After such a failure, `finish` returns threads as errors.
-    RefusesMemoryFirst,
-    /// `finish` returns threads as errors. After that, a claim on a core in use fails with `AllocError`.
-    HandsBackFirst,
-    /// The first two of every three calls of `claim` return `Lost`, as if another thread had changed the core.
+    RefusesMemory,
+    /// The first two of every three calls of `claim`, `claim_alone` and `wake` return `Lost`.
     Loses,
     /// `glance` and `claim` on core 1 wait until a slot of core 1 is free, and `move_one` moves no thread.
     AwaitsPlace,
-    /// The first two of every three calls of `claim_alone` return `Lost`, as if another thread had changed the core.
-    LosesAlone,
-    /// The first two of every three calls of `wake` return `Lost`, as if another thread had called at the same time.
-    LosesWakes,
     /// `open_core` first pauses, and then opens the core.
     OpensLate,
 }
 
-/// The number of polls after which the second of two calls no longer waits for the first.
+/// The number of polls after which a call of `finish` no longer waits for a claim that fails.
 const POLLS: u32 = 100_000_000;
 
 /// The number of spins in a pause, in which an earlier call takes effect on the other cores. After the spins, the pause
@@ -67,20 +59,8 @@ const GLANCES: u32 = 2_000_000;
 pub struct Altered<T: Tagged> {
     inner: LockedContexts<T>,
     alteration: Alteration,
-    /// The number of calls that the alteration has counted. If the alteration orders two calls, 1 after the first has
-    /// returned.
+    /// The number of calls that the alteration has counted, or 1 after a claim has failed.
     answered: AtomicU64,
-}
-
-/// Waits until the first of two calls has returned, for at most `POLLS` polls, and then pauses.
-fn wait(answered: &AtomicU64) {
-    for _ in 0..POLLS {
-        if answered.load(Ordering::SeqCst) > 0 {
-            break;
-        }
-        yield_now();
-    }
-    give_time();
 }
 
 /// Pauses, so that other kernel threads can make progress.
@@ -135,12 +115,8 @@ impl<T: Tagged + Drop> Seats for Altered<T> {
             (5, _) => Alteration::HandsBack,
             (6, _) => Alteration::RefusesMemory,
             (7, _) => Alteration::IsFull,
-            (9, _) => Alteration::RefusesMemoryFirst,
-            (10, _) => Alteration::HandsBackFirst,
             (_, 5) => Alteration::Loses,
             (2, 3) => Alteration::AwaitsPlace,
-            (_, 6) => Alteration::LosesAlone,
-            (_, 7) => Alteration::LosesWakes,
             (_, 9) => Alteration::OpensLate,
             _ => Alteration::None,
         };
@@ -204,13 +180,8 @@ impl<T: Tagged + Drop> Contexts<T> for Altered<T> {
                 let _ = self.inner.slots();
                 Ok(Claimed::Full(FULL))
             }
-            Alteration::RefusesMemory if self.inner.look(rt, seat, core) != 0 => Err(AllocError),
-            Alteration::RefusesMemoryFirst if self.inner.look(rt, seat, core) != 0 => {
+            Alteration::RefusesMemory if self.inner.look(rt, seat, core) != 0 => {
                 self.answered.store(1, Ordering::SeqCst);
-                Err(AllocError)
-            }
-            Alteration::HandsBackFirst if self.inner.look(rt, seat, core) != 0 => {
-                wait(&self.answered);
                 Err(AllocError)
             }
             Alteration::Loses if self.answered.fetch_add(1, Ordering::SeqCst) % 3 < 2 => {
@@ -231,7 +202,7 @@ impl<T: Tagged + Drop> Contexts<T> for Altered<T> {
         core: u8,
     ) -> Result<Claimed<LockedClaim>, AllocError> {
         match self.alteration {
-            Alteration::LosesAlone if self.answered.fetch_add(1, Ordering::SeqCst) % 3 < 2 => {
+            Alteration::Loses if self.answered.fetch_add(1, Ordering::SeqCst) % 3 < 2 => {
                 Ok(Claimed::Lost(FULL))
             }
             _ => self.inner.claim_alone(rt, seat, core),
@@ -297,12 +268,14 @@ impl<T: Tagged + Drop> Contexts<T> for Altered<T> {
     {
         match self.alteration {
             Alteration::HandsBack => Err(held),
-            Alteration::RefusesMemoryFirst => {
-                wait(&self.answered);
-                Err(held)
-            }
-            Alteration::HandsBackFirst => {
-                self.answered.store(1, Ordering::SeqCst);
+            Alteration::RefusesMemory => {
+                for _ in 0..POLLS {
+                    if self.answered.load(Ordering::SeqCst) > 0 {
+                        break;
+                    }
+                    yield_now();
+                }
+                give_time();
                 Err(held)
             }
             _ => self.inner.finish(rt, seat, held),
@@ -311,7 +284,7 @@ impl<T: Tagged + Drop> Contexts<T> for Altered<T> {
 
     fn wake<R: Wait>(&self, rt: &R, seat: &mut LockedSeat, id: ThreadId) -> Woken {
         match self.alteration {
-            Alteration::LosesWakes if self.answered.fetch_add(1, Ordering::SeqCst) % 3 < 2 => {
+            Alteration::Loses if self.answered.fetch_add(1, Ordering::SeqCst) % 3 < 2 => {
                 Woken::Lost(0)
             }
             _ => self.inner.wake(rt, seat, id),
@@ -346,21 +319,9 @@ impl<T: Tagged + Drop> Contexts<T> for Altered<T> {
         alloc: Global,
         seat: LockedSeat,
     ) -> Result<Vec<(ThreadId, T)>, (Altered<T>, LockedSeat)> {
-        let Altered {
-            inner,
-            alteration,
-            answered,
-        } = self;
-        match inner.close(rt, alloc, seat) {
+        match self.inner.close(rt, alloc, seat) {
             Ok(rest) => Ok(rest),
-            Err((inner, seat)) => {
-                let altered = Altered {
-                    inner,
-                    alteration,
-                    answered,
-                };
-                Err((altered, seat))
-            }
+            Err((inner, seat)) => Err((Altered { inner, ..self }, seat)),
         }
     }
 

@@ -1,5 +1,4 @@
-//! A replacement for a core's *chooser*, the random generator by which its forks choose cores. It returns the numbers
-//! that a test sets.
+//! A replacement for a core's *chooser*, the random generator by which its forks choose cores: a test sets its numbers.
 ghost use Rattle.std.specs.Prelude.{◌≡◌, ◌+◌, ◌%◌, ◌^◌};
 ghost use Rattle.rand_core.specs.Steps.{stream_of, steps_u64_high};
 
@@ -13,9 +12,7 @@ use rand_core::utils::{NextWord, fill_bytes_via_u64};
 #[derive(Clone, Copy)]
 pub struct Draws(pub u64, pub u64, pub u64);
 
-/// The word by which both choices of a fork are core 1: one choice is the low half of a word, the other the high half.
-///
-/// Added to a word, it adds 1 to both choices.
+/// The word by which both choices of a fork, the two halves of a word, are core 1. Added to a word, it adds 1 to both.
 pub const ONE_EACH: u64 = 0x0000_0001_0000_0001;
 
 /// All choosers (the random generators by which forks choose cores) always return 0.

@@ -58,8 +58,7 @@ pub enum Watching {
     Parked(u8, u64),
     /// Counts the children that wait for a slot with a ticket (an entry in the queue of waiting children).
     Spills,
-    /// Records whether a thread was woken because its child had ended, and whether a thread was woken because it was
-    /// granted its lock.
+    /// Records whether threads were woken because a child had ended, and because a lock was granted.
     Wakes,
     /// `(n)`: core 0 waits in its slice n until core 1 has entered its slice 0, and core 1 waits in that slice until an
     /// order is carried out. Core 1 must take a thread before each of its later slices.
@@ -172,8 +171,7 @@ impl Watch {
         count(&self.slices);
     }
 
-    /// Waits until the word `other`, which another core sets, is at least `wanted`. After `POLLS` polls, records a
-    /// failure.
+    /// Waits until `other`, which another core sets, is at least `wanted`. After `POLLS` polls, records a failure.
     fn wait(&self, other: &AtomicU64, wanted: u64) {
         if !comes(other, wanted, POLLS) {
             set(&self.failed);
@@ -226,8 +224,7 @@ impl Watch {
         }
     }
 
-    /// Makes core 0 wait until another core is empty and parks. `is_first` is true in the first slice in which core 0
-    /// waits.
+    /// Makes core 0 wait until another core is empty and parks. `is_first` is true in the first slice that waits.
     fn empties(&self, is_first: bool) {
         if is_first {
             self.wait(&self.ended, 1);

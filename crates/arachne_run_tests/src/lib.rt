@@ -11,10 +11,6 @@ mod altered;
 #[cfg(test)]
 mod choosers;
 #[cfg(test)]
-mod clocks;
-#[cfg(test)]
 mod gates;
-#[cfg(test)]
-mod hasty;
 #[cfg(test)]
 mod runs;

@@ -6,10 +6,8 @@ ghost use Rattle.arachne_lang.specs.Checked.{IsChecked};
 use crate::altered::Altered;
 use crate::choosers::Progression;
 use crate::gates::Watch;
-use crate::hasty::Hasty;
 use arachne_lang::Program;
 use arachne_run::{BoxedJob, Job, Report, RunFault, Setup, run};
-use arachne_words::WordContexts;
 use std::alloc::Global;
 use std::sync::Wait;
 use std::thread::Threads;
@@ -23,23 +21,18 @@ mod judged;
 mod locks;
 mod orders;
 mod places;
-mod programs;
 mod refused;
 mod rows;
 mod shortage;
 mod slices;
-mod tables;
-mod tickets;
 mod waiting;
 
-/// The type of context table, and the type of jobs, over which a test runs a program.
+/// The type of context table over which a test runs a program.
 #[derive(Clone, Copy, Debug)]
 enum Form {
     /// The table behind a lock, `Altered`, which on some machines gives its own results to some calls.
     Locked,
     Words,
-    /// Over the table of atomic words, with jobs that end without waiting for the child that they have forked.
-    Hasty,
 }
 
 /// Runs a program over the table of atomic words.
@@ -70,23 +63,6 @@ fn run_on_lock<'p, R: Threads + Wait + Clock + Sync>(
     requires { IsChecked (source_of program.now) }
 {
     run::<R, Job<'p>, Altered<Job<'p>>, Progression, Watch>(
-        rt, alloc, program, setup, choosers, gate,
-    )
-}
-
-/// Runs a program over the table of atomic words, with jobs that end without waiting for the child that they have
-/// forked.
-fn run_hastily<'p, R: Threads + Wait + Clock + Sync>(
-    rt: &R,
-    alloc: Global,
-    program: &'p Program,
-    setup: Setup,
-    choosers: Vec<Progression>,
-    gate: &Watch,
-) -> Result<Report, RunFault>
-    requires { IsChecked (source_of program.now) }
-{
-    run::<R, Hasty, WordContexts<Hasty>, Progression, Watch>(
         rt, alloc, program, setup, choosers, gate,
     )
 }

@@ -15,6 +15,9 @@ pub(super) const EXCLUSIVE: &str = "(fork x (num 1) (num 2) (add (var 0) (var 1)
 pub(super) const ALONE: &str =
     "(fork x (num 1) (fold (num 0) (num 1000) (num 0) (var 1)) (add (var 0) (var 1)))";
 
+/// A sweep (a loop whose range is halved among threads) of eight numbers by four threads.
+pub(super) const SWEEP: &str = "(sweep add 2 (num 0) (num 8) (var 0))";
+
 const ROWS: &[Row] = &[
     // Both random choices of the fork are core 3, so the child runs there.
     Row {
@@ -85,13 +88,7 @@ const ROWS: &[Row] = &[
         expr: ALONE,
         machines: (&[2], &[1]),
         watching: Watching::Meeting(500, 0),
-        facts: &[
-            (Value, 1),
-            (Threads, 2),
-            (Slot, 2),
-            (InPlace, 0),
-            (IsOver, 1),
-        ],
+        facts: &[(Value, 1), (Slot, 2), (InPlace, 0), (IsOver, 1)],
         ..ROW
     },
 ];

@@ -1,6 +1,5 @@
 //! The numbers that a test case expects in a run's report, or from the observer (`Gate`) that watched the run.
-use super::locks::{events_of, grants, grants_are_holds};
-use super::programs::threads_of;
+use super::locks::events_of;
 use crate::gates::Watch;
 use arachne_machine::Ran;
 use arachne_run::{Report, RunFault};
@@ -24,12 +23,8 @@ pub(super) enum Fact {
     InPlace,
     /// 1 if at most this number of threads ran inside the slots of their parents.
     InPlaceUpTo(u64),
-    /// The sum in the report for the first ledger (counter).
-    Total,
     /// The number of orders to open or close a core that the run has carried out.
     Applied,
-    /// 1 if the run has carried out at most this number of orders to open or close cores.
-    AppliesUpTo(u64),
     /// The cores that the observer has recorded, a bit for each: those that have entered a slice.
     Cores,
     /// The observer has counted at least this number: of slices entered or, if it counts these, of tickets.
@@ -38,16 +33,10 @@ pub(super) enum Fact {
     CountsUpTo(u64),
     /// 1 if at most this number of sleeps timed out before their worker found something to run.
     OversleepsUpTo(u64),
-    /// 1 if all events for which a core waited (see `Watching`) have occurred, and none of the events that must not
-    /// occur.
+    /// 1 if all events for which a core waited (`Watching`) have occurred, and none of those that must not.
     IsOver,
     /// The number of events (requests, grants and releases) in the first lock's history.
     Events,
-    /// The number of grants in the first lock's history.
-    Grants,
-    /// 1 if the first lock was granted once to each thread whose line in the report says that it held the lock once,
-    /// and to no other thread.
-    GrantsAreHolds,
 }
 
 /// Returns the number that a run has for `fact`.
@@ -60,9 +49,7 @@ pub(super) fn number(report: &Report, watch: &Watch, fact: Fact) -> u64 {
         Fact::Spill => count_of(report, Ran::Spill),
         Fact::InPlace => count_of(report, Ran::InPlace),
         Fact::InPlaceUpTo(most) => u64::from(count_of(report, Ran::InPlace) <= most),
-        Fact::Total => report.totals.as_slice().first().copied().unwrap_or(0),
         Fact::Applied => report.applied as u64,
-        Fact::AppliesUpTo(most) => u64::from(report.applied as u64 <= most),
         Fact::Cores => watch.entered.load(Ordering::SeqCst),
         Fact::Counts(least) => u64::from(watch.slices.load(Ordering::SeqCst) >= least),
         Fact::CountsUpTo(most) => u64::from(watch.slices.load(Ordering::SeqCst) <= most),
@@ -72,13 +59,10 @@ pub(super) fn number(report: &Report, watch: &Watch, fact: Fact) -> u64 {
             Some(history) => history.len() as u64,
             None => 0,
         },
-        Fact::Grants => grants(report, None),
-        Fact::GrantsAreHolds => u64::from(grants_are_holds(report)),
     }
 }
 
-/// Returns whether there are at least two threads, and the last two in the report got a slot at once when they were
-/// forked.
+/// Returns whether at least two threads, the last in the report, got a slot at once when they were forked.
 fn are_last_two_in_slots(report: &Report) -> bool {
     let mut in_slots = 0u64;
     for line in report.threads.iter() {
@@ -104,12 +88,9 @@ fn count_of(report: &Report, ran: Ran) -> u64 {
 #[derive(Clone, Copy)]
 pub(super) enum Telling {
     Nothing,
-    /// The program's value, the ledgers' sums, and for each thread its name and how often it held locks.
-    Threads,
     /// The events (requests, grants and releases) of each lock.
     Events,
-    /// For each thread, how it ran: in a slot from its fork on, in a slot after it had waited, or inside its parent's
-    /// slot.
+    /// For each thread, how it ran: in a slot at once, in a slot after it had waited, or inside its parent's slot.
     Ran,
 }
 
@@ -122,7 +103,6 @@ pub(super) fn told(
     match (answer, telling) {
         (Err(fault), _) => Ok(format!(in alloc; "{fault:?}")?),
         (Ok(_), Telling::Nothing) => Ok(String::new(alloc)),
-        (Ok(report), Telling::Threads) => threads_of(alloc, report),
         (Ok(report), Telling::Events) => events_of(alloc, report),
         (Ok(report), Telling::Ran) => ran_of(alloc, report),
     }

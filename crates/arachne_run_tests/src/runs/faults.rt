@@ -1,9 +1,10 @@
-//! Tests of runs that end with a fault while their threads wait or run without end. Such a run returns the fault that
-//! was recorded first, and joins all kernel threads.
+//! Tests that a run puts its threads into the given table, and that a run that ends with a fault, while its threads
+//! wait or run without end, returns the fault that was recorded first and joins all kernel threads.
+use super::cores::{FORK, SWEEP};
+use super::facts::Fact::{Cores, Value};
 use super::facts::Telling;
-use super::programs::SWEEP;
-use super::rows::{LOCKED, ROW, Row, rows_hold};
-use crate::choosers::{CORE_ONE, IN_TURN, SPREAD};
+use super::rows::{LOCKED, QUANTA, ROW, Row, rows_hold};
+use crate::choosers::{CORE_ONE, CORE_THREE, IN_TURN, SPREAD, ZEROS};
 use crate::gates::Watching;
 use arachne_policy::OrderKind::Release;
 use std::test::Fail;
@@ -34,7 +35,6 @@ const REFUSED: Row = Row {
 const FIRST: Row = Row {
     shows: "the first fault is told",
     expr: "(fork n (num 1) (let (fold (num 0) (num 2000) (num 0) (var 1)) (fork n (num 1) (num 2) (var 1))) (var 0))",
-    machines: (&[9], &[1, 100]),
     ..REFUSED
 };
 
@@ -72,30 +72,60 @@ const ROWS: &[Row] = &[
         ..HANDED_BACK
     },
     REFUSED,
-    Row {
-        shows: "parked cores are woken",
-        orders: &[
-            (0, Release, 2),
-            (0, Release, 3),
-            (0, Release, 4),
-            (0, Release, 5),
-        ],
-        ..REFUSED
-    },
     FIRST,
-    // As in the case before, but the two faults are recorded in the other order.
-    Row {
-        machines: (&[10], &[1, 100]),
-        told: (Telling::Nothing, "Worker(Token)"),
-        ..FIRST
-    },
     // This row comes after all of these runs: a run in the same process succeeds.
     Row {
         shows: "a run goes well behind others that did not",
+        expr: SWEEP,
         machines: (&[4], &[1]),
-        ..SWEEP
+        draws: SPREAD,
+        facts: &[(Value, 28)],
+        ..ROW
     },
 ];
+
+/// The table hands back the only thread when it is to be finished, so that the run has no report.
+const ALONE: Row = Row {
+    shows: "what comes back gives no report",
+    expr: "(num 7)",
+    machines: (&[5], QUANTA),
+    ..HANDED_BACK
+};
+
+/// The first claim that is refused memory is that of the root's child, on core 1, for its own child. The run's fault is
+/// this refusal, and not that tokens are missing afterwards.
+const CLAIM: Row = Row {
+    shows: "the first fault is told",
+    expr: "(fork n (fork n (num 1) (num 2) (add (var 0) (var 1))) (num 3) (add (var 0) (var 1)))",
+    machines: (&[6], QUANTA),
+    ..REFUSED
+};
+
+const TABLES: &[Row] = &[
+    ALONE,
+    // The table says that all other cores are full, so core 0 runs every thread.
+    Row {
+        shows: "full cores run nothing",
+        expr: FORK,
+        forms: LOCKED,
+        machines: (&[7], QUANTA),
+        draws: CORE_THREE,
+        watching: Watching::Cores,
+        facts: &[(Value, 5), (Cores, 0b0001)],
+        ..ROW
+    },
+    CLAIM,
+    // The first claim that is refused memory is the root's claim for its child on core 0.
+    Row {
+        draws: ZEROS,
+        ..CLAIM
+    },
+];
+
+#[test]
+fn a_run_goes_through_its_table(rt: HostRuntime) -> Result<(), Fail> {
+    rows_hold(&rt, rt.alloc(), TABLES)
+}
 
 #[test]
 fn a_fault_stops_all_workers(rt: HostRuntime) -> Result<(), Fail> {

@@ -2,9 +2,7 @@
 //! counted, threads leave a core that is closed, and a claim or wake that fails because of a concurrent call is
 //! repeated.
 use super::cores::EXCLUSIVE;
-use super::facts::Fact::{
-    Applied, Cores, Counts, Events, GrantsAreHolds, InPlace, IsOver, Slot, Threads, Value,
-};
+use super::facts::Fact::{Applied, Cores, Counts, Events, InPlace, IsOver, Slot, Threads, Value};
 use super::facts::Telling;
 use super::orders::GRANTED;
 use super::rows::{LOCKED, ROW, Row, rows_hold};
@@ -37,14 +35,13 @@ const ROWS: &[Row] = &[
         facts: &[(Value, 6_288_384), (Threads, 6142), (Counts(258), 1)],
         ..ROW
     },
-    // The root waits for a lock that its first child holds. Meanwhile the root's second child ends, which wakes the
-    // root.
+    // The root waits for a lock that its first child holds. Meanwhile its second child ends, which wakes the root.
     Row {
         shows: "a thread that is woken while it waits for a lock waits on",
         locks: 1,
         expr: "(fork n (hold 0 (fold (num 0) (num 400) (num 0) (var 1))) (let (fold (num 0) (num 40) (num 0) (var 1)) (fork n (fold (num 0) (num 40) (num 0) (var 2)) (hold 0 (num 1)) (add (var 1) (var 2)))) (add (var 0) (var 1)))",
         machines: (&[1], &[1, 7]),
-        facts: &[(Value, 1), (Events, 6), (GrantsAreHolds, 1)],
+        facts: &[(Value, 1), (Events, 6)],
         ..ROW
     },
     // The first two of every three claims of a whole core are lost.
@@ -53,7 +50,7 @@ const ROWS: &[Row] = &[
         expr: EXCLUSIVE,
         forms: LOCKED,
         machines: (&[2], &[1, 7, 100]),
-        slots: 6,
+        slots: 5,
         facts: &[(Value, 3)],
         told: (Telling::Ran, "slot slot "),
         ..ROW
@@ -64,7 +61,7 @@ const ROWS: &[Row] = &[
         expr: "(fork n (fold (num 0) (num 1000) (num 0) (var 1)) (num 3) (add (var 0) (var 1)))",
         forms: LOCKED,
         machines: (&[1, 2], &[1, 100]),
-        slots: 7,
+        slots: 5,
         draws: CORE_ONE,
         facts: &[(Value, 3)],
         ..ROW

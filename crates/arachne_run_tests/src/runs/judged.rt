@@ -4,7 +4,7 @@ ghost use Rattle.arachne_lang.specs.Program.{source_of};
 
 use super::Form;
 use super::facts::Fact;
-use super::facts::Fact::{Applied, GrantsAreHolds, InPlace, IsOver, Total, Value};
+use super::facts::Fact::{Applied, InPlace, IsOver, Value};
 use super::rows::{FORMS, Machine, ROW, Row, judge, orders_of, program_of, run_row};
 use crate::choosers::{CORE_ONE, SPREAD, ZEROS};
 use crate::gates::{Watch, Watching};
@@ -43,11 +43,28 @@ struct Judged {
 /// The rules that must be checked at least once over all runs of each test case.
 const ALWAYS: &[Rule] = &[InHand, Numbers, Quantum];
 
-/// Checks the log of a run. Returns the number of times that each rule was checked.
+/// Runs a test case's program once, and checks the report and the log of the run. Returns how often each rule was
+/// checked.
 ///
 /// Fails if a rule is broken, if the log had no room for an entry, or if there are too few steps.
-fn counts_of(alloc: Global, judged: &Judged, machine: Machine, log: &Log) -> Result<Counts, Fail> {
+fn run_is_lawful<R: Threads + Wait + Clock + Sync>(
+    rt: &R,
+    alloc: Global,
+    judged: &Judged,
+    program: &Program,
+    machine: Machine,
+) -> Result<Counts, Fail>
+    requires { IsChecked (source_of program.now) }
+{
     let (row, (_, cores, quantum)) = (&judged.row, machine);
+    let mut watch = Watch::new(row.watching);
+    watch.log = Some(Log::new(alloc, ROOM)?);
+    watch.exclusive = judged.exclusive;
+    let answer = run_row(rt, alloc, row, program, machine, &watch);
+    judge(alloc, row, machine, &answer, &watch)?;
+    let Some(log) = &watch.log else {
+        return Err("no log".into());
+    };
     let orders = orders_of(alloc, row, cores)?;
     let run = Run {
         cores: u8::try_from(cores).unwrap_or(0),
@@ -68,28 +85,6 @@ fn counts_of(alloc: Global, judged: &Judged, machine: Machine, log: &Log) -> Res
     Ok(verdict.counts)
 }
 
-/// Runs a test case's program once, and checks the report and the log of the run. Returns how often each rule was
-/// checked.
-fn run_is_lawful<R: Threads + Wait + Clock + Sync>(
-    rt: &R,
-    alloc: Global,
-    judged: &Judged,
-    program: &Program,
-    machine: Machine,
-) -> Result<Counts, Fail>
-    requires { IsChecked (source_of program.now) }
-{
-    let mut watch = Watch::new(judged.row.watching);
-    watch.log = Some(Log::new(alloc, ROOM)?);
-    watch.exclusive = judged.exclusive;
-    let answer = run_row(rt, alloc, &judged.row, program, machine, &watch);
-    judge(alloc, &judged.row, machine, &answer, &watch)?;
-    match &watch.log {
-        Some(log) => counts_of(alloc, judged, machine, log),
-        None => Err("no log".into()),
-    }
-}
-
 /// Returns the number of places and the form of table for a machine in this turn, by the numbers of its quantum and of
 /// its number of cores in the row's lists.
 ///
@@ -103,44 +98,35 @@ fn kind_of(judged: &Judged, line: usize, nth: usize, turn: usize) -> (u8, Form) 
     (slots, FORMS[at])
 }
 
-/// Runs a test case `turns` times on each of its machines. Each of its rules must be checked at least once.
-fn is_lawful<R: Threads + Wait + Clock + Sync>(
-    rt: &R,
-    alloc: Global,
-    judged: &Judged,
-) -> Result<(), Fail> {
-    let program = program_of(alloc, &judged.row)?;
-    let mut counts = Counts::new();
-    for turn in 0..judged.turns {
-        for (line, &quantum) in judged.row.machines.1.iter().enumerate() {
-            for (nth, &cores) in judged.row.machines.0.iter().enumerate() {
-                let (slots, form) = kind_of(judged, line, nth, turn);
-                let row = Row {
-                    slots,
-                    ..judged.row
-                };
-                let judged = Judged { row, ..*judged };
-                let machine = (form, cores, quantum);
-                counts.add_all(&run_is_lawful(rt, alloc, &judged, &program, machine)?);
-            }
-        }
-    }
-    let shows = judged.row.shows;
-    for &rule in ALWAYS.iter().chain(judged.rules) {
-        if counts.of(rule) == 0 {
-            return Err(Fail::new(format_args!("{shows}: {rule:?} never comes up")));
-        }
-    }
-    Ok(())
-}
-
+/// Runs each test case `turns` times on each of its machines. Each of its rules must be checked at least once.
 fn are_lawful<R: Threads + Wait + Clock + Sync>(
     rt: &R,
     alloc: Global,
     rows: &[Judged],
 ) -> Result<(), Fail> {
     for judged in rows {
-        is_lawful(rt, alloc, judged)?;
+        let program = program_of(alloc, &judged.row)?;
+        let mut counts = Counts::new();
+        for turn in 0..judged.turns {
+            for (line, &quantum) in judged.row.machines.1.iter().enumerate() {
+                for (nth, &cores) in judged.row.machines.0.iter().enumerate() {
+                    let (slots, form) = kind_of(judged, line, nth, turn);
+                    let row = Row {
+                        slots,
+                        ..judged.row
+                    };
+                    let judged = Judged { row, ..*judged };
+                    let machine = (form, cores, quantum);
+                    counts.add_all(&run_is_lawful(rt, alloc, &judged, &program, machine)?);
+                }
+            }
+        }
+        let shows = judged.row.shows;
+        for &rule in ALWAYS.iter().chain(judged.rules) {
+            if counts.of(rule) == 0 {
+                return Err(Fail::new(format_args!("{shows}: {rule:?} never comes up")));
+            }
+        }
     }
     Ok(())
 }
@@ -175,8 +161,7 @@ const COUNT: &[Judged] = &[
         rules: &[OwnCore, Waits, Due, CoreZero],
         ..COUNTS
     },
-    // Core 1 is closed at first, and its kernel thread parks. Once core 1 is granted it gets a thread, and is closed
-    // again.
+    // Core 1 is closed at first, and its kernel thread parks. Once granted it gets a thread, and is closed again.
     Judged {
         row: Row {
             shows: "a core that is closed parks, and one that is granted goes on",
@@ -206,12 +191,7 @@ const HOLDING: Row = Row {
     ledgers: 1,
     locks: 1,
     expr: "(sweep add 1 (num 0) (num 24) (hold 0 (tally 0 (num 5) (fold (num 0) (num 9) (num 0) (var 1)))))",
-    facts: &[
-        (Value, 192),
-        (Fact::Threads, 24),
-        (Total, 120),
-        (GrantsAreHolds, 1),
-    ],
+    facts: &[(Value, 192), (Fact::Threads, 24)],
     ..COUNTING
 };
 
@@ -244,7 +224,7 @@ const HOLD: &[Judged] = &[
             machines: (&[2], &[10, 100]),
             draws: ZEROS,
             in_turn: 1000,
-            facts: &[(Value, 4794), (Fact::Threads, 6), (GrantsAreHolds, 1)],
+            facts: &[(Value, 4794), (Fact::Threads, 6)],
             ..HOLDING
         },
         steps: 4800,
@@ -264,7 +244,7 @@ const EXCLUSIVE: Row = Row {
     shows: "a thread that has its core alone, and the others, keep the rules",
     locks: 1,
     expr: "(fork n (fold (num 0) (num 40) (num 0) (var 1)) (fork x (fork n (fold (num 0) (num 40) (num 0) (var 1)) (fold (num 0) (num 60) (num 0) (var 1)) (add (var 0) (var 1))) (sweep add 1 (num 0) (num 20) (hold 0 (fold (num 0) (num 20) (num 0) (var 1)))) (add (var 0) (var 1))) (add (var 0) (var 1)))",
-    facts: &[(Value, 380), (GrantsAreHolds, 1)],
+    facts: &[(Value, 380)],
     ..COUNTING
 };
 
@@ -332,7 +312,7 @@ const CHARGE: &[Judged] = &[
             shows: "the steps up to a tally are charged to the slice",
             ledgers: 1,
             expr: "(fold (num 0) (num 100) (num 0) (tally 0 (num 1) (var 1)))",
-            facts: &[(Value, 0), (Total, 100)],
+            facts: &[(Value, 0)],
             ..IN_PLACE
         },
         steps: 300,

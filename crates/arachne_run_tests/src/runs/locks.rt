@@ -1,5 +1,5 @@
 //! Tests of which threads of a run hold a lock, and in which order they do.
-use super::facts::Fact::{Events, Grants, GrantsAreHolds, Value};
+use super::facts::Fact::{Events, Value};
 use super::facts::Telling;
 use super::rows::{QUANTA, ROW, Row, rows_hold};
 use crate::choosers::SPREAD;
@@ -8,38 +8,7 @@ use arachne_sleep::LockEvent;
 use std::alloc::Global;
 use std::test::Fail;
 
-/// Returns how often the program's first lock was granted. If `tag` is given, counts only the grants to the thread with
-/// that tag (number in the run).
-pub(super) fn grants(report: &Report, tag: Option<u64>) -> u64 {
-    let mut count = 0u64;
-    let Some(history) = report.histories.first() else {
-        return count;
-    };
-    for event in history.iter() {
-        if let LockEvent::Grant(who) = event {
-            let counts = tag.is_none() || tag == Some(who.tag);
-            count = count.wrapping_add(u64::from(counts));
-        }
-    }
-    count
-}
-
-/// Returns whether the first lock was granted once to each thread whose line in the report says that it held the lock
-/// once, and to no other thread.
-pub(super) fn grants_are_holds(report: &Report) -> bool {
-    let mut counted = 0u64;
-    for line in report.threads.iter() {
-        let grants = grants(report, Some(line.tag()));
-        if grants != u64::from(line.holds().first() == Some(&1)) {
-            return false;
-        }
-        counted = counted.wrapping_add(grants);
-    }
-    counted == grants(report, None)
-}
-
-/// Returns the events of each lock, a line for each with the thread's tag, its context and the context's generation,
-/// and an empty line behind each lock.
+/// Returns the events of each lock, a line for each with the thread's tag, context and generation, and an empty line.
 pub(super) fn events_of(alloc: Global, report: &Report) -> Result<String, Fail> {
     let mut text = String::new(alloc);
     for history in report.histories.iter() {
@@ -80,7 +49,7 @@ const ROWS: &[Row] = &[
         locks: 1,
         expr: "(sweep add 1 (num 0) (num 8) (hold 0 (tally 0 (num 5) (num 1))))",
         draws: SPREAD,
-        facts: &[(Events, 24), (Grants, 8), (GrantsAreHolds, 1)],
+        facts: &[(Value, 8), (Events, 24)],
         ..ROW
     },
     // The innermost of 61 threads runs inside its parent's slot, and holds the lock under its own tag (number).
@@ -90,7 +59,7 @@ const ROWS: &[Row] = &[
         forks: 60,
         expr: "(hold 0 (num 1))",
         machines: (&[1], &[1, 100]),
-        facts: &[(Value, 61), (Grants, 1), (GrantsAreHolds, 1)],
+        facts: &[(Value, 61), (Events, 3)],
         ..ROW
     },
     NEXT,

@@ -1,8 +1,7 @@
 //! Tests of runs in which orders close and open cores.
-use super::cores::{ALONE, FORK};
-use super::facts::Fact::{Applied, AppliesUpTo, Cores, InPlace, IsOver, Slot, Threads, Value};
+use super::cores::{ALONE, FORK, SWEEP};
+use super::facts::Fact::{Applied, Cores, InPlace, IsOver, Slot, Threads, Value};
 use super::places::MANY;
-use super::programs::SWEEP;
 use super::rows::{QUANTA, ROW, Row, rows_hold};
 use crate::choosers::{CORE_ONE, CORE_THREE, SPREAD};
 use crate::gates::Watching;
@@ -38,33 +37,11 @@ const IDLE: Row = Row {
 const GRANTS: &[Row] = &[
     GRANTED,
     Row {
-        expr: "(let (fold (num 0) (num 35) (num 0) (var 1)) (fork n (num 2) (fold (num 0) (num 420) (num 0) (var 2)) (add (var 1) (var 2))))",
-        machines: (&[2], &[7]),
-        ..GRANTED
-    },
-    Row {
-        expr: "(let (fold (num 0) (num 500) (num 0) (var 1)) (fork n (num 2) (fold (num 0) (num 6000) (num 0) (var 2)) (add (var 1) (var 2))))",
-        machines: (&[2], &[100]),
-        ..GRANTED
-    },
-    Row {
         expr: "(let (fold (num 0) (num 50000) (num 0) (var 1)) (fork n (num 2) (fold (num 0) (num 400000) (num 0) (var 2)) (add (var 1) (var 2))))",
         machines: (&[2], &[10_000]),
         ..GRANTED
     },
     IDLE,
-    Row {
-        machines: (&[2], &[7]),
-        orders: &[(3_500, Grant, 1)],
-        watching: Watching::Applying(4_000),
-        ..IDLE
-    },
-    Row {
-        machines: (&[2], &[100]),
-        orders: &[(250, Grant, 1)],
-        watching: Watching::Applying(300),
-        ..IDLE
-    },
     Row {
         expr: "(let (fork n (fold (num 0) (num 100000) (num 0) (var 1)) (num 2) (add (var 0) (var 1))) (fold (num 0) (num 100000) (var 0) (var 2)))",
         machines: (&[2], &[10_000]),
@@ -78,15 +55,6 @@ const GRANTS: &[Row] = &[
 fn grants_have_cores_go_on(rt: HostRuntime) -> Result<(), Fail> {
     rows_hold(&rt, rt.alloc(), GRANTS)
 }
-
-/// Three orders. The report counts only applied orders.
-const COUNTED: Row = Row {
-    shows: "orders are counted",
-    machines: (&[4], &[1]),
-    orders: &[(0, Release, 1), (1, Release, 2), (2, Grant, 1)],
-    facts: &[(Applied, 3)],
-    ..SWEEP
-};
 
 /// Both of the root's children are on core 1. Core 1 waits in its first slice until core 0 has entered more slices than
 /// the root needs. So core 0 must have run the other child, which was moved there when core 1 was closed.
@@ -109,7 +77,7 @@ const ROWS: &[Row] = &[
         machines: (&[4, 64], &[1]),
         draws: SPREAD,
         in_turn: 1000,
-        facts: &[(Value, 405_450), (Threads, 901), (AppliesUpTo(1000), 1)],
+        facts: &[(Value, 405_450), (Threads, 901)],
         ..ROW
     },
     // An exclusive thread is forked while only core 0, which has the root, and the cores from 41 on are open.
@@ -119,12 +87,7 @@ const ROWS: &[Row] = &[
         machines: (&[64], &[100]),
         released: 40,
         watching: Watching::Cores,
-        facts: &[
-            (Value, 1),
-            (InPlace, 0),
-            (Cores, 1 << 41 | 1),
-            (Applied, 40),
-        ],
+        facts: &[(InPlace, 0), (Cores, 1 << 41 | 1), (Applied, 40)],
         ..ROW
     },
     // 300 threads. The root forks nine of them while core 0 is full and the other cores are closed, so that its
@@ -144,19 +107,22 @@ const ROWS: &[Row] = &[
         facts: &[(Value, 6), (Threads, 302), (Applied, 4)],
         ..ROW
     },
-    COUNTED,
-    // The fourth order is never due.
+    // The fourth order is never due. The report counts only applied orders.
     Row {
+        shows: "orders are counted",
+        expr: SWEEP,
+        machines: (&[4], &[1]),
+        draws: SPREAD,
         orders: &[
             (0, Release, 1),
             (1, Release, 2),
             (2, Grant, 1),
             (u64::MAX, Grant, 2),
         ],
-        ..COUNTED
+        facts: &[(Value, 28), (Applied, 3)],
+        ..ROW
     },
-    // Both random choices of the fork are core 3, which is closed. If only open cores are counted, both choices are
-    // core 0.
+    // Both random choices of the fork are core 3, which is closed. Among the open cores both choices are core 0.
     Row {
         shows: "a closed core gets no thread",
         expr: FORK,

@@ -29,8 +29,7 @@ pub(super) const CHAIN: Row = Row {
     ..ROW
 };
 
-/// The second child finds no place, and gets the place of the first child once that child has ended. Meanwhile the root
-/// counts.
+/// The second child finds no place, and gets that of the first child once it has ended. Meanwhile the root counts.
 const ONE_WAITS: Row = Row {
     shows: "threads that wait get a place that is left, one after the other",
     expr: "(fork n (fold (num 0) (num 100) (num 0) (var 1)) (fork n (num 2) (fold (num 0) (num 1000) (num 0) (var 1)) (add (var 0) (var 1))) (add (var 0) (var 1)))",
@@ -44,38 +43,15 @@ const ONE_WAITS: Row = Row {
 const ROWS: &[Row] = &[
     CHAIN,
     Row {
-        slots: 1,
-        facts: &[(Value, 61), (Slot, 1), (Spill, 0), (InPlace, 60)],
-        ..CHAIN
-    },
-    Row {
         slots: 3,
         facts: &[(Value, 61), (Slot, 3), (Spill, 0), (InPlace, 58)],
         ..CHAIN
     },
-    Row {
-        slots: 55,
-        facts: &[(Value, 61), (Slot, 55), (Spill, 0), (InPlace, 6)],
-        ..CHAIN
-    },
-    // Several cores have places for all threads, as have 64 of two places each.
+    // Several cores have places for all threads.
     Row {
         machines: (&[2, 4, 16, 64], &[1, 100]),
         facts: &[(Value, 61), (Threads, 61), (InPlace, 0)],
         ..CHAIN
-    },
-    Row {
-        machines: (&[64], &[100]),
-        slots: 2,
-        facts: &[(Value, 61), (Threads, 61), (InPlace, 0)],
-        ..CHAIN
-    },
-    Row {
-        shows: "many more threads than places",
-        expr: MANY,
-        draws: SPREAD,
-        facts: &[(Value, 405_450), (Threads, 901)],
-        ..ROW
     },
     // When most of the threads are forked, the queue of waiting children is full.
     Row {
@@ -108,8 +84,7 @@ fn threads_get_places_as_they_come(rt: HostRuntime) -> Result<(), Fail> {
     rows_hold(&rt, rt.alloc(), ROWS)
 }
 
-/// A chain of 31 threads. The innermost has 9 children that end soon, and then 24 children that live at the same time.
-/// At most 55 of a core's 56 slots are taken.
+/// A chain of 31 threads, whose last has 9 children that end soon, and then 24 that live at once: at most 55 slots.
 const NEVER_FULL: Row = Row {
     shows: "no place is kept on a core that was never full",
     forks: 30,
@@ -231,4 +206,86 @@ fn a_core_that_is_left_is_free_at_once(rt: HostRuntime) -> Result<(), Fail> {
         rows_hold(&rt, rt.alloc(), ALONE_AGAIN)?;
     }
     Ok(())
+}
+
+/// The root's first child has core 1's only slot, and the second child waits for that slot.
+///
+/// Core 1 waits in its first slice until the root has forked both children, and then the root waits until core 1 runs
+/// the second child.
+const WAITS: Row = Row {
+    shows: "a thread that waits gets a place of another core",
+    expr: "(fork n (num 1) (fork n (fold (num 0) (num 50000) (num 0) (var 1)) (fold (num 0) (num 50000) (num 0) (var 1)) (add (var 0) (var 1))) (add (var 0) (var 1)))",
+    machines: (&[2], &[1, 7]),
+    slots: 1,
+    draws: CORE_ONE,
+    watching: Watching::Meeting(200, 20),
+    facts: &[(Value, 1), (IsOver, 1)],
+    told: (Telling::Ran, "slot spill slot "),
+    ..ROW
+};
+
+/// The root has four children in the other slots of its core, and a fifth child that waits for a slot. On cores of five
+/// slots, the table answers two of every three claims with `Lost`.
+const LOST: Row = Row {
+    shows: "a claim that is lost is tried again",
+    expr: "(fork n (fold (num 0) (num 1000) (num 1) (var 1)) (fork n (fold (num 0) (num 1000) (num 1) (var 1)) (fork n (fold (num 0) (num 1000) (num 1) (var 1)) (fork n (fold (num 0) (num 1000) (num 1) (var 1)) (fork n (fold (num 0) (num 1000) (num 1) (var 1)) (fold (num 0) (num 50000) (num 0) (var 1)) (add (var 0) (var 1))) (add (var 0) (var 1))) (add (var 0) (var 1))) (add (var 0) (var 1))) (add (var 0) (var 1)))",
+    forms: LOCKED,
+    machines: (&[1], QUANTA),
+    slots: 5,
+    facts: &[(Value, 5)],
+    told: (Telling::Ran, "slot spill slot slot slot slot "),
+    ..ROW
+};
+
+/// The root awaits a thread that forks two other threads, the second after the first has ended. The first ends while
+/// all places are taken, so that the worker keeps its place. The second waits and gets that place, although its parent
+/// is the only thread on the core that could continue.
+const KEPT_FOR_ONE: Row = Row {
+    shows: "a place that is kept is free for a thread that waits",
+    expr: "(fork n (let (fork n (num 1) (num 1) (var 0)) (fork n (num 2) (fold (num 0) (num 40) (num 0) (var 2)) (add (var 1) (var 2)))) (num 3) (var 0))",
+    machines: (&[1], &[1, 7]),
+    slots: 3,
+    facts: &[(Value, 2)],
+    told: (Telling::Ran, "slot slot slot spill "),
+    ..ROW
+};
+
+const TICKETS: &[Row] = &[
+    WAITS,
+    Row {
+        machines: (&[2], &[10_000]),
+        watching: Watching::Meeting(2, 1),
+        ..WAITS
+    },
+    // The root holds the lock for longer than a holder may run at once, so that its child comes to wait for the lock.
+    // Then the root awaits the child.
+    Row {
+        shows: "a thread is told as woken for what it waited for",
+        locks: 1,
+        expr: "(fork n (hold 0 (fold (num 0) (num 2000) (num 2) (var 1))) (hold 0 (fold (num 0) (num 2000) (num 1) (var 1))) (add (var 0) (var 1)))",
+        machines: (&[1], &[100]),
+        slots: 5,
+        watching: Watching::Wakes,
+        facts: &[(Value, 3), (IsOver, 1)],
+        told: (Telling::Ran, "slot slot "),
+        ..ROW
+    },
+    LOST,
+    Row {
+        machines: (&[2], QUANTA),
+        draws: CORE_ONE,
+        told: (Telling::Nothing, ""),
+        ..LOST
+    },
+    KEPT_FOR_ONE,
+    Row {
+        expr: "(fork n (let (fork n (num 1) (num 1) (var 0)) (fork n (num 2) (fold (num 0) (num 150000) (num 0) (var 2)) (add (var 1) (var 2)))) (num 3) (var 0))",
+        machines: (&[1], &[10_000]),
+        ..KEPT_FOR_ONE
+    },
+];
+
+#[test]
+fn threads_that_wait_get_places(rt: HostRuntime) -> Result<(), Fail> {
+    rows_hold(&rt, rt.alloc(), TICKETS)
 }

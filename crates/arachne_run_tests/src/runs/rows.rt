@@ -4,7 +4,7 @@ ghost use Rattle.arachne_lang.specs.Checked.{IsChecked};
 ghost use Rattle.arachne_lang.specs.Program.{source_of};
 
 use super::facts::{Fact, Telling, number, told};
-use super::{Form, run_hastily, run_on_lock, run_on_words};
+use super::{Form, run_on_lock, run_on_words};
 use crate::choosers::{Draws, Progression, ZEROS};
 use crate::gates::{Watch, Watching};
 use arachne_core::SLOTS;
@@ -26,8 +26,7 @@ pub(super) const LOCKED: &[Form] = &[Form::Locked];
 /// The form of table of a run, and the numbers of cores and of steps per slice (the quantum).
 pub(super) type Machine = (Form, u64, u64);
 
-/// A test case: a program, which is run over each of its types of table on each of its machines, and the expected
-/// result.
+/// A test case: a program, its types of table and its machines, on each of which it is run, and the expected result.
 #[derive(Clone, Copy)]
 pub(super) struct Row {
     /// The property that the test case shows, for the message if the test fails.
@@ -79,19 +78,16 @@ pub(super) const ROW: Row = Row {
 /// Quanta from the least to the greatest.
 pub(super) const QUANTA: &[u64] = &[1, 7, 100, 10_000];
 
-/// Returns the text of a row's program.
-fn text_of(alloc: Global, row: &Row) -> Result<String, Fail> {
-    let (ledgers, locks, expr) = (row.ledgers, row.locks, row.expr);
-    let fronts = "(fork n ".repeat(alloc, row.forks)?;
-    let ends = " (num 1) (add (var 0) (var 1)))".repeat(alloc, row.forks)?;
-    Ok(format!(in alloc; "arachne 1\nledgers {ledgers}\nlocks {locks}\n{fronts}{expr}{ends}\n")?)
-}
-
 /// Parses and checks the text of a row's program.
 pub(super) fn program_of(alloc: Global, row: &Row) -> Result<Program, Fail>
     ensures { IfOk result (λ program. IsChecked (source_of program)) }
 {
-    let text = text_of(alloc, row)?;
+    let (ledgers, locks, expr) = (row.ledgers, row.locks, row.expr);
+    let fronts = "(fork n ".repeat(alloc, row.forks)?;
+    let ends = " (num 1) (add (var 0) (var 1)))".repeat(alloc, row.forks)?;
+    let text = format!(in alloc;
+        "arachne 1\nledgers {ledgers}\nlocks {locks}\n{fronts}{expr}{ends}\n"
+    )?;
     let program = parse(alloc, text.as_bytes())?;
     check(&program)?;
     Ok(program)
@@ -161,12 +157,11 @@ pub(super) fn run_row<R: Threads + Wait + Clock + Sync>(
     match machine.0 {
         Form::Locked => run_on_lock(rt, alloc, program, setup, choosers, watch),
         Form::Words => run_on_words(rt, alloc, program, setup, choosers, watch),
-        Form::Hasty => run_hastily(rt, alloc, program, setup, choosers, watch),
     }
 }
 
 /// Returns the index of the first fact of a test case that is wrong, and the value that the run has instead.
-pub(super) fn wrong_fact(row: &Row, report: &Report, watch: &Watch) -> Option<(usize, u64)> {
+fn wrong_fact(row: &Row, report: &Report, watch: &Watch) -> Option<(usize, u64)> {
     for (nth, &(fact, expected)) in row.facts.iter().enumerate() {
         let found = number(report, watch, fact);
         if found != expected {
@@ -200,25 +195,6 @@ pub(super) fn judge(
     Err(Fail::new(format_args!("{shows}: {machine:?}: {wrong:?} {told}")))
 }
 
-/// Runs a row over each of its forms on each of its machines.
-fn row_holds<R: Threads + Wait + Clock + Sync>(
-    rt: &R,
-    alloc: Global,
-    row: &Row,
-) -> Result<(), Fail> {
-    let program = program_of(alloc, row)?;
-    for &form in row.forms {
-        for &cores in row.machines.0 {
-            for &quantum in row.machines.1 {
-                let (machine, watch) = ((form, cores, quantum), Watch::new(row.watching));
-                let answer = run_row(rt, alloc, row, &program, machine, &watch);
-                judge(alloc, row, machine, &answer, &watch)?;
-            }
-        }
-    }
-    Ok(())
-}
-
 /// Runs each row over each of its forms on each of its machines.
 pub(super) fn rows_hold<R: Threads + Wait + Clock + Sync>(
     rt: &R,
@@ -226,7 +202,16 @@ pub(super) fn rows_hold<R: Threads + Wait + Clock + Sync>(
     rows: &[Row],
 ) -> Result<(), Fail> {
     for row in rows {
-        row_holds(rt, alloc, row)?;
+        let program = program_of(alloc, row)?;
+        for &form in row.forms {
+            for &cores in row.machines.0 {
+                for &quantum in row.machines.1 {
+                    let (machine, watch) = ((form, cores, quantum), Watch::new(row.watching));
+                    let answer = run_row(rt, alloc, row, &program, machine, &watch);
+                    judge(alloc, row, machine, &answer, &watch)?;
+                }
+            }
+        }
     }
     Ok(())
 }

@@ -25,11 +25,6 @@ const ENDS: &[Row] = &[
     HELD_BACK,
     Row {
         expr: BESIDE_LONG,
-        machines: (&[2], &[100]),
-        ..HELD_BACK
-    },
-    Row {
-        expr: BESIDE_LONG,
         machines: (&[2], &[10_000]),
         orders: &[(4, Release, 1)],
         watching: Watching::Holding(3),
@@ -46,8 +41,7 @@ const ENDS: &[Row] = &[
         facts: &[(Value, 5), (IsOver, 1)],
         ..ROW
     },
-    // All threads are on core 0. The root makes 504 steps and each of its 100 children makes one, each in a slice of
-    // its own.
+    // All threads are on core 0. The root makes 504 steps, its 100 children one each, each in a slice of its own.
     Row {
         shows: "a slice that ends its thread counts",
         expr: "(fold (num 0) (num 100) (num 0) (fork n (num 1) (num 0) (add (var 1) (var 2))))",
@@ -92,19 +86,13 @@ const STOPPED: Row = Row {
 
 const ROWS: &[Row] = &[
     WHOLE,
-    Row {
-        machines: (&[1], &[100]),
-        facts: &[(Value, 0), (Counts(290), 1), (CountsUpTo(292), 1)],
-        ..WHOLE
-    },
     STOPPED,
     // The only thread of core 1 would get its next slice at once.
     Row {
         expr: "(fork n (fold (num 0) (num 50000) (num 0) (var 1)) (fork x (num 1) (num 2) (num 3)) (num 4))",
         ..STOPPED
     },
-    // The first thread on core 1 holds the lock for which the second waits. It frees the lock in core 1's fifth slice,
-    // and then continues to count.
+    // The first thread on core 1 holds the lock for which the second waits. It frees it in core 1's fifth slice.
     Row {
         locks: 1,
         expr: "(fork n (let (hold 0 (fold (num 0) (num 25000) (num 0) (var 1))) (fold (num 0) (num 50000) (num 0) (var 2))) (fork n (hold 0 (num 1)) (fork x (num 1) (num 2) (num 3)) (num 4)) (num 5))",
