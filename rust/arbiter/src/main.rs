@@ -107,11 +107,11 @@ fn serve(options: &Options) -> io::Result<()> {
     let (clients, readers) = (listen(&options.socket, options)?, listen(&status::path_of(&options.socket), options)?);
     means.arrivals(std::process::id()).for_each(|thread| means.admit(thread));
     if options.sweep {
-        println!("swept {}", means.sweep());
+        sys::print(format_args!("swept {}", means.sweep()));
     }
     sys::go_first();
     let mut arbiter = daemon::Arbiter::new(options, means, clients, readers)?;
-    println!("ready");
+    sys::print(format_args!("ready"));
     arbiter.run();
     put_back(options);
     Ok(())

@@ -1,7 +1,7 @@
 //! Linux's calls that the daemon needs, declared by hand as in Linux's C library on 64 bits, behind safe functions.
 
 use std::fs::File;
-use std::io;
+use std::io::{self, Write};
 use std::os::unix::io::{AsRawFd, FromRawFd, RawFd};
 use std::os::unix::net::UnixStream;
 use std::sync::atomic::{AtomicBool, AtomicU32, Ordering};
@@ -208,6 +208,11 @@ pub fn watch_process(process: u32) -> io::Result<File> {
         fd if fd >= 0 => Ok(unsafe { File::from_raw_fd(fd as i32) }),
         _ => Err(io::Error::last_os_error()),
     }
+}
+
+/// Prints a line. Unlike `println!`, goes on if nobody can read it any more.
+pub fn print(line: std::fmt::Arguments) {
+    let _ = writeln!(io::stdout(), "{line}");
 }
 
 /// Sends SIGTERM to a process.

@@ -372,6 +372,14 @@ fn a_daemon_that_is_killed_leaves_no_socket() {
 }
 
 #[test]
+fn a_daemon_whose_log_nobody_reads_goes_on() {
+    let mut daemon = Daemon::at(path_of("mute"), &["--log"]);
+    drop(daemon.guardian.stdout.take());
+    granted(&daemon, 5, 0);
+    granted(&daemon, 5, 0);
+}
+
+#[test]
 fn a_daemon_whose_guardian_is_killed_puts_all_back() {
     let mut daemon = Daemon::new("guardian");
     let client = granted(&daemon, 5, 0);
