@@ -8,6 +8,7 @@ use std::cell::Cell;
 use std::env;
 use std::fs;
 use std::io::{BufRead, BufReader, Read, Write};
+use std::os::unix::ffi::OsStrExt;
 use std::os::unix::fs::{FileExt, MetadataExt};
 use std::os::unix::io::{AsRawFd, FromRawFd};
 use std::os::unix::net::UnixStream;
@@ -730,6 +731,71 @@ fn a_stranger() {
     assert_eq!(socket.hello(4, 1).1[0], REFUSED);
     let clients: Vec<_> = (0..20).map(|_| socket.hello(4, 0)).collect();
     assert_eq!(clients.iter().filter(|(_, answer)| answer[0] == WELCOME).count(), 16);
+}
+
+/// The address of a Unix socket: AF_UNIX, and the path.
+#[repr(C)]
+struct Address {
+    family: u16,
+    path: [u8; 108],
+}
+
+extern "C" {
+    fn socket(domain: i32, kind: i32, protocol: i32) -> i32;
+    fn connect(fd: i32, address: &Address, len: u32) -> i32;
+}
+
+/// Starts a process that connects two sockets of this process to the daemon before it runs `command`.
+fn connects(command: &mut Command, daemon: &Socket) -> (Child, [UnixStream; 2]) {
+    let mut address = Address { family: 1, path: [0; 108] };
+    let path = daemon.0.as_os_str().as_bytes();
+    address.path[..path.len()].copy_from_slice(path);
+    // SAFETY: the descriptors are new, and nobody else has them.
+    let streams = [0; 2].map(|_| unsafe { UnixStream::from_raw_fd(socket(1, 1, 0)) });
+    streams.iter().for_each(|stream| stream.set_read_timeout(Some(Duration::from_secs(60))).unwrap());
+    let fds = [streams[0].as_raw_fd(), streams[1].as_raw_fd()];
+    // SAFETY: the address lives through the call, and its length is that of the struct.
+    let connect_all = move || match fds.iter().all(|&fd| unsafe { connect(fd, &address, 110) } == 0) {
+        true => Ok(()),
+        false => Err(std::io::Error::last_os_error()),
+    };
+    // SAFETY: between the fork and the program, `connect_all` makes only calls of the system.
+    let child = unsafe { command.pre_exec(connect_all) }.spawn().unwrap();
+    (child, streams)
+}
+
+/// A stranger's process connects and ends, and a process of root's gets its number.
+#[test]
+fn who_has_the_number_of_another_user_s_process_is_not_taken_for_it() {
+    if fs::metadata("/proc/self").unwrap().uid() != 0 {
+        return println!("skipped: only root can become another user");
+    }
+    let daemon = Daemon::at(path_of("reused"), &["--open"]);
+    let (mut ended, [mut control, mut thread]) = connects(Command::new("true").uid(65534), &daemon);
+    ended.wait().unwrap();
+    let number = ended.id();
+    let again = (0..100).find_map(|_| {
+        fs::write("/proc/sys/kernel/ns_last_pid", (number - 1).to_string()).ok()?;
+        let (mut child, streams) = connects(Command::new("sleep").arg("100"), &daemon);
+        if child.id() != number {
+            child.kill().unwrap();
+            child.wait().unwrap();
+        }
+        (child.id() == number).then_some((child, streams))
+    });
+    let (mut child, [mut of_root, _stream]) = match again {
+        Some(again) => again,
+        None => return println!("skipped: no process can be given a number"),
+    };
+    send(&mut control, [HELLO, VERSION, 5, 64]);
+    assert!(is_refused(&mut control), "it would be the other process's client");
+    send(&mut of_root, [HELLO, VERSION, 5, 64]);
+    let [welcome, client, ..] = receive(&mut of_root).unwrap();
+    assert_eq!(welcome, WELCOME);
+    send(&mut thread, [JOIN, client, number, 1]);
+    assert!(is_refused(&mut thread), "it would be a thread of the other process's client");
+    child.kill().unwrap();
+    child.wait().unwrap();
 }
 
 #[repr(C)]

@@ -28,6 +28,9 @@ const CLIENTS: usize = 64;
 const FOR_OTHERS: u32 = 4;
 const OF_ANOTHER: usize = 16;
 
+/// Whoever connected has ended, and its number is that of another user's process. (One of the same user is taken for it.)
+const OF_ANOTHER_USER: &str = "a process of another user";
+
 pub(super) enum Role {
     New,
     Control(u32),
@@ -178,11 +181,15 @@ impl Arbiter {
         let free = |number: &usize| self.clients.values().all(|client| client.number != *number);
         let number = (0..CLIENTS).find(free).ok_or("too many clients")?;
         let failed = |_| "the system refused it";
+        let ended = sys::watch_process(process).map_err(failed)?;
+        if !threads::is_user(process, user) {
+            return Err(OF_ANOTHER_USER);
+        }
         let client = Client {
             number,
             process,
             user,
-            ended: sys::watch_process(process).map_err(failed)?,
+            ended,
             control: name,
             page: sys::Page::new().map_err(failed)?,
             priority,
@@ -214,11 +221,14 @@ impl Arbiter {
     }
 
     fn join(&mut self, name: u64, id: u32, thread: u32, place: u32, floats: bool) -> Result<(), &'static str> {
-        let process = self.connections[&name].peer.0;
+        let (process, user) = self.connections[&name].peer;
         let client = self.clients.get(&id).filter(|client| client.process == process).ok_or("no client of it")?;
         let number = client.number;
         let thread = threads::thread_of(process, thread).ok_or("a thread that isn't one of it")?;
         let began = threads::began(process, thread).ok_or("a thread that has ended")?;
+        if !threads::is_user(process, user) {
+            return Err(OF_ANOTHER_USER);
+        }
         if self.clients.values().any(|client| client.threads.values().any(|it| it.id == thread)) {
             return Err("a thread that is known");
         }
