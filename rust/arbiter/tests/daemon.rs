@@ -265,19 +265,35 @@ fn there_are_limits_of_connections_and_of_clients() {
     // A process may have 130 connections, and all processes together 300.
     let many = connect_often(&daemon);
     assert_eq!(open_of(&many), 130 - clients.len());
-    let others = [130, 40].map(|left| {
-        let mut process = other("who_connects_often", &daemon).stdin(Stdio::piped()).spawn().unwrap();
-        let mut lines = BufReader::new(process.stdout.take().unwrap()).lines();
-        let line = lines.find_map(|line| Some(line.unwrap().strip_suffix(" are open")?.to_string()));
-        assert_eq!(line.unwrap().rsplit(' ').next().unwrap(), left.to_string());
-        (process, lines)
-    });
-    for (mut process, _lines) in others {
-        drop(process.stdin.take());
-        assert!(process.wait().unwrap().success());
-    }
+    [130, 40].map(|left| connects_often(&mut other("who_connects_often", &daemon), left)).into_iter().for_each(ends);
     drop((clients, many));
     becomes("there is room again", || comes(&daemon));
+}
+
+#[test]
+fn users_who_are_not_trusted_leave_connections_for_others() {
+    if fs::metadata("/proc/self").unwrap().uid() != 0 {
+        return println!("skipped: only root can become another user");
+    }
+    let daemon = Daemon::at(path_of("users"), &["--open"]);
+    let often = |user, left| connects_often(other("who_connects_often", &daemon).uid(user), left);
+    let others = [(65533, 100), (65534, 100)].map(|(user, left)| often(user, left));
+    assert_eq!(daemon.hello(0, 1).1[0], WELCOME);
+    others.into_iter().for_each(ends);
+}
+
+/// Starts a process that connects often, and has `left` connections then. It ends once nothing comes from its input.
+fn connects_often(who: &mut Command, left: usize) -> (Child, impl Iterator) {
+    let mut process = who.stdin(Stdio::piped()).spawn().unwrap();
+    let mut lines = BufReader::new(process.stdout.take().unwrap()).lines();
+    let line = lines.find_map(|line| Some(line.unwrap().strip_suffix(" are open")?.to_string()));
+    assert_eq!(line.unwrap().rsplit(' ').next().unwrap(), left.to_string());
+    (process, lines)
+}
+
+fn ends((mut process, _lines): (Child, impl Iterator)) {
+    drop(process.stdin.take());
+    assert!(process.wait().unwrap().success());
 }
 
 /// Returns true if the daemon takes in a client, whose connection ends at once.
@@ -299,7 +315,7 @@ fn open_of(many: &[UnixStream]) -> usize {
 }
 
 #[test]
-#[ignore = "the test before runs it twice, beside its own connections"]
+#[ignore = "two tests above run it twice"]
 fn who_connects_often() {
     // The first client belongs to another process.
     assert_eq!(receive(&mut given().join(1, number(), 0, false)).unwrap()[0], REFUSED);
