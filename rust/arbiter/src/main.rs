@@ -36,7 +36,7 @@ const USAGE: &str =
     "arachne-arbiter run SOCKET [--cpuset FOLDER [--sweep] | --rest GROUP..] [--cores LIST] [--keep N] \
                      [--hyperthreads] [--turn MILLISECONDS] [--open] [--log]\narachne-arbiter status SOCKET";
 
-/// The exit status of a daemon that finds another daemon at its socket.
+/// The exit status of a daemon that finds another daemon at its socket, or with its cpusets.
 const THERE_IS_ONE: i32 = 3;
 
 fn main() {
@@ -75,8 +75,9 @@ fn guard(options: &Options) {
             sys::terminate(child.id());
         }
     };
-    // A daemon that ended has put all back. If there was another daemon before, it owns the socket and the cpusets.
-    if ![0, THERE_IS_ONE].contains(&status) {
+    // A daemon that ended has put all back. If there is another daemon, it owns the socket or the cpusets.
+    let lock = options.cpuset.as_deref().map(means::lock).transpose();
+    if ![0, THERE_IS_ONE].contains(&status) && lock.is_ok() {
         put_back(options);
     }
     std::process::exit(status);
@@ -103,6 +104,7 @@ fn serve(options: &Options) -> io::Result<()> {
     if UnixStream::connect(&options.socket).is_ok() {
         return Err(io::Error::new(ErrorKind::AddrInUse, "there is one already"));
     }
+    let _lock = options.cpuset.as_deref().map(means::lock).transpose()?;
     let means = Means::new(options.cpuset.as_deref(), &options.groups, &options.cpus)?;
     let (clients, readers) = (listen(&options.socket, options)?, listen(&status::path_of(&options.socket), options)?);
     means.arrivals(std::process::id()).for_each(|thread| means.admit(thread));

@@ -234,6 +234,15 @@ pub fn release_groups(groups: &[PathBuf]) {
     groups.iter().for_each(|group| drop(write(group.join("cpuset.cpus"), "\n")));
 }
 
+/// Locks a folder of cpusets until the file that this returns is closed. Fails if another daemon has locked it.
+pub fn lock(folder: &Path) -> io::Result<fs::File> {
+    let file = fs::File::open(folder)?;
+    match sys::lock(&file) {
+        true => Ok(file),
+        false => Err(io::Error::new(io::ErrorKind::AddrInUse, format!("another daemon has {}", folder.display()))),
+    }
+}
+
 /// Moves the threads in an arbiter's cpusets below `parent` back into `parent`, and removes the cpusets.
 ///
 /// Linux frees a set only some time after its last thread has ended, so this function retries for five seconds.

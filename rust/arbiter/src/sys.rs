@@ -54,6 +54,7 @@ extern "C" {
     fn signal(number: i32, handler: usize) -> usize;
     fn getuid() -> u32;
     fn kill(process: i32, signal: i32) -> i32;
+    fn flock(fd: i32, operation: i32) -> i32;
     fn syscall(number: i64, ...) -> i64;
     fn prctl(option: i32, value: u64, a: u64, b: u64, c: u64) -> i32;
 }
@@ -208,6 +209,12 @@ pub fn watch_process(process: u32) -> io::Result<File> {
         fd if fd >= 0 => Ok(unsafe { File::from_raw_fd(fd as i32) }),
         _ => Err(io::Error::last_os_error()),
     }
+}
+
+/// Locks a file until it is closed. Returns false if another process has locked it.
+pub fn lock(file: &File) -> bool {
+    // SAFETY: all arguments are numbers; they are LOCK_EX and LOCK_NB.
+    unsafe { flock(file.as_raw_fd(), 2 | 4) == 0 }
 }
 
 /// Prints a line. Unlike `println!`, goes on if nobody can read it any more.

@@ -426,6 +426,21 @@ fn another_begins_where_a_daemon_was_killed_with_its_guardian() {
 }
 
 #[test]
+fn a_second_daemon_takes_nothing_of_the_first_one_s() {
+    let daemon = Daemon::new("first");
+    let client = granted(&daemon, 5, 0);
+    let id = thread_on(&daemon, client.cpu).to_string();
+    let second = |name| run(&path_of(name), &[]).output().unwrap().status.code();
+    assert_eq!(second("first"), Some(3), "there is one at its socket");
+    if env::var_os("ARBITER_CPUSET").is_some() {
+        assert_eq!(second("second"), Some(3), "there is one with its cpusets");
+    }
+    assert_eq!(processors_of(&id), client.cpu.to_string());
+    assert_eq!(daemon.hello(0, 0).1[0], WELCOME);
+    assert!(is_silent(&client.control), "it is a client still");
+}
+
+#[test]
 fn a_client_that_does_not_read_is_none_any_more() {
     let daemon = Daemon::new("deaf");
     let (mut control, welcome) = daemon.hello(5, 0);
