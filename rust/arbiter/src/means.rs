@@ -118,6 +118,17 @@ impl Means {
         }
     }
 
+    /// Returns true if a move to the set `rest` would let a process out of a cpuset that is neither this arbiter's nor
+    /// above it.
+    pub fn frees(&self, process: u32) -> bool {
+        let set_of = |process| fs::read_to_string(format!("/proc/{process}/cpuset")).unwrap_or_default();
+        // This process is in the set `rest`.
+        let (own, other) = (set_of(std::process::id()), set_of(process));
+        let (top, other) = (Path::new(own.trim_end()).parent(), Path::new(other.trim_end()));
+        let is_near = top.map_or(false, |top| top.starts_with(other) || other.starts_with(top));
+        matches!(self, Means::Cpusets(_)) && !is_near
+    }
+
     /// Returns the threads of a process that must be moved to the set `rest`.
     pub fn arrivals(&self, process: u32) -> Threads {
         match self {

@@ -754,8 +754,37 @@ fn a_user_who_is_not_trusted_has_low_priorities_no_reserve_and_few_clients() {
     assert_eq!(daemon.hello(0, 1).1[0], WELCOME);
 }
 
+/// A process in a set beside the daemon's is refused. In a set above it, or in the daemon's own, it would be taken in.
+#[test]
+fn a_user_who_is_not_trusted_leaves_no_cpuset() {
+    let folder = match env::var_os("ARBITER_CPUSET") {
+        Some(folder) => PathBuf::from(folder),
+        None => return println!("skipped: there are no cpusets"),
+    };
+    let (daemon, beside) = (Daemon::at(path_of("beside"), &["--open"]), folder.with_extension("beside"));
+    fs::create_dir(&beside).unwrap();
+    for file in ["cpuset.cpus", "cpuset.mems"] {
+        fs::write(beside.join(file), fs::read(folder.join(file)).unwrap()).unwrap();
+    }
+    for (set, answer) in [(beside.as_path(), REFUSED), (folder.parent().unwrap(), WELCOME), (&*folder, WELCOME)] {
+        let mut child = other("who_says_hello", &daemon).uid(65534).stdin(Stdio::piped()).spawn().unwrap();
+        fs::write(set.join("cgroup.procs"), child.id().to_string()).unwrap();
+        child.stdin.take().unwrap().write_all(&[answer as u8]).unwrap();
+        assert!(child.wait().unwrap().success(), "{}", set.display());
+    }
+    becomes("the set is removed", || fs::remove_dir(&beside).is_ok());
+}
+
 #[test]
 #[ignore = "the test before runs it as another user"]
+fn who_says_hello() {
+    let mut answer = [0];
+    std::io::stdin().read_exact(&mut answer).unwrap();
+    assert_eq!(given().hello(5, 0).1[0], answer[0] as u32);
+}
+
+#[test]
+#[ignore = "a test above runs it as another user"]
 fn a_stranger() {
     let socket = given();
     assert_eq!(socket.hello(3, 0).1[0], REFUSED);

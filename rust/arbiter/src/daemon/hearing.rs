@@ -193,6 +193,9 @@ impl Arbiter {
         if !threads::is_user(process, user) {
             return Err(OF_ANOTHER_USER);
         }
+        if !trusted && self.means.frees(process) {
+            return Err("a process of another cpuset");
+        }
         let client = Client {
             number,
             process,
