@@ -31,7 +31,7 @@ const CLIENTS: usize = 64;
 const FOR_OTHERS: u32 = 4;
 const OF_ANOTHER: usize = 16;
 
-/// Whoever connected has ended, and its number is that of another user's process. (One of the same user is taken for it.)
+/// Whoever connected has ended, and another user's process has its number. (One of the same user is taken for it.)
 const OF_ANOTHER_USER: &str = "a process of another user";
 
 pub(super) enum Role {
