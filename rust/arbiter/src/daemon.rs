@@ -469,7 +469,7 @@ impl Arbiter {
     fn status(&self) -> String {
         let mut text = String::new();
         if self.host.takes_machine() {
-            text += &format!("the host takes the machine, now {} %: nothing is granted\n", self.host.percent());
+            text += "the host has taken the machine: nothing is granted until it has been calm for five seconds\n";
         }
         for (id, client) in &self.clients {
             let Client { process, user, priority, least, asked, allowed, given, forced, .. } = client;

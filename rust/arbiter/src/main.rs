@@ -1,16 +1,4 @@
-//! Grants whole cores to processes:
-//! arachne-arbiter run SOCKET [--cpuset FOLDER [--sweep] | --rest GROUP..] [--cores LIST] [--keep N] [--hyperthreads]
-//!     [--turn MILLISECONDS] [--open] [--log]
-//! arachne-arbiter status SOCKET
-//!
-//! The first N cores (by default 1) are never granted. The cores' processors are LIST (as 0,2-5), or else the folder's,
-//! or all that the daemon may use. The hyperthreads of a core are granted together, and only the first is used; with
-//! --hyperthreads each hyperthread is a core. A core that is left over within a priority goes to the next client each
-//! MILLISECONDS (by default 100; with 0 it stays). With a FOLDER of cpusets of version 1, granted cores are kept from
-//! all processes below it; with --sweep the processes in the folder itself are moved below it. With a GROUP of version
-//! 2, or several, granted cores are kept from the processes below these. Without FOLDER and GROUP only clients' threads
-//! are moved, by their affinity. --open lets every user connect. The daemon ends at SIGTERM, and lets all threads run
-//! on all processors again. `docs/arbiter.md` and the page arachne-arbiter(8) say more.
+//! Grants whole cores to processes. `docs/arbiter.md` and the page arachne-arbiter(8) say how.
 
 mod daemon;
 mod host;

@@ -153,11 +153,6 @@ pub fn set_affinity(thread: u32, cpus: &[usize]) -> io::Result<()> {
     }
 }
 
-/// Returns the processors that the calling thread may run on.
-pub fn affinity() -> Vec<usize> {
-    affinity_of(0)
-}
-
 /// Returns the processors that a thread may run on, or none if the thread has ended. Thread 0 is the calling thread.
 pub fn affinity_of(thread: u32) -> Vec<usize> {
     let mut mask = [0u64; 16];

@@ -710,7 +710,7 @@ fn while_the_host_takes_the_machine_there_are_no_clients() {
         !is_silent(&control)
     });
     assert!(receive(&mut control).is_none() && receive(&mut thread).is_none());
-    assert!(status(&daemon).starts_with("the host takes the machine, now 20 %: nothing is granted\nprocessor"));
+    assert!(status(&daemon).starts_with("the host has taken the machine: nothing is granted until "));
     assert!([early, daemon.connect()].iter_mut().all(|it| receive(it).is_none()), "nobody comes");
     threads.extend(told.iter().take(begun.get()));
     for thread in threads {
