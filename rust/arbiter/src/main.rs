@@ -64,8 +64,7 @@ fn guard(options: &Options) {
         }
     };
     // A daemon that ended has put all back. If there is another daemon, it owns the socket or the cpusets.
-    let lock = options.cpuset.as_deref().map(means::lock).transpose();
-    if ![0, THERE_IS_ONE].contains(&status) && lock.is_ok() {
+    if ![0, THERE_IS_ONE].contains(&status) {
         put_back(options);
     }
     std::process::exit(status);
@@ -75,7 +74,12 @@ fn guard(options: &Options) {
 fn put_back(options: &Options) {
     remove_socket(&options.socket);
     remove_socket(&status::path_of(&options.socket));
-    options.cpuset.as_deref().map(means::restore);
+    if let Some(folder) = &options.cpuset {
+        // Another daemon that has begun meanwhile has removed these cpusets, and has its own.
+        if let Ok(_lock) = means::lock(folder) {
+            means::restore(folder);
+        }
+    }
     means::release_groups(&options.groups);
 }
 
@@ -92,7 +96,7 @@ fn serve(options: &Options) -> io::Result<()> {
     if UnixStream::connect(&options.socket).is_ok() {
         return Err(io::Error::new(ErrorKind::AddrInUse, "there is one already"));
     }
-    let _lock = options.cpuset.as_deref().map(means::lock).transpose()?;
+    let lock = options.cpuset.as_deref().map(means::lock).transpose()?;
     let means = Means::new(options.cpuset.as_deref(), &options.groups, &options.cpus)?;
     let (clients, readers) = (listen(&options.socket, options)?, listen(&status::path_of(&options.socket), options)?);
     means.arrivals(std::process::id()).for_each(|thread| means.admit(thread));
@@ -103,6 +107,7 @@ fn serve(options: &Options) -> io::Result<()> {
     let mut arbiter = daemon::Arbiter::new(options, means, clients, readers)?;
     sys::print(format_args!("ready"));
     arbiter.run();
+    drop(lock);
     put_back(options);
     Ok(())
 }
