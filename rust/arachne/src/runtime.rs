@@ -128,7 +128,7 @@ impl Builder {
     /// processors (at most 65,535), other runtimes get no more than their own reserves.
     ///
     /// If no arbiter listens at `path`, or if the arbiter refuses, the runtime works as without this call, and tries
-    /// again each second.
+    /// again each second, or 30 seconds after the arbiter has refused.
     ///
     /// ```
     /// let builder = arachne::Builder::new(4).arbiter("/run/arachne-arbiter.sock", 0, 1);

@@ -161,7 +161,7 @@ impl Arbiter {
         let begun = self.look_at_strangers().threads;
         self.drop_clients();
         begun.filter(|&thread| self.is_on_one(thread)).for_each(|thread| self.means.free(thread, &self.all));
-        println!("by force {}, after {:.0} s", self.forced, self.start.elapsed().as_secs_f64());
+        sys::print(format_args!("by force {}, after {:.0} s", self.forced, self.start.elapsed().as_secs_f64()));
     }
 
     /// Returns for how many milliseconds the daemon may wait for messages before it has something else to do.
@@ -179,7 +179,7 @@ impl Arbiter {
 
     fn say(&self, text: impl FnOnce() -> String) {
         if self.log {
-            println!("{:.6} {}", clock(), text());
+            sys::print(format_args!("{:.6} {}", clock(), text()));
         }
     }
 
@@ -469,7 +469,7 @@ impl Arbiter {
     fn status(&self) -> String {
         let mut text = String::new();
         if self.host.takes_machine() {
-            text += &format!("the host takes the machine, now {} %: nothing is granted\n", self.host.percent());
+            text += "the host has taken the machine: nothing is granted until it has been calm for five seconds\n";
         }
         for (id, client) in &self.clients {
             let Client { process, user, priority, least, asked, allowed, given, forced, .. } = client;

@@ -19,8 +19,6 @@ const CALM_MACHINE: Duration = Duration::from_secs(5);
 struct Account {
     stolen: u64,
     all: u64,
-    /// How many per cent of the time the host has stolen between the last two reads.
-    percent: u64,
     is_taken: bool,
     /// The last read by which the host has stolen more than `LITTLE` per cent.
     busy: Instant,
@@ -51,14 +49,9 @@ impl Host {
         self.processors[nth].is_taken
     }
 
-    /// Returns true if the host takes the machine: so much of all processors together.
+    /// Returns true if the host takes the machine: so much of all the daemon's processors together.
     pub fn takes_machine(&self) -> bool {
         self.machine.is_taken
-    }
-
-    /// Returns how many per cent of the machine's time the host has stolen between the last two reads.
-    pub fn percent(&self) -> u64 {
-        self.machine.percent
     }
 
     /// If `WINDOW` has passed since the last read, reads the stolen time. Returns the indexes of the processors that
@@ -89,7 +82,7 @@ impl Host {
 
 impl Account {
     fn new() -> Account {
-        Account { stolen: 0, all: 0, percent: 0, is_taken: false, busy: Instant::now() }
+        Account { stolen: 0, all: 0, is_taken: false, busy: Instant::now() }
     }
 
     /// Compares the stolen and the total time with those of the last call. Returns true if this changes whether this
@@ -101,7 +94,6 @@ impl Account {
         if is_first || time == 0 {
             return false;
         }
-        self.percent = took * 100 / time;
         if took * 100 > LITTLE * time {
             self.busy = Instant::now();
         }

@@ -1,16 +1,4 @@
-//! Grants whole cores to processes:
-//! arachne-arbiter run SOCKET [--cpuset FOLDER [--sweep] | --rest GROUP..] [--cores LIST] [--keep N] [--hyperthreads]
-//!     [--turn MILLISECONDS] [--open] [--log]
-//! arachne-arbiter status SOCKET
-//!
-//! The first N cores (by default 1) are never granted. The cores' processors are LIST (as 0,2-5), or else the folder's,
-//! or all that the daemon may use. The hyperthreads of a core are granted together, and only the first is used; with
-//! --hyperthreads each hyperthread is a core. A core that is left over within a priority goes to the next client each
-//! MILLISECONDS (by default 100; with 0 it stays). With a FOLDER of cpusets of version 1, granted cores are kept from
-//! all processes below it; with --sweep the processes in the folder itself are moved below it. With a GROUP of version
-//! 2, or several, granted cores are kept from the processes below these. Without FOLDER and GROUP only clients' threads
-//! are moved, by their affinity. --open lets every user connect. The daemon ends at SIGTERM, and lets all threads run
-//! on all processors again. `docs/arbiter.md` and the page arachne-arbiter(8) say more.
+//! Grants whole cores to processes. `docs/arbiter.md` and the page arachne-arbiter(8) say how.
 
 mod daemon;
 mod host;
@@ -36,7 +24,7 @@ const USAGE: &str =
     "arachne-arbiter run SOCKET [--cpuset FOLDER [--sweep] | --rest GROUP..] [--cores LIST] [--keep N] \
                      [--hyperthreads] [--turn MILLISECONDS] [--open] [--log]\narachne-arbiter status SOCKET";
 
-/// The exit status of a daemon that finds another daemon at its socket.
+/// The exit status of a daemon that finds another daemon at its socket, or with its cpusets.
 const THERE_IS_ONE: i32 = 3;
 
 fn main() {
@@ -75,7 +63,7 @@ fn guard(options: &Options) {
             sys::terminate(child.id());
         }
     };
-    // A daemon that ended has put all back. If there was another daemon before, it owns the socket and the cpusets.
+    // A daemon that ended has put all back. If there is another daemon, it owns the socket or the cpusets.
     if ![0, THERE_IS_ONE].contains(&status) {
         put_back(options);
     }
@@ -86,7 +74,12 @@ fn guard(options: &Options) {
 fn put_back(options: &Options) {
     remove_socket(&options.socket);
     remove_socket(&status::path_of(&options.socket));
-    options.cpuset.as_deref().map(means::restore);
+    if let Some(folder) = &options.cpuset {
+        // Another daemon that has begun meanwhile has removed these cpusets, and has its own.
+        if let Ok(_lock) = means::lock(folder) {
+            means::restore(folder);
+        }
+    }
     means::release_groups(&options.groups);
 }
 
@@ -103,16 +96,18 @@ fn serve(options: &Options) -> io::Result<()> {
     if UnixStream::connect(&options.socket).is_ok() {
         return Err(io::Error::new(ErrorKind::AddrInUse, "there is one already"));
     }
+    let lock = options.cpuset.as_deref().map(means::lock).transpose()?;
     let means = Means::new(options.cpuset.as_deref(), &options.groups, &options.cpus)?;
     let (clients, readers) = (listen(&options.socket, options)?, listen(&status::path_of(&options.socket), options)?);
     means.arrivals(std::process::id()).for_each(|thread| means.admit(thread));
     if options.sweep {
-        println!("swept {}", means.sweep());
+        sys::print(format_args!("swept {}", means.sweep()));
     }
     sys::go_first();
     let mut arbiter = daemon::Arbiter::new(options, means, clients, readers)?;
-    println!("ready");
+    sys::print(format_args!("ready"));
     arbiter.run();
+    drop(lock);
     put_back(options);
     Ok(())
 }

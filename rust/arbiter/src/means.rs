@@ -118,6 +118,17 @@ impl Means {
         }
     }
 
+    /// Returns true if a move to the set `rest` would let a process out of a cpuset that is neither this arbiter's nor
+    /// above it.
+    pub fn frees(&self, process: u32) -> bool {
+        let set_of = |process| fs::read_to_string(format!("/proc/{process}/cpuset")).unwrap_or_default();
+        // This process is in the set `rest`.
+        let (own, other) = (set_of(std::process::id()), set_of(process));
+        let (top, other) = (Path::new(own.trim_end()).parent(), Path::new(other.trim_end()));
+        let is_near = top.map_or(false, |top| top.starts_with(other) || other.starts_with(top));
+        matches!(self, Means::Cpusets(_)) && !is_near
+    }
+
     /// Returns the threads of a process that must be moved to the set `rest`.
     pub fn arrivals(&self, process: u32) -> Threads {
         match self {
@@ -232,6 +243,15 @@ impl Means {
 /// Lets processes in these groups of version 2 run on all processors of the groups above.
 pub fn release_groups(groups: &[PathBuf]) {
     groups.iter().for_each(|group| drop(write(group.join("cpuset.cpus"), "\n")));
+}
+
+/// Locks a folder of cpusets until the file that this returns is closed. Fails if another daemon has locked it.
+pub fn lock(folder: &Path) -> io::Result<fs::File> {
+    let file = fs::File::open(folder)?;
+    match sys::lock(&file) {
+        true => Ok(file),
+        false => Err(io::Error::new(io::ErrorKind::AddrInUse, format!("another daemon has {}", folder.display()))),
+    }
 }
 
 /// Moves the threads in an arbiter's cpusets below `parent` back into `parent`, and removes the cpusets.

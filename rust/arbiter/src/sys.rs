@@ -1,7 +1,7 @@
 //! Linux's calls that the daemon needs, declared by hand as in Linux's C library on 64 bits, behind safe functions.
 
 use std::fs::File;
-use std::io;
+use std::io::{self, Write};
 use std::os::unix::io::{AsRawFd, FromRawFd, RawFd};
 use std::os::unix::net::UnixStream;
 use std::sync::atomic::{AtomicBool, AtomicU32, Ordering};
@@ -54,6 +54,7 @@ extern "C" {
     fn signal(number: i32, handler: usize) -> usize;
     fn getuid() -> u32;
     fn kill(process: i32, signal: i32) -> i32;
+    fn flock(fd: i32, operation: i32) -> i32;
     fn syscall(number: i64, ...) -> i64;
     fn prctl(option: i32, value: u64, a: u64, b: u64, c: u64) -> i32;
 }
@@ -152,11 +153,6 @@ pub fn set_affinity(thread: u32, cpus: &[usize]) -> io::Result<()> {
     }
 }
 
-/// Returns the processors that the calling thread may run on.
-pub fn affinity() -> Vec<usize> {
-    affinity_of(0)
-}
-
 /// Returns the processors that a thread may run on, or none if the thread has ended. Thread 0 is the calling thread.
 pub fn affinity_of(thread: u32) -> Vec<usize> {
     let mut mask = [0u64; 16];
@@ -208,6 +204,17 @@ pub fn watch_process(process: u32) -> io::Result<File> {
         fd if fd >= 0 => Ok(unsafe { File::from_raw_fd(fd as i32) }),
         _ => Err(io::Error::last_os_error()),
     }
+}
+
+/// Locks a file until it is closed. Returns false if another process has locked it.
+pub fn lock(file: &File) -> bool {
+    // SAFETY: all arguments are numbers; they are LOCK_EX and LOCK_NB.
+    unsafe { flock(file.as_raw_fd(), 2 | 4) == 0 }
+}
+
+/// Prints a line. Unlike `println!`, goes on if nobody can read it any more.
+pub fn print(line: std::fmt::Arguments) {
+    let _ = writeln!(io::stdout(), "{line}");
 }
 
 /// Sends SIGTERM to a process.

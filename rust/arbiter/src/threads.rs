@@ -63,16 +63,22 @@ pub fn began(process: u32, thread: u32) -> Option<u64> {
 /// ids differ if that process is in a PID namespace of its own. Returns None if there is no such thread, or if the
 /// process isn't in a namespace below this one's.
 pub fn thread_of(process: u32, thread: u32) -> Option<u32> {
-    if names_of(process, process)?.len() <= 1 {
+    if numbers_of(process, process, "NSpid:")?.len() <= 1 {
         return Some(thread);
     }
-    let is_it = |it: u32| names_of(process, it).and_then(|names| names.last().copied()) == Some(thread);
+    // A thread's ids in the PID namespaces that it is in, beginning with this process's namespace.
+    let is_it = |it: u32| numbers_of(process, it, "NSpid:").and_then(|ids| ids.last().copied()) == Some(thread);
     threads_of(process).take(IN_A_NAMESPACE).find(|&it| is_it(it))
 }
 
-/// Returns a thread's ids in the PID namespaces that it is in, beginning with this process's namespace.
-fn names_of(process: u32, thread: u32) -> Option<Vec<u32>> {
+/// Returns true if the effective user of a process is `user`.
+pub fn is_user(process: u32, user: u32) -> bool {
+    numbers_of(process, process, "Uid:").and_then(|users| users.get(1).copied()) == Some(user)
+}
+
+/// Returns the numbers in a line of a thread's `status`, or None if the thread has ended.
+fn numbers_of(process: u32, thread: u32, name: &str) -> Option<Vec<u32>> {
     let text = fs::read_to_string(format!("/proc/{process}/task/{thread}/status")).ok()?;
-    let line = text.lines().find_map(|line| line.strip_prefix("NSpid:")).unwrap_or("");
+    let line = text.lines().find_map(|line| line.strip_prefix(name)).unwrap_or("");
     Some(line.split_whitespace().filter_map(|word| word.parse().ok()).collect())
 }

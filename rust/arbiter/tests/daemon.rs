@@ -8,6 +8,7 @@ use std::cell::Cell;
 use std::env;
 use std::fs;
 use std::io::{BufRead, BufReader, Read, Write};
+use std::os::unix::ffi::OsStrExt;
 use std::os::unix::fs::{FileExt, MetadataExt};
 use std::os::unix::io::{AsRawFd, FromRawFd};
 use std::os::unix::net::UnixStream;
@@ -264,19 +265,35 @@ fn there_are_limits_of_connections_and_of_clients() {
     // A process may have 130 connections, and all processes together 300.
     let many = connect_often(&daemon);
     assert_eq!(open_of(&many), 130 - clients.len());
-    let others = [130, 40].map(|left| {
-        let mut process = other("who_connects_often", &daemon).stdin(Stdio::piped()).spawn().unwrap();
-        let mut lines = BufReader::new(process.stdout.take().unwrap()).lines();
-        let line = lines.find_map(|line| Some(line.unwrap().strip_suffix(" are open")?.to_string()));
-        assert_eq!(line.unwrap().rsplit(' ').next().unwrap(), left.to_string());
-        (process, lines)
-    });
-    for (mut process, _lines) in others {
-        drop(process.stdin.take());
-        assert!(process.wait().unwrap().success());
-    }
+    [130, 40].map(|left| connects_often(&mut other("who_connects_often", &daemon), left)).into_iter().for_each(ends);
     drop((clients, many));
     becomes("there is room again", || comes(&daemon));
+}
+
+#[test]
+fn users_who_are_not_trusted_leave_connections_for_others() {
+    if fs::metadata("/proc/self").unwrap().uid() != 0 {
+        return println!("skipped: only root can become another user");
+    }
+    let daemon = Daemon::at(path_of("users"), &["--open"]);
+    let often = |user, left| connects_often(other("who_connects_often", &daemon).uid(user), left);
+    let others = [(65533, 100), (65534, 100)].map(|(user, left)| often(user, left));
+    assert_eq!(daemon.hello(0, 1).1[0], WELCOME);
+    others.into_iter().for_each(ends);
+}
+
+/// Starts a process that connects often, and has `left` connections then. It ends once nothing comes from its input.
+fn connects_often(who: &mut Command, left: usize) -> (Child, impl Iterator) {
+    let mut process = who.stdin(Stdio::piped()).spawn().unwrap();
+    let mut lines = BufReader::new(process.stdout.take().unwrap()).lines();
+    let line = lines.find_map(|line| Some(line.unwrap().strip_suffix(" are open")?.to_string()));
+    assert_eq!(line.unwrap().rsplit(' ').next().unwrap(), left.to_string());
+    (process, lines)
+}
+
+fn ends((mut process, _lines): (Child, impl Iterator)) {
+    drop(process.stdin.take());
+    assert!(process.wait().unwrap().success());
 }
 
 /// Returns true if the daemon takes in a client, whose connection ends at once.
@@ -298,7 +315,7 @@ fn open_of(many: &[UnixStream]) -> usize {
 }
 
 #[test]
-#[ignore = "the test before runs it twice, beside its own connections"]
+#[ignore = "two tests above run it twice"]
 fn who_connects_often() {
     // The first client belongs to another process.
     assert_eq!(receive(&mut given().join(1, number(), 0, false)).unwrap()[0], REFUSED);
@@ -372,6 +389,14 @@ fn a_daemon_that_is_killed_leaves_no_socket() {
 }
 
 #[test]
+fn a_daemon_whose_log_nobody_reads_goes_on() {
+    let mut daemon = Daemon::at(path_of("mute"), &["--log"]);
+    drop(daemon.guardian.stdout.take());
+    granted(&daemon, 5, 0);
+    granted(&daemon, 5, 0);
+}
+
+#[test]
 fn a_daemon_whose_guardian_is_killed_puts_all_back() {
     let mut daemon = Daemon::new("guardian");
     let client = granted(&daemon, 5, 0);
@@ -398,6 +423,21 @@ fn another_begins_where_a_daemon_was_killed_with_its_guardian() {
     std::mem::forget(first);
     let second = Daemon::at(path, &[]);
     assert_eq!(second.hello(0, 0).1[0], WELCOME);
+}
+
+#[test]
+fn a_second_daemon_takes_nothing_of_the_first_one_s() {
+    let daemon = Daemon::new("first");
+    let client = granted(&daemon, 5, 0);
+    let id = thread_on(&daemon, client.cpu).to_string();
+    let second = |name| run(&path_of(name), &[]).output().unwrap().status.code();
+    assert_eq!(second("first"), Some(3), "there is one at its socket");
+    if env::var_os("ARBITER_CPUSET").is_some() {
+        assert_eq!(second("second"), Some(3), "there is one with its cpusets");
+    }
+    assert_eq!(processors_of(&id), client.cpu.to_string());
+    assert_eq!(daemon.hello(0, 0).1[0], WELCOME);
+    assert!(is_silent(&client.control), "it is a client still");
 }
 
 #[test]
@@ -670,7 +710,7 @@ fn while_the_host_takes_the_machine_there_are_no_clients() {
         !is_silent(&control)
     });
     assert!(receive(&mut control).is_none() && receive(&mut thread).is_none());
-    assert!(status(&daemon).starts_with("the host takes the machine, now 20 %: nothing is granted\nprocessor"));
+    assert!(status(&daemon).starts_with("the host has taken the machine: nothing is granted until "));
     assert!([early, daemon.connect()].iter_mut().all(|it| receive(it).is_none()), "nobody comes");
     threads.extend(told.iter().take(begun.get()));
     for thread in threads {
@@ -714,14 +754,108 @@ fn a_user_who_is_not_trusted_has_low_priorities_no_reserve_and_few_clients() {
     assert_eq!(daemon.hello(0, 1).1[0], WELCOME);
 }
 
+/// A process in a set beside the daemon's is refused. In a set above it, or in the daemon's own, it would be taken in.
+#[test]
+fn a_user_who_is_not_trusted_leaves_no_cpuset() {
+    let folder = match env::var_os("ARBITER_CPUSET") {
+        Some(folder) => PathBuf::from(folder),
+        None => return println!("skipped: there are no cpusets"),
+    };
+    let (daemon, beside) = (Daemon::at(path_of("beside"), &["--open"]), folder.with_extension("beside"));
+    fs::create_dir(&beside).unwrap();
+    for file in ["cpuset.cpus", "cpuset.mems"] {
+        fs::write(beside.join(file), fs::read(folder.join(file)).unwrap()).unwrap();
+    }
+    for (set, answer) in [(beside.as_path(), REFUSED), (folder.parent().unwrap(), WELCOME), (&*folder, WELCOME)] {
+        let mut child = other("who_says_hello", &daemon).uid(65534).stdin(Stdio::piped()).spawn().unwrap();
+        fs::write(set.join("cgroup.procs"), child.id().to_string()).unwrap();
+        child.stdin.take().unwrap().write_all(&[answer as u8]).unwrap();
+        assert!(child.wait().unwrap().success(), "{}", set.display());
+    }
+    becomes("the set is removed", || fs::remove_dir(&beside).is_ok());
+}
+
 #[test]
 #[ignore = "the test before runs it as another user"]
+fn who_says_hello() {
+    let mut answer = [0];
+    std::io::stdin().read_exact(&mut answer).unwrap();
+    assert_eq!(given().hello(5, 0).1[0], answer[0] as u32);
+}
+
+#[test]
+#[ignore = "a test above runs it as another user"]
 fn a_stranger() {
     let socket = given();
     assert_eq!(socket.hello(3, 0).1[0], REFUSED);
     assert_eq!(socket.hello(4, 1).1[0], REFUSED);
     let clients: Vec<_> = (0..20).map(|_| socket.hello(4, 0)).collect();
     assert_eq!(clients.iter().filter(|(_, answer)| answer[0] == WELCOME).count(), 16);
+}
+
+/// The address of a Unix socket: AF_UNIX, and the path.
+#[repr(C)]
+struct Address {
+    family: u16,
+    path: [u8; 108],
+}
+
+extern "C" {
+    fn socket(domain: i32, kind: i32, protocol: i32) -> i32;
+    fn connect(fd: i32, address: &Address, len: u32) -> i32;
+}
+
+/// Starts a process that connects two sockets of this process to the daemon before it runs `command`.
+fn connects(command: &mut Command, daemon: &Socket) -> (Child, [UnixStream; 2]) {
+    let mut address = Address { family: 1, path: [0; 108] };
+    let path = daemon.0.as_os_str().as_bytes();
+    address.path[..path.len()].copy_from_slice(path);
+    // SAFETY: the descriptors are new, and nobody else has them.
+    let streams = [0; 2].map(|_| unsafe { UnixStream::from_raw_fd(socket(1, 1, 0)) });
+    streams.iter().for_each(|stream| stream.set_read_timeout(Some(Duration::from_secs(60))).unwrap());
+    let fds = [streams[0].as_raw_fd(), streams[1].as_raw_fd()];
+    // SAFETY: the address lives through the call, and its length is that of the struct.
+    let connect_all = move || match fds.iter().all(|&fd| unsafe { connect(fd, &address, 110) } == 0) {
+        true => Ok(()),
+        false => Err(std::io::Error::last_os_error()),
+    };
+    // SAFETY: between the fork and the program, `connect_all` makes only calls of the system.
+    let child = unsafe { command.pre_exec(connect_all) }.spawn().unwrap();
+    (child, streams)
+}
+
+/// A stranger's process connects and ends, and a process of root's gets its number.
+#[test]
+fn who_has_the_number_of_another_user_s_process_is_not_taken_for_it() {
+    if fs::metadata("/proc/self").unwrap().uid() != 0 {
+        return println!("skipped: only root can become another user");
+    }
+    let daemon = Daemon::at(path_of("reused"), &["--open"]);
+    let (mut ended, [mut control, mut thread]) = connects(Command::new("true").uid(65534), &daemon);
+    ended.wait().unwrap();
+    let number = ended.id();
+    let again = (0..100).find_map(|_| {
+        fs::write("/proc/sys/kernel/ns_last_pid", (number - 1).to_string()).ok()?;
+        let (mut child, streams) = connects(Command::new("sleep").arg("100"), &daemon);
+        if child.id() != number {
+            child.kill().unwrap();
+            child.wait().unwrap();
+        }
+        (child.id() == number).then_some((child, streams))
+    });
+    let (mut child, [mut of_root, _stream]) = match again {
+        Some(again) => again,
+        None => return println!("skipped: no process can be given a number"),
+    };
+    send(&mut control, [HELLO, VERSION, 5, 64]);
+    assert!(is_refused(&mut control), "it would be the other process's client");
+    send(&mut of_root, [HELLO, VERSION, 5, 64]);
+    let [welcome, client, ..] = receive(&mut of_root).unwrap();
+    assert_eq!(welcome, WELCOME);
+    send(&mut thread, [JOIN, client, number, 1]);
+    assert!(is_refused(&mut thread), "it would be a thread of the other process's client");
+    child.kill().unwrap();
+    child.wait().unwrap();
 }
 
 #[repr(C)]

@@ -169,7 +169,10 @@ impl Arguments {
         let mut words = std::env::args().skip(1);
         let (cores, port) = (words.next()?.parse().ok()?, words.next()?.parse().ok()?);
         let follows = words.next().is_some();
-        let arbiter = words.next().and_then(|socket| Some((socket, words.next()?.parse().ok()?)));
+        let arbiter = match words.next() {
+            Some(socket) => Some((socket, words.next()?.parse().ok()?)),
+            None => None,
+        };
         Some(Arguments { cores, port, follows, arbiter })
     }
 

@@ -15,6 +15,9 @@ use std::os::unix::net::UnixStream;
 const CONNECTIONS: usize = 300;
 /// The most connections of one process: room for two clients of 64 workers, each with a control connection.
 const OF_A_PROCESS: usize = 130;
+/// The most connections of a user who isn't trusted, and of all such users together.
+const OF_A_USER: usize = 100;
+const OF_OTHERS: usize = 200;
 /// The daemon reads all sockets at most this many times before it decides. Each time it reads at most this many
 /// messages of each connection, and accepts at most this many new connections. So a client that sends without pause
 /// can't delay a decision.
@@ -23,10 +26,13 @@ const MESSAGES: usize = 4;
 const ACCEPTED: usize = 64;
 /// The most clients that the daemon serves at a time. The library's state numbers them from 0 to 63.
 const CLIENTS: usize = 64;
-/// The highest priority (the lowest number) for clients of users other than root and the daemon's own user. Such
-/// clients get no reserved cores, and each such user may have at most `OF_ANOTHER` clients.
+/// The highest priority (the lowest number) for clients of users who aren't trusted. Such clients get no reserved
+/// cores, and each such user may have at most `OF_ANOTHER` clients.
 const FOR_OTHERS: u32 = 4;
 const OF_ANOTHER: usize = 16;
+
+/// Whoever connected has ended, and another user's process has its number. (One of the same user is taken for it.)
+const OF_ANOTHER_USER: &str = "a process of another user";
 
 pub(super) enum Role {
     New,
@@ -38,6 +44,8 @@ pub(super) struct Connection {
     pub(super) stream: UnixStream,
     /// The process id and the user id of the process that has connected.
     peer: (u32, u32),
+    /// True if that user is root or the daemon's own user.
+    trusted: bool,
     bytes: [u8; SIZE],
     len: usize,
     pub(super) role: Role,
@@ -101,17 +109,21 @@ impl Arbiter {
 
     /// Takes in a new connection, or closes it.
     fn accept(&mut self, stream: UnixStream) {
-        let peer = match sys::peer(&stream) {
+        let peer @ (process, user) = match sys::peer(&stream) {
             Ok(peer) => peer,
             Err(_) => return,
         };
-        let alike = self.connections.values().filter(|it| it.peer.0 == peer.0).count();
-        let has_room = self.connections.len() < CONNECTIONS && alike < OF_A_PROCESS;
+        let trusted = user == 0 || user == sys::user();
+        let count = |is_one: &dyn Fn(&&Connection) -> bool| self.connections.values().filter(is_one).count();
+        let mut has_room = self.connections.len() < CONNECTIONS && count(&|it| it.peer.0 == process) < OF_A_PROCESS;
+        if !trusted {
+            has_room &= count(&|it| it.peer.1 == user) < OF_A_USER && count(&|it| !it.trusted) < OF_OTHERS;
+        }
         if self.host.takes_machine() || !has_room || stream.set_nonblocking(true).is_err() {
             return;
         }
         self.connected += 1;
-        let connection = Connection { stream, peer, bytes: [0; SIZE], len: 0, role: Role::New, gone: false };
+        let connection = Connection { stream, peer, trusted, bytes: [0; SIZE], len: 0, role: Role::New, gone: false };
         self.connections.insert(self.connected, connection);
     }
 
@@ -163,8 +175,7 @@ impl Arbiter {
     }
 
     fn greet(&mut self, name: u64, priority: u32, least: u32, most: u32) -> Result<(), &'static str> {
-        let (process, user) = self.connections[&name].peer;
-        let trusted = user == 0 || user == sys::user();
+        let Connection { peer: (process, user), trusted, .. } = self.connections[&name];
         let reserved: u32 = self.clients.values().map(|client| client.least).sum();
         if !trusted && priority < FOR_OTHERS {
             return Err("a priority that it may not have");
@@ -178,11 +189,18 @@ impl Arbiter {
         let free = |number: &usize| self.clients.values().all(|client| client.number != *number);
         let number = (0..CLIENTS).find(free).ok_or("too many clients")?;
         let failed = |_| "the system refused it";
+        let ended = sys::watch_process(process).map_err(failed)?;
+        if !threads::is_user(process, user) {
+            return Err(OF_ANOTHER_USER);
+        }
+        if !trusted && self.means.frees(process) {
+            return Err("a process of another cpuset");
+        }
         let client = Client {
             number,
             process,
             user,
-            ended: sys::watch_process(process).map_err(failed)?,
+            ended,
             control: name,
             page: sys::Page::new().map_err(failed)?,
             priority,
@@ -214,11 +232,14 @@ impl Arbiter {
     }
 
     fn join(&mut self, name: u64, id: u32, thread: u32, place: u32, floats: bool) -> Result<(), &'static str> {
-        let process = self.connections[&name].peer.0;
+        let (process, user) = self.connections[&name].peer;
         let client = self.clients.get(&id).filter(|client| client.process == process).ok_or("no client of it")?;
         let number = client.number;
         let thread = threads::thread_of(process, thread).ok_or("a thread that isn't one of it")?;
         let began = threads::began(process, thread).ok_or("a thread that has ended")?;
+        if !threads::is_user(process, user) {
+            return Err(OF_ANOTHER_USER);
+        }
         if self.clients.values().any(|client| client.threads.values().any(|it| it.id == thread)) {
             return Err("a thread that is known");
         }

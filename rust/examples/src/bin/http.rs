@@ -41,7 +41,7 @@ async fn connection(stream: TcpStream) -> io::Result<()> {
 }
 
 fn main() -> io::Result<()> {
-    let arguments = Arguments::read().expect("http CORES PORT");
+    let arguments = Arguments::read().expect("http CORES PORT [policy [SOCKET PRIORITY]]");
     let runtime = arguments.runtime()?;
     let listener = TcpListener::bind(("127.0.0.1", arguments.port))?;
     runtime.spawn(async move {

@@ -92,7 +92,7 @@ fn show_cores(runtime: &arachne::Runtime, start: Instant) {
 }
 
 fn main() -> io::Result<()> {
-    let arguments = Arguments::read().expect("redis CORES PORT [policy]");
+    let arguments = Arguments::read().expect("redis CORES PORT [policy [SOCKET PRIORITY]]");
     let runtime = arguments.runtime()?;
     let listener = TcpListener::bind(("127.0.0.1", arguments.port))?;
     runtime.spawn(accept(listener, Arc::new(Store::default())));
