@@ -277,7 +277,7 @@ fn users_who_are_not_trusted_leave_connections_for_others() {
     }
     let daemon = Daemon::at(path_of("users"), &["--open"]);
     let often = |user, left| connects_often(other("who_connects_often", &daemon).uid(user), left);
-    let others = [(65533, 100), (65534, 100)].map(|(user, left)| often(user, left));
+    let others = [(65533, 100), (65534, 50)].map(|(user, left)| often(user, left));
     assert_eq!(daemon.hello(0, 1).1[0], WELCOME);
     others.into_iter().for_each(ends);
 }

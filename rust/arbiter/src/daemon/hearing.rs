@@ -17,7 +17,7 @@ const CONNECTIONS: usize = 300;
 const OF_A_PROCESS: usize = 130;
 /// The most connections of a user who isn't trusted, and of all such users together.
 const OF_A_USER: usize = 100;
-const OF_OTHERS: usize = 200;
+const OF_OTHERS: usize = CONNECTIONS / 2;
 /// The daemon reads all sockets at most this many times before it decides. Each time it reads at most this many
 /// messages of each connection, and accepts at most this many new connections. So a client that sends without pause
 /// can't delay a decision.
