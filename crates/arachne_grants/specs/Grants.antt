@@ -58,8 +58,8 @@ IsInOrder clients targets =
     → target_at targets other ≡ before + 1
     → goes_before (claim_at clients targets place) (claim_of (client_at clients other) before) ≡ false
 
--- of equal claims the client's went first that came first: whoever asks for more had a later claim than the one by
--- which another that came after it got its last core
+-- of equal claims that of the client with the lower index went first: whoever asks for more had a later claim than the
+-- one by which another with a higher index got its last core
 abbrev pub IsInTurn : List Client → List ℕ → Type 0
 IsInTurn clients targets =
     (place other before : ℕ) → AsksForMore clients targets place → place < other → other < length clients

@@ -224,8 +224,10 @@ impl CoreArbiter {
         targets(&clients, u32::from(self.cores), &mut self.allowed);
     }
 
-    /// Gives a free core to a thread that can take one. The thread's client must have fewer cores than it is allowed to
-    /// have; clients of higher priority go first.
+    /// Gives a free core to a thread that waits for one, of the first client with fewer cores than it is allowed to
+    /// have; clients of higher priority come first.
+    ///
+    /// Returns `None` if there is no such client, if that client has no thread that waits, or if no core is free.
     pub fn give(&mut self) -> Option<Grant>
         ensures gives { MatchOption result (self.new.sessions ≡ self.old.sessions)
             (λ grant. IsGrant self.old.sessions self.new.sessions self.old.allowed self.old.cores grant) }
