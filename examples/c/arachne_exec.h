@@ -321,8 +321,8 @@ typedef struct {
 } arachne_locks;
 #define ARACHNE_LOCKS_NULL {0}
 
-/* The result of a call on a lock. Each lock numbers its events (grants, asks, frees and leaves) from 0, modulo
- * 2^64. */
+/* The result of a call on a lock. Each lock numbers its events (asks, grants, frees and withdrawals) from 0,
+ * modulo 2^64. */
 typedef struct {
     /* The number of the event that this call caused, or of an earlier grant if a check or a withdrawal found
      * that `who` holds the lock. */

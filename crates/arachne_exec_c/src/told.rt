@@ -8,7 +8,8 @@ use crate::codes::{
 };
 use arachne_lock::{Admitted, AskRefusal, Attempt, NotOwner, Released, Withdrawn};
 
-/// The result of a call on a lock. Each lock numbers its events (grants, asks, frees and leaves) from 0, modulo 2^64.
+/// The result of a call on a lock. Each lock numbers its events (asks, grants, frees and withdrawals) from 0, modulo
+/// 2^64.
 #[repr(C)]
 #[derive(Clone, Copy)]
 pub struct ArachneLockTold {

@@ -3,8 +3,8 @@ use crate::guarded_lock::GuardedLock;
 use crate::view::KnownLocks;
 use atomic_table::{Join, Play, Split, TableRule};
 
-/// The invariant of the locks' table: each lock has one history (its asks, grants, frees and leaves). The table's
-/// constant key is the number of locks.
+/// The invariant of the table that a set of locks consists of: all calls on a lock form one history (its asks, grants,
+/// frees and leaves), which exists only in proofs. The table's constant key is the number of locks.
 pub struct LockRule;
 
 impl TableRule<GuardedLock, KnownLocks, usize> for LockRule {

@@ -126,8 +126,9 @@ impl<'p> Thread<'p> {
         self.state.own.label.ran = Ran::Spill;
     }
 
-    /// Returns the request at which this thread, or a child that runs inside its slot, has paused. Returns `None` if
-    /// that thread can make a step.
+    /// Returns the request at which this thread, or the innermost child that runs inside its slot, has paused.
+    ///
+    /// Returns `None` if neither has paused, so that the next step can be made.
     pub fn pending(&self) -> Option<Pending>
         ensures pending { result ≡ pending_in self.now }
         ensures next { IsNext self.now.running.pending self.now.running.trace }

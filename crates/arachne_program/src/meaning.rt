@@ -17,6 +17,6 @@ pub struct Meaning {
     pub value: u64,
     /// For each ledger (a shared sum), the total that was added to it, modulo 2^64.
     pub totals: Sequence<u64>,
-    /// One line for each of the program's threads, the root's first.
+    /// A line (a thread's name and holds) for each of the program's threads, that of the root thread first.
     pub threads: Sequence<Line>,
 }

@@ -57,7 +57,8 @@ pub(crate) struct Access<'a> {
 }
 
 impl Served {
-    /// Returns whether the thread holds a lock after this result; `had` says whether it held one before.
+    /// Returns whether the program's thread, which made the call, holds a lock after this result of the call. `had`
+    /// says whether it held one before.
     #[inline(always)]
     fn has_lock(&self, had: bool) -> bool
         ensures { result ≡ has_lock_by self.now had }

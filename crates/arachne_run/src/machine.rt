@@ -59,8 +59,11 @@ pub(crate) struct Tokens<S, K> {
 }
 
 impl<C: Seats, K: Tagged + Drop> Machine<C, K> {
-    /// Returns whether a worker keeps the slot that a thread leaves, for a later child. It does if workers of this run
-    /// may keep slots, and the core was full before (`before` is the core's occupancy word at that time).
+    /// Returns whether a worker keeps the slot that a thread leaves, for a later child.
+    ///
+    /// It does if workers of this run may keep slots, and all slots of the core were occupied when the thread left,
+    /// with the core neither closed nor taken by an exclusive thread. `before` is the core's occupancy word at that
+    /// time: a bit for each occupied slot.
     #[inline(always)]
     pub(crate) fn keeps_place(&self, before: OccWord) -> bool
         ensures { IsTrue result ↔ (self.now.may_keep ≡ true) × (self.now.slots ≤ count_of before.occupied)

@@ -21,8 +21,8 @@ impl<T: Tagged + Drop> WordContexts<T> {
     /// Creates a table, and its first seat (a kernel thread's right to call it), which has the whole weight.
     ///
     /// The table has `cores` cores of `slots` thread slots each. All its contexts (the records of user threads) are
-    /// free, in generation `first_generation`. A split halves a seat's weight and a join adds two, so a seat with the
-    /// whole weight is the only one.
+    /// free, in generation `first_generation`. A split halves a seat's weight, and a join adds two seats'
+    /// weights, so a seat with the whole weight is the only one.
     pub fn new(
         alloc: Global,
         cores: u8,

@@ -140,8 +140,8 @@ impl ArachneLocks {
     pub const NULL: ArachneLocks = ArachneLocks { opaque: std::ptr::null_mut() };
 }
 
-/// The result of a call on a lock. Each lock numbers its events (grants, asks, frees and leaves) from 0, modulo
-/// 2^64.
+/// The result of a call on a lock. Each lock numbers its events (asks, grants, frees and withdrawals) from 0,
+/// modulo 2^64.
 #[repr(C)]
 #[derive(Clone, Copy, Debug, PartialEq, Eq)]
 pub struct ArachneLockTold {

@@ -1,4 +1,5 @@
-//! Runs programs on machines of many sizes, and checks their logs against the rules of a run.
+//! Runs programs on machines of many sizes, and checks each run's log of events against the rules that every run must
+//! keep.
 ghost use Rattle.arachne_lang.specs.Checked.{IsChecked};
 ghost use Rattle.arachne_lang.specs.Program.{source_of};
 

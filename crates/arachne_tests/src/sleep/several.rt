@@ -1,4 +1,4 @@
-//! Tests of a set of several locks: each call once, and the order of the locks' histories.
+//! Tests of a set of several locks: each call once, and that closing the set returns the locks' histories in order.
 ghost use Rattle.std.specs.Prelude.{◌<◌, length};
 ghost use Rattle.arachne_sleep.specs.SleepLocks.{AreSeatsOf};
 
