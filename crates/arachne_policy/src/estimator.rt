@@ -38,9 +38,9 @@ impl Model for Estimator {
 impl Estimator {
     /// Creates an estimator that has judged no sample yet.
     ///
-    /// It advises to add a core, up to `max` cores, if a scan (a worker's search of its core for a
-    /// runnable thread) sees more than `up` / 1000 runnable threads on average. It advises to remove a core if the utilisation is below the threshold for the present number
-    /// of cores by more than `hysteresis` thousandths of a core.
+    /// It advises to add a core, up to `max` cores, if a scan (a worker's search of its core for a runnable thread)
+    /// sees more than `up` / 1000 runnable threads on average. It advises to remove a core if the utilisation is below
+    /// the threshold for the present number of cores by more than `hysteresis` thousandths of a core.
     pub fn new(up: u64, hysteresis: u64, max: u8) -> Self
         requires { max ≤ most_cores }
         ensures settings { result.settings ≡ record { up = up; hysteresis = hysteresis; max = max } }

@@ -74,8 +74,9 @@ const HELD: &[Row] = &[Row {
 /// Tests that a worker stops yielding after a yield that was of no use.
 ///
 /// After such a yield, a worker doesn't yield in its next 4,096 rounds (passes of its loop) that find something to do,
-/// and a run of a thousand holds of a lock has fewer such rounds. So each worker (of two runs with four
-/// workers each) yields at most once in a run, and reads the clock twice for that yield. The clock can be read at each attempt, at none, or at every other one.
+/// and a run of a thousand holds of a lock has fewer such rounds. So each worker (of two runs with four workers each)
+/// yields at most once in a run, and reads the clock twice for that yield. The clock can be read at each attempt, at
+/// none, or at every other one.
 #[test]
 fn who_yields_in_vain_yields_no_more(rt: HostRuntime) -> Result<(), Fail> {
     for fails in 0..3 {
