@@ -1,5 +1,9 @@
-//! Safe Rust over the static library `arachne_exec_c`: an executor, locks, ledgers and the core policy. Its
-//! declarations, `arachne_exec/declared.rs`, are made from the library's source by `scripts/declarations`.
+//! Safe Rust over the static library `arachne_exec_c`: an executor, locks, ledgers and the core policy.
+//!
+//! The executor has *shards* of 64 *blocks* of 64 *slots*, and each job lies in a slot. A *seat* is one thread's right
+//! to call the executor or the locks. A *ledger* is a counter to which threads add, and a *share* of it one thread's
+//! right to add. The declarations, `arachne_exec/declared.rs`, are made from the library's source by
+//! `scripts/declarations`.
 #![allow(dead_code)]
 
 mod declared;
@@ -8,31 +12,31 @@ use declared as c;
 pub use declared::ArachneSample as Sample;
 use std::sync::atomic::{AtomicU64, Ordering::Relaxed};
 
-// SAFETY, of all calls below: the declarations are made from the library's source; each pointer is of a value that is
-// lent for the call; a handle begins as null, nothing but the library writes it, and `&mut` lets one thread at a time
-// use it.
+// SAFETY, of all calls below: the declarations are made from the library's source; each pointer points to a value that
+// is borrowed for the call; a handle begins as null, only the library writes it, and `&mut` lets only one thread at a
+// time use it.
 
-/// A number that no other call got: handles are joined with those of one origin alone.
+/// Returns a number that no other call has returned. Only handles with the same number may be joined.
 fn new_family() -> u64 {
     static FAMILIES: AtomicU64 = AtomicU64::new(0);
     FAMILIES.fetch_add(1, Relaxed)
 }
 
-// SAFETY: the library's proof has that a handle may go to another thread.
+// SAFETY: the library is proved for handles that move to another thread.
 unsafe impl Send for c::ArachneExec {}
 unsafe impl Send for c::ArachneLocks {}
 unsafe impl Send for c::ArachneAdder {}
 
 // ---- the executor
 
-/// A job in hand: its name, by which it is woken, and the number that it was spawned with.
+/// A job that a seat holds: its name, by which it is woken, and the number that it was spawned with.
 #[derive(Clone, Copy, PartialEq, Eq, Debug)]
 pub struct Job {
     pub name: u64,
     pub number: u64,
 }
 
-/// What became of a job that was to be spawned, or to be woken.
+/// The result of a spawn. If a spawn is `Lost`, another call changed the slot meanwhile: try again.
 #[derive(Clone, Copy, PartialEq, Eq, Debug)]
 pub enum Spawned {
     Ready { name: u64, unpark: Option<u32> },
@@ -56,49 +60,55 @@ pub enum Woken {
     Lost,
 }
 
-/// A seat at an executor, with at most one job in hand. Dropped, its part of the executor is lost.
+/// A seat at an executor. If it is dropped, the executor can't be ended any more.
 pub struct Exec {
     handle: c::ArachneExec,
     family: u64,
     shards: usize,
 }
 
-/// Whose thread has to be unparked.
+/// Returns the worker whose thread must be unparked, if there is one.
 fn whom(told: &c::ArachneExecTold) -> Option<u32> {
     (told.unpark != c::NOBODY).then_some(told.unpark)
 }
 
 impl Exec {
-    /// An executor of so many shards of 4,096 places. None where there is no memory, or more than 256 are asked for.
+    /// Creates an executor of `shards` shards. Returns `None` if memory is refused, or if `shards` is over 256.
     pub fn new(shards: usize) -> Option<Exec> {
         let mut exec = Exec { handle: c::ArachneExec::NULL, family: new_family(), shards };
         (unsafe { c::arachne_exec_new(&mut exec.handle, shards) } == c::DONE).then_some(exec)
     }
 
-    /// A second seat, as for another thread. None where there is no memory.
+    /// Splits off a seat for another thread. Returns `None` if memory is refused.
     pub fn split(&mut self) -> Option<Exec> {
         let mut other = Exec { handle: c::ArachneExec::NULL, family: self.family, shards: self.shards };
         (unsafe { c::arachne_exec_split(&mut self.handle, &mut other.handle) } == c::DONE).then_some(other)
     }
 
-    /// Joins another seat of the same executor, which has no job in hand and is no worker. Else it comes back.
+    /// Joins another seat with this one.
+    ///
+    /// Returns `other` if it is of another executor, holds a job or is a worker.
     pub fn join(&mut self, mut other: Exec) -> Result<(), Exec> {
-        if other.family == self.family && unsafe { c::arachne_exec_join(&mut self.handle, &mut other.handle) } == c::DONE {
-            return Ok(());
+        if other.family != self.family {
+            return Err(other);
         }
-        Err(other)
+        let code = unsafe { c::arachne_exec_join(&mut self.handle, &mut other.handle) };
+        (code == c::DONE).then_some(()).ok_or(other)
     }
 
-    /// From now on the seat is this worker. False where another seat is, or it is one already.
+    /// Makes this seat the worker `worker`, whose jobs are those of the shards `worker`, `worker` + 64 and so on.
+    ///
+    /// Returns false if another seat is that worker, or if this seat is a worker already.
     pub fn register(&mut self, worker: u32) -> bool {
         unsafe { c::arachne_exec_register(&mut self.handle, worker) == c::DONE }
     }
 
+    /// Ends the seat's work as a worker. Returns false if it is none, or if it holds a job.
     pub fn leave(&mut self) -> bool {
         unsafe { c::arachne_exec_leave(&mut self.handle) == c::DONE }
     }
 
-    /// Puts a job at a place of a block. None where there is no such block.
+    /// Puts a job into a free slot of a block, ready to run. Returns `None` if there is no such block.
     pub fn spawn(&mut self, block: usize, number: u64) -> Option<Spawned> {
         let told = unsafe { c::arachne_exec_spawn(&mut self.handle, block, number) };
         match told.code {
@@ -109,20 +119,21 @@ impl Exec {
         }
     }
 
-    /// Puts a job at a place of a block and into the hand. None where a place has to be tried again, none is free,
-    /// there
-    /// is no such block, or a job is in hand.
+    /// Puts a job into a free slot of a block, and has this seat hold it.
+    ///
+    /// Returns `None` if another call changed the slot meanwhile, no slot is free, there is no such block, or the seat
+    /// holds a job.
     pub fn spawn_here(&mut self, block: usize, number: u64) -> Option<Job> {
         let told = unsafe { c::arachne_exec_spawn_here(&mut self.handle, block, number) };
         (told.code == c::RUN).then_some(Job { name: told.name, number: told.job })
     }
 
-    /// The blocks of a shard that may have ready jobs, a bit for each.
+    /// Returns the blocks of a shard that may have ready jobs, a bit for each.
     pub fn shown(&mut self, shard: usize) -> u64 {
         unsafe { c::arachne_exec_shown(&mut self.handle, shard) }
     }
 
-    /// The places of a block that have a ready job, a bit for each.
+    /// Returns the slots of a block that have a ready job, a bit for each.
     pub fn ready(&mut self, block: usize) -> u64 {
         unsafe { c::arachne_exec_ready(&mut self.handle, block) }
     }
@@ -161,7 +172,9 @@ impl Exec {
         Ok(left)
     }
 
-    /// The next job of the seat's worker. None where it is no worker, or a job is in hand.
+    /// Returns the next job of the seat's worker, or says that there is none.
+    ///
+    /// Returns `None` if the seat is no worker, or if it holds a job.
     pub fn next(&mut self) -> Option<Next> {
         let told = unsafe { c::arachne_exec_next(&mut self.handle) };
         match told.code {
@@ -172,18 +185,20 @@ impl Exec {
         }
     }
 
-    /// The job in hand waits for a wake, or is ready again where it was woken meanwhile: whose thread is to be unparked
-    /// then. None where no job is in hand.
+    /// Has the job that this seat holds wait for a wake, or be ready again if it was woken meanwhile.
+    ///
+    /// Returns the number of the worker to unpark, if there is one, or `None` if the seat holds no job.
     pub fn rest_blocked(&mut self) -> Option<Option<u32>> {
         let told = unsafe { c::arachne_exec_rest_blocked(&mut self.handle) };
         (told.code != c::REFUSED).then(|| whom(&told))
     }
 
-    /// The job in hand has ended. False where there is none.
+    /// Ends the job that this seat holds. Returns false if it holds none.
     pub fn finish(&mut self) -> bool {
         unsafe { c::arachne_exec_finish(&mut self.handle) == c::DONE }
     }
 
+    /// Wakes the job with this name. If the result is `Lost`, another call changed the job's slot meanwhile: try again.
     pub fn wake(&mut self, name: u64) -> Woken {
         let told = unsafe { c::arachne_exec_wake(&mut self.handle, name) };
         match told.code {
@@ -204,7 +219,7 @@ impl Drop for Exec {
 
 // ---- locks
 
-/// What a lock answers. Each has the number of the event.
+/// The answer of a lock, with the number of the event in the lock's history.
 #[derive(Clone, Copy, PartialEq, Eq, Debug)]
 pub enum LockTold {
     Contended,
@@ -213,7 +228,7 @@ pub enum LockTold {
     Queued(u64),
     AlreadyIn,
     Freed(u64),
-    /// The lock was handed on to this one, who has to be woken.
+    /// The lock was handed on: the number of the event, and the next holder, which must be woken.
     HandedOn(u64, u64),
     NotHolder,
     Left(u64),
@@ -225,7 +240,7 @@ pub struct Locks {
     family: u64,
 }
 
-/// What C was told. None where it was refused: there is no such lock.
+/// Returns the answer that the C function has returned, or `None` if there is no such lock.
 fn lock_told(told: c::ArachneLockTold) -> Option<LockTold> {
     match told.code {
         c::CONTENDED => Some(LockTold::Contended),
@@ -242,19 +257,19 @@ fn lock_told(told: c::ArachneLockTold) -> Option<LockTold> {
 }
 
 impl Locks {
-    /// So many locks. None where there is no memory.
+    /// Creates `count` locks. Returns `None` if memory is refused.
     pub fn new(count: usize) -> Option<Locks> {
         let mut locks = Locks { handle: c::ArachneLocks::NULL, family: new_family() };
         (unsafe { c::arachne_locks_new(&mut locks.handle, count) } == c::DONE).then_some(locks)
     }
 
-    /// A second seat, as for another thread. None where there is no memory.
+    /// Splits off a seat for another thread. Returns `None` if memory is refused.
     pub fn split(&mut self) -> Option<Locks> {
         let mut other = Locks { handle: c::ArachneLocks::NULL, family: self.family };
         (unsafe { c::arachne_locks_split(&mut self.handle, &mut other.handle) } == c::DONE).then_some(other)
     }
 
-    /// Joins another seat of the same locks. One of other locks comes back.
+    /// Joins another seat of the same locks with this one. Returns `other` if it is of other locks.
     pub fn join(&mut self, mut other: Locks) -> Result<(), Locks> {
         if other.family != self.family {
             return Err(other);
@@ -263,22 +278,23 @@ impl Locks {
         Ok(())
     }
 
-    /// Granted, Queued, AlreadyIn, NoMemory or Contended.
+    /// Asks for a lock. The answer is `Granted`, `Queued`, `AlreadyIn`, `NoMemory` or `Contended`.
     pub fn ask(&mut self, lock: usize, who: u64) -> Option<LockTold> {
         lock_told(unsafe { c::arachne_lock_ask(&mut self.handle, lock, who) })
     }
 
-    /// Freed, HandedOn, NotHolder or Contended.
+    /// Frees a lock. The answer is `Freed`, `HandedOn`, `NotHolder` or `Contended`.
     pub fn free(&mut self, lock: usize, who: u64) -> Option<LockTold> {
         lock_told(unsafe { c::arachne_lock_free(&mut self.handle, lock, who) })
     }
 
-    /// Left; Granted, where it holds the lock meanwhile; NotHolder; or Contended.
+    /// Withdraws an ask that waits. The answer is `Left`, `Granted` if `who` holds the lock by now, `NotHolder` or
+    /// `Contended`.
     pub fn withdraw(&mut self, lock: usize, who: u64) -> Option<LockTold> {
         lock_told(unsafe { c::arachne_lock_withdraw(&mut self.handle, lock, who) })
     }
 
-    /// Granted, NotHolder or Contended.
+    /// Returns `Granted` if `who` holds the lock, else `NotHolder` or `Contended`.
     pub fn check(&mut self, lock: usize, who: u64) -> Option<LockTold> {
         lock_told(unsafe { c::arachne_lock_check(&mut self.handle, lock, who) })
     }
@@ -292,37 +308,37 @@ impl Drop for Locks {
 
 // ---- ledgers
 
-/// A share of some ledgers. Dropped, it is lost, so that no total can be told any more.
+/// A share of some ledgers. If it is dropped, no total can be read any more.
 pub struct Adder {
     handle: c::ArachneAdder,
     family: u64,
 }
 
 impl Adder {
-    /// So many ledgers, each 0, and their whole share. None where there is no memory.
+    /// Creates `count` ledgers, each 0. Returns `None` if memory is refused.
     pub fn new(count: usize) -> Option<Adder> {
         let mut adder = Adder { handle: c::ArachneAdder::NULL, family: new_family() };
         (unsafe { c::arachne_ledgers_new(&mut adder.handle, count) } == c::DONE).then_some(adder)
     }
 
-    /// Adds to a ledger. False where there is no such ledger.
+    /// Adds `amount` to a ledger, modulo 2^64. Returns false if there is no such ledger.
     pub fn add(&mut self, ledger: usize, amount: u64) -> bool {
         unsafe { c::arachne_ledger_add(&mut self.handle, ledger, amount) }
     }
 
-    /// The sum of all that was added, modulo 2^64, where all other shares are back.
+    /// Returns the sum of all that was added to a ledger, modulo 2^64, or `None` if another share wasn't joined.
     pub fn total(&mut self, ledger: usize) -> Option<u64> {
         let mut total = 0;
         unsafe { c::arachne_ledger_total(&mut self.handle, ledger, &mut total) }.then_some(total)
     }
 
-    /// A second share, as for another thread. None where there is no memory.
+    /// Splits off a share for another thread. Returns `None` if memory is refused.
     pub fn split(&mut self) -> Option<Adder> {
         let mut other = Adder { handle: c::ArachneAdder::NULL, family: self.family };
         (unsafe { c::arachne_ledger_split(&mut self.handle, &mut other.handle) } == c::DONE).then_some(other)
     }
 
-    /// Joins another share of the same ledgers. One of other ledgers comes back.
+    /// Joins another share of the same ledgers with this one. Returns `other` if it is of other ledgers.
     pub fn join(&mut self, mut other: Adder) -> Result<(), Adder> {
         if other.family != self.family {
             return Err(other);
@@ -340,7 +356,7 @@ impl Drop for Adder {
 
 // ---- the core policy
 
-/// What to do about the number of cores.
+/// The advice on the number of cores.
 #[derive(Clone, Copy, PartialEq, Eq, Debug)]
 pub enum Advice {
     Stay,
@@ -348,18 +364,20 @@ pub enum Advice {
     Remove,
 }
 
-/// Judges samples one after another.
+/// Judges samples of the load one after another.
 #[derive(Clone)]
 pub struct Estimator(c::ArachneEstimator);
 
 impl Estimator {
-    /// None where `max` is over 64.
+    /// Creates an estimator. Returns `None` if `max` is over 64.
     pub fn new(up: u64, hysteresis: u64, max: u64) -> Option<Estimator> {
         let mut estimator = c::ArachneEstimator { up: 0, hysteresis: 0, max: 0, thresholds: [0; 64] };
         unsafe { c::arachne_estimator_new(up, hysteresis, max, &mut estimator) }.then_some(Estimator(estimator))
     }
 
-    /// The advice on a sample after those before it. None, with nothing changed, where it can't have been measured.
+    /// Returns the advice on a sample after those before it.
+    ///
+    /// Returns `None`, and changes nothing, if the sample can't have been measured.
     pub fn judge(&mut self, sample: Sample) -> Option<Advice> {
         match unsafe { c::arachne_estimator_judge(&mut self.0, &sample) } {
             c::STAY => Some(Advice::Stay),

@@ -1,6 +1,7 @@
-//! THREADS kernel threads, each a worker of one executor, run the jobs 1 to JOBS, an even number: exec THREADS JOBS.
-//! An odd job waits until the next one has released it, as a future waits for another. Prints how many jobs ended,
-//! and the sum of their numbers.
+//! Runs jobs on kernel threads, each a worker of one executor: `exec THREADS JOBS`.
+//!
+//! The jobs are numbered from 1 to JOBS, an even number. An odd job waits until the next one has released it, as a
+//! future waits for another. Prints the number of jobs that ended, and the sum of their numbers.
 mod arachne_exec;
 
 use arachne_exec::{Exec, Next, Spawned, Woken};
@@ -11,7 +12,7 @@ use std::sync::{Condvar, Mutex};
 use std::time::Duration;
 use std::{env, hint, thread};
 
-/// Where a worker sleeps. An unpark before the sleep isn't lost.
+/// A place for a worker to sleep. An unpark before the sleep isn't lost.
 #[derive(Default)]
 struct Sleeper {
     unparked: Mutex<bool>,
@@ -33,7 +34,7 @@ impl Sleeper {
     }
 }
 
-/// What a job's future would have: its name, by which it is woken, and whether it has been released.
+/// The part of a job's future that this example needs: the name by which the job is woken, and if it is released.
 #[derive(Default)]
 struct Future {
     name: AtomicU64,
@@ -68,8 +69,9 @@ impl Host {
         }
     }
 
-    /// Runs the job in hand: an even one releases the one before it, and an odd one waits until it is released.
-    /// Whether it has ended.
+    /// Runs the job `job`, which `exec` holds. Returns if the job has ended.
+    ///
+    /// An even job releases the job before it, and an odd one waits until it is released.
     fn poll(&self, exec: &mut Exec, job: usize) -> Option<bool> {
         if job % 2 == 1 && !self.futures[job].is_released.load(SeqCst) {
             self.unpark(exec.rest_blocked()?);
@@ -83,7 +85,7 @@ impl Host {
         exec.finish().then_some(true)
     }
 
-    /// Runs jobs until all have ended. The seat, and the sum of those that ended here.
+    /// Runs jobs until all have ended. Returns the seat, and the sum of the numbers of the jobs that ended here.
     fn work(&self, mut exec: Exec, worker: u32) -> Option<(Exec, u64)> {
         let (mut sum, mut tries) = (0, 0);
         if !exec.register(worker) {
@@ -107,7 +109,7 @@ impl Host {
         exec.leave().then_some((exec, sum))
     }
 
-    /// Spawns each job in a block of one of the workers, once there is a place for it.
+    /// Spawns all jobs, in turn in the blocks of each worker. Tries again while a block has no free slot.
     fn spawn_all(&self, exec: &mut Exec) -> Option<()> {
         let threads = self.sleepers.len();
         for job in 1..=self.jobs {
@@ -127,7 +129,7 @@ impl Host {
     }
 }
 
-/// Nothing has come of so many tries in turn: after each 64th a short sleep.
+/// Waits after the failed try number `tries`: a short sleep after each 64th, else a moment.
 fn stand_by(tries: u64) {
     if tries % 64 == 0 {
         thread::sleep(Duration::from_micros(50));
@@ -136,13 +138,15 @@ fn stand_by(tries: u64) {
     }
 }
 
-/// Takes both jobs of block 1 at once, and makes each ready again, the one with the lower place first.
+/// Takes both jobs of block 1 at once, and makes each ready again, the one in the lower slot first.
 fn takes_both(exec: &mut Exec) -> bool {
-    let is_next = |exec: &mut Exec, number| exec.start().is_some_and(|job| job.number == number) && exec.rest_ready().is_some();
+    let is_next = |exec: &mut Exec, number| {
+        exec.start().is_some_and(|job| job.number == number) && exec.rest_ready().is_some()
+    };
     exec.take_many(1, 64) == 3 && is_next(exec, 8) && is_next(exec, 9) && exec.start().is_none()
 }
 
-/// Spawns three jobs more, one into the hand, which waits then, and two that stay ready: the end hands all back.
+/// Spawns three more jobs, of which one waits and two stay ready, and checks that `end` returns all three.
 fn hands_back(mut exec: Exec) -> Option<()> {
     exec.spawn_here(0, 7)?;
     exec.rest_blocked()?;

@@ -1,12 +1,13 @@
-//! THREADS threads add the numbers up to COUNT to two ledgers: ledger THREADS COUNT. Prints both totals. Thread k adds
-//! k+1, k+1+THREADS and so on, each number to ledger 0 and 1 to ledger 1.
+//! Adds the numbers up to COUNT to two ledgers on several threads, and prints both totals: `ledger THREADS COUNT`.
+//!
+//! Thread k adds k+1, k+1+THREADS and so on: each number to ledger 0, and 1 to ledger 1.
 mod arachne_exec;
 
 use arachne_exec::Adder;
 use std::process::ExitCode;
 use std::{env, thread};
 
-/// Adds each of a thread's numbers, and gives the share back.
+/// Adds each of a thread's numbers, and returns the share.
 fn add_all(mut adder: Adder, numbers: impl Iterator<Item = u64>) -> Option<Adder> {
     for number in numbers {
         if !adder.add(0, number) || !adder.add(1, 1) {

@@ -1,7 +1,9 @@
-//! THREADS kernel threads take turns at one lock: lock THREADS ROUNDS. Each asks ROUNDS times, waits where it is
-//! queued until the lock is handed on to it, counts while it holds it, and frees it. Each eighth time it doesn't
-//! wait, and withdraws, as where a future is dropped. Prints how many turns there were, held or withdrawn. The status
-//! is 1 where the count is not that of the holds.
+//! Kernel threads take turns at one lock: `lock THREADS ROUNDS`.
+//!
+//! Each thread asks ROUNDS times. If it is queued, it waits until the lock is handed on to it. It raises a counter
+//! while it holds the lock, and then frees the lock. Each eighth time it doesn't wait but withdraws, as if a future
+//! were dropped. Prints the number of turns, held or withdrawn. The status is 1 if the counter isn't the number of
+//! turns that held the lock.
 mod arachne_exec;
 
 use arachne_exec::{LockTold, Locks};
@@ -11,7 +13,7 @@ use std::sync::{Arc, Condvar, Mutex};
 use std::time::Duration;
 use std::{env, hint, thread};
 
-/// How often the lock was handed on to a thread and it hasn't seen that yet.
+/// The number of times that the lock was handed on to a thread and the thread hasn't seen it yet.
 #[derive(Default)]
 struct Turn {
     come: Mutex<u64>,
@@ -34,13 +36,15 @@ impl Turn {
 }
 
 struct Shared {
-    /// The count, which only the holder changes, by a load and a store.
+    /// The counter, which only the holder of the lock changes, by a load and a store.
     counted: AtomicU64,
     turns: Vec<Turn>,
 }
 
-/// Nothing has come of so many tries in turn: after each 64th a short sleep. A yield would give a whole turn of the
-/// processor away where others have work, and more tries would take it from who is waited for.
+/// Waits after the failed try number `tries`: a short sleep after each 64th, else a moment.
+///
+/// A yield would give away a whole turn of the processor if others have work, and more tries would keep the processor
+/// from the thread that has to go on.
 fn stand_by(tries: u64) {
     if tries % 64 == 0 {
         thread::sleep(Duration::from_micros(50));
@@ -62,7 +66,7 @@ fn until(mut call: impl FnMut() -> Option<LockTold>) -> Option<LockTold> {
     }
 }
 
-/// Asks, and waits or withdraws. Granted, or Left.
+/// Asks for the lock, and waits or withdraws. Returns `Granted` or `Left`.
 fn enter(locks: &mut Locks, who: u64, round: u64, shared: &Shared) -> Option<LockTold> {
     match until(|| locks.ask(0, who))? {
         LockTold::Queued(_) => {}
@@ -77,7 +81,7 @@ fn enter(locks: &mut Locks, who: u64, round: u64, shared: &Shared) -> Option<Loc
     until(|| locks.check(0, who))
 }
 
-/// Takes a thread's turns. The seat, and how often it held the lock and withdrew.
+/// Takes a thread's turns. Returns the seat, the number of turns that held the lock, and of those that withdrew.
 fn take_turns(mut locks: Locks, who: u64, rounds: u64, shared: &Shared) -> Option<(Locks, u64, u64)> {
     let (mut held, mut left) = (0, 0);
     for round in 0..rounds {
@@ -99,7 +103,7 @@ fn take_turns(mut locks: Locks, who: u64, rounds: u64, shared: &Shared) -> Optio
     Some((locks, held, left))
 }
 
-/// How many turns there were. None where the count is not that of the holds.
+/// Returns the number of turns, or `None` if the counter isn't the number of turns that held the lock.
 fn run(threads: u64, rounds: u64) -> Option<u64> {
     let turns = (0..threads).map(|_| Turn::default()).collect();
     let shared = Arc::new(Shared { counted: AtomicU64::new(0), turns });

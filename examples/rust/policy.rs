@@ -1,12 +1,13 @@
-//! Judges the samples on its input by the proved policy, one a line, and prints what `arachne policy` prints of them;
-//! that prints no advice where a later sample is bad.
+//! Judges the samples on its input, one a line, by the proved policy, and prints the advice on each.
+//!
+//! `arachne policy` prints the same, but no advice at all if a sample is bad.
 mod arachne_exec;
 
 use arachne_exec::{Advice, Estimator, Sample};
 use std::io;
 use std::process::ExitCode;
 
-/// The five numbers of a line.
+/// Returns the sample of a line, which has five numbers.
 fn sample(line: &str) -> Option<Sample> {
     let numbers: Vec<u64> = line.split(' ').map_while(|word| word.parse().ok()).collect();
     match numbers[..] {

@@ -10,11 +10,11 @@
 //! sleeping thread wakes. If no thread sleeps with a time limit either, the run is a *hang*; so is a run that takes
 //! more than `LONGEST`. A run of more than `STEPS` points is a *livelock*. Freed memory is filled with a pattern until
 //! the end of the run. If an atomic or a lock has the pattern, or the pattern of a block has changed, memory was used
-//! after it was freed. A run must free all memory that it has allocated.
+//! after it was freed. If a run hasn't freed all memory that it has allocated, that is a *leak*.
 //!
-//! At a hang, a livelock, a use of freed memory, a failed assertion or a fault, the explorer prints the last points
-//! (more of them with `TRACE=1000`), and the point at which each thread waits. It also prints the name of the load and
-//! the seed, by which the run can be repeated. The script `explore/run` builds and runs the explorer.
+//! At a hang, a livelock, a leak, a use of freed memory, a failed assertion or a fault, the explorer prints the last
+//! points (more of them with `TRACE=1000`), and the point at which each thread waits. It also prints the name of the
+//! load and the seed, by which the run can be repeated. The script `explore/run` builds and runs the explorer.
 //!
 //! The crate, and the model of its core, use atomics, locks and threads only through `sync.rs`. So the model's steps
 //! are points too, and nothing is assumed about the model; the proved library is not tested here. Each point is

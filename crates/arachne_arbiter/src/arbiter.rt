@@ -61,11 +61,15 @@ impl Arbiter {
         self.orders.applied()
     }
 
-    /// Carries out the orders to close or open a core that are due now, and moves threads away from one closed core.
+    /// Carries out the orders to close or open a core that are due now, and moves threads away from one closed core, at
+    /// the next call from the next one. Returns a bit for each core to which threads were moved.
     ///
-    /// Returns a bit for each core to which threads were moved. Core 0's kernel thread must call this before each slice
-    /// (some steps of one thread), and again and again while it finds nothing to run. Reads `slices`, the counts of
-    /// ended slices, only if an order is left to carry out.
+    /// A thread that no worker holds goes to the first other core, in ascending order, that has room. A thread stays if
+    /// a worker holds it, if it is not yet in the slot that was claimed for it, or if it has its core for itself.
+    ///
+    /// Core 0's kernel thread must call this before each slice (some steps of one thread), and again and again while it
+    /// finds nothing to run. Reads `slices`, the counts of ended slices, only if an order is left to carry out, and a
+    /// core's occupancy only if a closed core perhaps has a thread left.
     pub fn tend<H: Wait, T: Tagged, C: Contexts<T>>(
         &mut self,
         cores: &Cores<'_, H, T, C>,
@@ -84,7 +88,9 @@ impl Arbiter {
         if !self.orders.are_over() {
             self.apply_due(cores, seat, parking, slices.total());
         }
-        self.drain(cores, seat)
+        let mut receivers = 0;
+        self.draining.round(cores, seat, &mut receivers);
+        receivers
     }
 
     /// Carries out each order to close or open a core that is due after `ended` slices (some steps of one thread each).
@@ -145,28 +151,5 @@ impl Arbiter {
             Effect::Nothing => {}
         }
         true
-    }
-
-    /// Moves threads away from one closed core, and at the next call from the next closed core.
-    ///
-    /// Returns a bit for each core to which threads were moved. A thread that no worker holds goes to the first other
-    /// core, in ascending order, that has room. A thread stays if a worker holds it, if it is not yet in the slot that
-    /// was claimed for it, or if it has its core for itself. If no closed core has a thread left, the call reads no
-    /// core's occupancy.
-    pub fn drain<H: Wait, T: Tagged, C: Contexts<T>>(
-        &mut self,
-        cores: &Cores<'_, H, T, C>,
-        seat: &mut C::Seat,
-    ) -> u64
-        requires seat { C.sits cores.now.table.now seat.old }
-        requires cores { self.old.cores ≡ cores.now.count }
-        ensures seat { C.sits cores.now.table.now seat.new }
-        ensures weight { C.weight seat.new ≡ C.weight seat.old }
-        ensures out { KeepsOut (C.has cores.now.table.now) seat.old seat.new }
-        ensures progress { self.new ≡ self.old }
-    {
-        let mut receivers = 0;
-        self.draining.round(cores, seat, &mut receivers);
-        receivers
     }
 }

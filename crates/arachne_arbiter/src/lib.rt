@@ -18,7 +18,6 @@ mod slices;
 pub use arbiter::Arbiter;
 pub use choice::first_core;
 pub use cores::Cores;
-pub use orders::{Effect, Orders};
 pub use pace::Pace;
 pub use parking::{Parking, Unparked};
 pub use slices::SliceCounts;

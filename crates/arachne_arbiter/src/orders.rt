@@ -1,5 +1,5 @@
 //! Orders to close a core or to open it again, which are carried out one after another.
-ghost use Rattle.std.specs.Prelude.{◌≡◌, ◌+◌, ◌<◌, ◌≤◌, ◌↔◌, length, IsTrue, IfOk, IfSome, MatchOption};
+ghost use Rattle.std.specs.Prelude.{◌≡◌, ◌≤◌, ◌↔◌, length, IsTrue, IfOk, IfSome, MatchOption};
 ghost use Rattle.arachne_core.specs.declared.layout.TheConstants.{CORES};
 ghost use Rattle.arachne_policy.specs.Orders.{AreInOrder};
 
@@ -40,7 +40,7 @@ impl Model for Orders {
 }
 
 impl Orders {
-    ghost use Rattle.arachne_arbiter.specs.Orders.{is_closed_after, next_effect, with_next, IsDue, IsNoneDue, IsWithin};
+    ghost use Rattle.arachne_arbiter.specs.Orders.{next_effect, with_next, IsDue, IsNoneDue, IsWithin};
 
     /// Creates the record of the orders in `list`, of which none was carried out yet, for `cores` cores, all of them
     /// open.
@@ -72,14 +72,6 @@ impl Orders {
         ensures { IsTrue result ↔ (self.now.applied ≡ length self.now.list) }
     {
         self.applied == self.list.len()
-    }
-
-    /// Returns whether core `core` is closed by the orders that were carried out so far.
-    pub fn has_closed(&self, core: u8) -> bool
-        requires { core < self.now.cores }
-        ensures { result ≡ is_closed_after self.now.list self.now.applied core }
-    {
-        self.closed[usize::from(core)]
     }
 
     /// If the next order is due after `ended` slices (some steps of one thread each), counts that order as carried out,

@@ -1,10 +1,7 @@
 //! Puts the kernel thread of a closed core to sleep until the core is opened again.
 ghost use Rattle.std.specs.Prelude.{◌≡◌, ◌<◌, IfOk};
-ghost use Rattle.arachne_contexts.specs.Out.{KeepsOut};
 ghost use Rattle.arachne_arbiter.specs.KernelThreads.{parked_cores};
 
-use crate::cores::Cores;
-use arachne_contexts::{Contexts, Tagged};
 use crossbeam_utils::CachePadded;
 use std::alloc::{AllocError, Global};
 use std::sync::Wait;
@@ -58,26 +55,5 @@ impl Parking {
             parker.unpark();
         }
         Unparked { all: () }
-    }
-}
-
-impl<'a, H: Wait, T: Tagged, C: Contexts<T>> Cores<'a, H, T, C> {
-    /// Parks the kernel thread of `core` if the core is closed and empty. Returns whether it parked.
-    ///
-    /// If the result is true, another thread has unparked the kernel thread since, and it must look for work again.
-    /// Only the kernel thread of `core` may call `park_if_drained`.
-    pub fn park_if_drained(&self, seat: &mut C::Seat, parking: &Parking, core: u8) -> bool
-        requires seat { C.sits self.now.table.now seat.old }
-        requires core { core < self.now.count }
-        requires parking { parked_cores parking.now ≡ self.now.count }
-        ensures seat { C.sits self.now.table.now seat.new }
-        ensures weight { C.weight seat.new ≡ C.weight seat.old }
-        ensures out { KeepsOut (C.has self.now.table.now) seat.old seat.new }
-    {
-        let drained = self.table.is_drained(self.rt, seat, core);
-        if drained {
-            parking.park(self.rt, core);
-        }
-        drained
     }
 }

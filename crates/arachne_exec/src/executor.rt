@@ -6,7 +6,7 @@ ghost use Rattle.arachne_exec.specs.Changes.{blank, splitting, together};
 use crate::layout::{empty_slots, first_words};
 use crate::seat::{ExecSeat, SeatInCall};
 use crate::steps::{Halve, Lawful};
-use crate::turns::{SearchTurn, TakeTurn};
+use crate::turns::SearchTurn;
 use crate::view::View;
 use arachne_weights::Weight;
 use atomic_table::Table;
@@ -58,7 +58,7 @@ impl Executor {
             at: SeatInCall { seat },
             weight: Weight::whole(),
             turn: SearchTurn::start(),
-            take_turn: TakeTurn::start(),
+            take_turn: 0,
         };
         Ok((Executor { table, shards }, seat))
     }
@@ -120,7 +120,7 @@ impl Executor {
             at: other,
             weight: second,
             turn: SearchTurn::start(),
-            take_turn: TakeTurn::start(),
+            take_turn: 0,
         }
     }
 

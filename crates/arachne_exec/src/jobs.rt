@@ -9,7 +9,7 @@ use crate::answers::{HeldJob, JobRested, JobSpawned, PlacedJob, SpawnedHere};
 use crate::executor::Executor;
 use crate::layout::{LAST_GENERATION, free_word, mark_word, name_at, ready_word};
 use crate::seat::{ExecSeat, SeatInCall};
-use crate::turns::{First, TakenJob, first_from, has_more, lowest_index};
+use crate::turns::{TakenJob, first_from, has_more, lowest_index};
 
 /// Returns the job with number `job` in slot `place`. The job's name consists of `place` and the generation in `mark`.
 #[inline(always)]
@@ -101,19 +101,17 @@ impl Executor {
         &self,
         seat: &mut ExecSeat,
         block: usize,
-        from: First,
+        from: usize,
     ) -> Option<TakenJob>
         requires own { seat.old.table ≡ self.now.table }
         requires block { block < 64 * self.now.shards }
-        requires from { from.block.value ≡ block }
         ensures seat { seat.new ≡ record seat.old { known = seat.new.known } }
-        ensures took { IfSome result (λ taken. HasTakenFrom from.index taken block seat.old.known seat.new.known) }
+        ensures took { IfSome result (λ taken. HasTakenFrom from taken block seat.old.known seat.new.known) }
         ensures none { IfNone result (HasTakenNone block seat.old.known seat.new.known) }
         ensures hand { IfSome result (λ taken. HandsOver (4096 * self.now.shards) taken.job seat.old.known seat.new.known) }
         ensures same { IfNone result (KeepsHand seat.old.known seat.new.known) }
     {
         self.few();
-        let from = from.begun();
         let ready = self.look(&mut seat.at, ready_word(block));
         if ready == 0 {
             return None;
@@ -126,7 +124,10 @@ impl Executor {
         let mark = self.refresh(&mut seat.at, place);
         let job = self.lay(&mut seat.at, place, 0);
         self.lay(&mut seat.at, place, job);
-        Some(TakenJob::new(job_at(place, mark, job), has_more(ready, index)))
+        Some(TakenJob {
+            job: job_at(place, mark, job),
+            more: has_more(ready, index),
+        })
     }
 
     /// Tries once to take a ready job from one of the 64 slots of `block`, which may be any worker's. Returns `None` if
@@ -144,9 +145,10 @@ impl Executor {
         ensures hand { IfSome result (λ job. HandsOver (4096 * self.now.shards) job seat.old.known seat.new.known) }
         ensures same { IfNone result (KeepsHand seat.old.known seat.new.known) }
     {
-        let from = seat.take_turn.first_place(block);
-        let taken = self.take_from(seat, block, from)?;
-        Some(taken.in_block(&mut seat.take_turn))
+        let from = seat.take_turn;
+        let job = self.take_from(seat, block, from)?.job;
+        seat.take_turn = job.place % 64 + 1;
+        Some(job)
     }
 
     /// Makes the job in slot `place` ready again. Returns true if the caller must unpark the worker of that slot.

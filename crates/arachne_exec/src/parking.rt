@@ -10,6 +10,7 @@ use crate::executor::Executor;
 use crate::layout::summary_word;
 use crate::rounds::Round;
 use crate::seat::{ExecSeat, SeatInCall};
+use crate::turns::SearchTurn;
 
 /// Returns how many of the executor's `shards` shards belong to `worker`.
 fn shards_of(worker: usize, shards: usize) -> usize
@@ -109,10 +110,12 @@ impl Executor {
             let block = 64 * shard + index;
             let from = seat.turn.first_place(block);
             if let Some(taken) = self.take_from(seat, block, from) {
-                return Some(taken.in_turn(&mut seat.turn, &left));
+                let job = taken.job;
+                seat.turn = SearchTurn::behind(job.place, taken.more, left.has_more(index));
+                return Some(job);
             }
-            let (hidden, _) = self.tidy(&mut seat.at, block);
-            left.pass(hidden);
+            self.tidy(&mut seat.at, block);
+            left.pass(block);
         }
         None
     }

@@ -1,5 +1,5 @@
 //! A seat: the right of one thread to call an executor, as a value that each call takes.
-use crate::turns::{SearchTurn, TakeTurn};
+use crate::turns::SearchTurn;
 use crate::view::View;
 use arachne_weights::Weight;
 use atomic_table::Seat;
@@ -35,8 +35,8 @@ pub struct ExecSeat {
     pub(crate) weight: Weight,
     /// The slot at which the next search of the worker's blocks begins.
     pub(crate) turn: SearchTurn,
-    /// The slot index in a block at which the seat's next `take` begins.
-    pub(crate) take_turn: TakeTurn,
+    /// The slot index in a block, modulo 64, at which the seat's next `take` begins.
+    pub(crate) take_turn: usize,
 }
 
 impl Model for ExecSeat {
@@ -45,7 +45,7 @@ impl Model for ExecSeat {
 
     ghost Value = { SeatView };
 
-    ghost view = { λ s. record { table = s.at.table; weight = s.weight; known = s.at.known; turn = s.take_turn.index } };
+    ghost view = { λ s. record { table = s.at.table; weight = s.weight; known = s.at.known; turn = s.take_turn } };
 
     ghost invariant = { λ s. (s.at.weight ≡ s.weight) × IsCalm s.at.known s.at.slots };
 }

@@ -4,29 +4,13 @@ ghost use Rattle.std.specs.Prelude.{◌≡◌, ◌≢◌, ℕ, ◌+◌, ◌*◌,
 ghost use Rattle.atomic_table.specs.Table.{rest};
 ghost use Rattle.arachne_exec.specs.Board.{IsLast};
 ghost use Rattle.arachne_exec.specs.Layout.{mark_at, worker_of};
-ghost use Rattle.arachne_exec.specs.Changes.{laying_down, spawning, rousing, settled, owing};
+ghost use Rattle.arachne_exec.specs.Changes.{laying_down, spawning, rousing, settled};
 ghost use Rattle.arachne_exec.specs.Seats.{HasNewest};
 
 use crate::executor::Executor;
 use crate::seat::SeatInCall;
-use crate::sleepers::Hidden;
 
 impl Executor {
-    /// Clears the idle bit of the worker of `shard`. Returns true if the bit was set, so that the caller must unpark
-    /// the worker.
-    ///
-    /// A call that has set the first bit of a shard's summary word must call this for that shard.
-    pub(crate) fn pay(&self, seat: &mut SeatInCall, shard: usize) -> bool
-        requires own { seat.old.table ≡ self.now.table }
-        requires owed { seat.old.known.owes ≡ shard + 1 }
-        ensures { seat.new ≡ record seat.old { known = rousing result (worker_of shard) (owing 0 seat.old.known) } }
-    {
-        if !self.finds_idle(seat, shard) {
-            return false;
-        }
-        self.unpark(seat, shard)
-    }
-
     /// Sets the bit of `block` in its shard's summary word. Returns true if the caller must unpark the block's worker.
     ///
     /// A call that has set the first bit of a block's ready word must call this for that block.
@@ -42,7 +26,10 @@ impl Executor {
         if !self.put_shown(seat, block) {
             return false;
         }
-        self.pay(seat, block / 64)
+        if !self.finds_idle(seat, block / 64) {
+            return false;
+        }
+        self.unpark(seat, block / 64)
     }
 
     /// Makes the job in slot `place` ready. Returns true if the caller must unpark the worker of that slot.
@@ -78,19 +65,18 @@ impl Executor {
         self.show(seat, place / 64)
     }
 
-    /// Clears the bit of `block` in its summary word, unless the block has a ready job. Returns the block, and true if
-    /// the caller must unpark the block's worker.
-    pub(crate) fn tidy(&self, seat: &mut SeatInCall, block: usize) -> (Hidden, bool)
+    /// Clears the bit of `block` in its summary word, unless the block has a ready job. Returns true if the caller must
+    /// unpark the block's worker.
+    pub(crate) fn tidy(&self, seat: &mut SeatInCall, block: usize) -> bool
         requires own { seat.old.table ≡ self.now.table }
         requires block { block < 64 * self.now.shards }
         requires calm { (seat.old.known.unshown ≡ 0) × (seat.old.known.owes ≡ 0) }
-        ensures hidden { result.0.block ≡ block }
-        ensures seat { seat.new ≡ record seat.old { known = rousing result.1 (worker_of (block / 64)) seat.old.known } }
+        ensures { seat.new ≡ record seat.old { known = rousing result (worker_of (block / 64)) seat.old.known } }
     {
-        let hidden = self.hide(seat, block);
+        self.hide(seat, block);
         if self.has_none(seat, block) {
-            return (hidden, false);
+            return false;
         }
-        (hidden, self.show(seat, block))
+        self.show(seat, block)
     }
 }

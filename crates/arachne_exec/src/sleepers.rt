@@ -13,23 +13,6 @@ use crate::steps::{
     Unregister,
 };
 
-/// The number of a block whose bit in its summary word was cleared. Only [`Executor::hide`] creates a value of this
-/// type.
-#[derive(Drop)]
-pub(crate) struct Hidden {
-    block: usize,
-}
-
-impl Hidden {
-    /// Returns the number of the block.
-    #[inline(always)]
-    pub(crate) fn block(&self) -> usize
-        ensures { result ≡ self.now.block }
-    {
-        self.block
-    }
-}
-
 impl Executor {
     /// Returns true if the bit of `block` is set in its shard's summary word. Then the call needn't set the bit.
     pub(crate) fn finds_shown(&self, seat: &mut SeatInCall, block: usize) -> bool
@@ -60,12 +43,11 @@ impl Executor {
     }
 
     /// Clears the bit of `block` in its shard's summary word.
-    pub(crate) fn hide(&self, seat: &mut SeatInCall, block: usize) -> Hidden
+    pub(crate) fn hide(&self, seat: &mut SeatInCall, block: usize)
         requires own { seat.old.table ≡ self.now.table }
         requires block { block < 64 * self.now.shards }
         requires shown { seat.old.known.unshown ≡ 0 }
-        ensures hidden { result.block ≡ block }
-        ensures seat { seat.new ≡ record seat.old { known = unshowing (block + 1) seat.old.known } }
+        ensures { seat.new ≡ record seat.old { known = unshowing (block + 1) seat.old.known } }
     {
         let _ = self.shards;
         let shared = &self.table.shared;
@@ -74,7 +56,6 @@ impl Executor {
             summary_word(block / 64),
             all_but(block % 64),
         );
-        Hidden { block }
     }
 
     /// Returns true if `block` has no ready job. Then the call needn't set the block's bit in the summary word.

@@ -8,8 +8,6 @@ ghost use Rattle.arachne_exec.specs.Turns.{IsFirstFrom, HasMoreBehind};
 
 use crate::answers::HeldJob;
 use crate::layout::all_but;
-use crate::sleepers::Hidden;
-use std::snapshot::Snapshot;
 
 /// Returns the index of the lowest set bit of `word`.
 pub(crate) fn lowest_index(word: u64) -> usize
@@ -78,15 +76,15 @@ impl Unsearched {
         Some(first_from(self.blocks, self.from))
     }
 
-    /// Removes a block from the search: a block without ready jobs, whose summary bit was cleared.
-    pub(crate) fn pass(&mut self, hidden: Hidden)
-        ensures { self.new ≡ record self.old { blocks = bit_and self.old.blocks (others (hidden.block % 64)) } }
+    /// Removes `block` from the search.
+    pub(crate) fn pass(&mut self, block: usize)
+        ensures { self.new ≡ record self.old { blocks = bit_and self.old.blocks (others (block % 64)) } }
     {
-        self.blocks &= all_but(hidden.block() % 64);
+        self.blocks &= all_but(block % 64);
     }
 
     /// Returns true if the search has yet to visit a block with a greater index than `index`.
-    fn has_more(&self, index: usize) -> bool
+    pub(crate) fn has_more(&self, index: usize) -> bool
         requires { index < 64 }
         ensures { IsTrue result ↔ HasMoreBehind self.now index }
     {
@@ -95,90 +93,10 @@ impl Unsearched {
 }
 
 /// A job that was taken, with a flag that says if its block had another ready slot behind the job's slot.
-///
-/// The value can't be dropped: its methods return the job only together with setting the start of the next search.
+#[derive(Drop)]
 pub(crate) struct TakenJob {
-    job: HeldJob,
-    more: bool,
-}
-
-impl TakenJob {
-    #[inline(always)]
-    pub(crate) fn new(job: HeldJob, more: bool) -> TakenJob
-        ensures { result ≡ record { job = job; more = more } }
-    {
-        TakenJob { job, more }
-    }
-
-    /// Returns the job that a worker's search has taken. Sets `turn` so that the worker's next search begins behind the
-    /// job's slot.
-    pub(crate) fn in_turn(self, turn: &mut SearchTurn, left: &Unsearched) -> HeldJob
-        requires { self.job.place < 1048576 }
-        ensures job { result ≡ self.job }
-        ensures in_block { self.more ≡ true → turn.new.place ≡ self.job.place + 1 }
-        ensures in_shard { self.more ≡ false → HasMoreBehind left.now (self.job.place / 64 % 64) → turn.new.place ≡ self.job.place - self.job.place % 64 + 64 }
-        ensures next_shard { self.more ≡ false → ¬ HasMoreBehind left.now (self.job.place / 64 % 64) → turn.new.place ≡ self.job.place - self.job.place % 4096 + 262144 }
-    {
-        let TakenJob { job, more } = self;
-        let in_shard = left.has_more(job.place / 64 % 64);
-        *turn = SearchTurn::behind(job.place, more, in_shard);
-        job
-    }
-
-    /// Returns the job that a `take` has taken. Sets `turn` to the slot index behind the job's, at which the seat's
-    /// next `take` begins.
-    pub(crate) fn in_block(self, turn: &mut TakeTurn) -> HeldJob
-        ensures job { result ≡ self.job }
-        ensures index { turn.new.index ≡ self.job.place % 64 + 1 }
-    {
-        let TakenJob { job, more: _ } = self;
-        turn.index = job.place % 64 + 1;
-        job
-    }
-}
-
-/// The slot index at which the search of a block begins. Only `TakeTurn` and `SearchTurn` create a value of this type,
-/// and no block is searched without one.
-pub(crate) struct First {
-    index: usize,
-    block: Snapshot<usize>,
-}
-
-impl First {
-    /// Returns the slot index at which the caller must begin to search the block.
-    #[inline(always)]
-    pub(crate) fn begun(self) -> usize
-        ensures { result ≡ self.index }
-    {
-        let First { index, block: _ } = self;
-        index
-    }
-}
-
-/// The slot index in a block, modulo 64, at which a seat's next `take` begins.
-#[derive(Clone, Copy, Drop)]
-pub(crate) struct TakeTurn {
-    index: usize,
-}
-
-impl TakeTurn {
-    pub(crate) fn start() -> TakeTurn
-        ensures { result.index ≡ 0 }
-    {
-        TakeTurn { index: 0 }
-    }
-
-    /// Returns the slot index at which a `take` from `block` begins.
-    #[inline(always)]
-    pub(crate) fn first_place(&self, block: usize) -> First
-        ensures index { result.index ≡ self.now.index }
-        ensures block { result.block.value ≡ block }
-    {
-        First {
-            index: self.index,
-            block: Snapshot::of(&block),
-        }
-    }
+    pub(crate) job: HeldJob,
+    pub(crate) more: bool,
 }
 
 /// The slot at which a worker's next search for ready jobs begins.
@@ -231,40 +149,27 @@ impl SearchTurn {
         ensures turn { self.now.place / 4096 ≡ shard → result.from ≡ self.now.place / 64 % 64 }
         ensures other { self.now.place / 4096 ≢ shard → result.from ≡ 0 }
     {
-        Unsearched {
-            blocks: shown,
-            from: self.first_block(shard),
-        }
-    }
-
-    /// Returns the index of the block at which the search of `shard` begins.
-    fn first_block(&self, shard: usize) -> usize
-        ensures within { result < 64 }
-        ensures turn { self.now.place / 4096 ≡ shard → result ≡ self.now.place / 64 % 64 }
-        ensures other { self.now.place / 4096 ≢ shard → result ≡ 0 }
-    {
-        if self.place / 4096 == shard {
+        let from = if self.place / 4096 == shard {
             self.place / 64 % 64
         } else {
             0
+        };
+        Unsearched {
+            blocks: shown,
+            from,
         }
     }
 
     /// Returns the slot index at which the search of `block` begins: the index of this turn's slot if that slot lies in
     /// `block`, otherwise 0.
-    pub(crate) fn first_place(&self, block: usize) -> First
-        ensures turn { self.now.place / 64 ≡ block → result.index ≡ self.now.place % 64 }
-        ensures other { self.now.place / 64 ≢ block → result.index ≡ 0 }
-        ensures block { result.block.value ≡ block }
+    pub(crate) fn first_place(&self, block: usize) -> usize
+        ensures turn { self.now.place / 64 ≡ block → result ≡ self.now.place % 64 }
+        ensures other { self.now.place / 64 ≢ block → result ≡ 0 }
     {
-        let index = if self.place / 64 == block {
+        if self.place / 64 == block {
             self.place % 64
         } else {
             0
-        };
-        First {
-            index,
-            block: Snapshot::of(&block),
         }
     }
 }

@@ -8,16 +8,15 @@ ghost use Rattle.arachne_exec_c.specs.ExecHeld.{held, IsOfOne};
 ghost use Rattle.arachne_exec_c.specs.ExecEnd.{IsEndTold};
 ghost use Rattle.arachne_exec_c.specs.ExecTold.{IsTold, IsToldOf, Tells, Spawns, SpawnsHere, LooksAt, Takes, TakesMany, Starts, GoesOn, Rests, Yields, Finishes, Wakes, WakesHere, ParksOrNot, WakesUp, Registers, Leaves, MayTake, MayGoOn, MayRegister, code_alone, code_unparking, told_job, told_spawned, told_spawned_here, told_taken, told_next, told_rested, told_woken, told_woken_here, whom};
 
-use crate::codes::{DONE, NO_MEMORY, REFUSED};
+use crate::codes::{DONE, LOST, NO_MEMORY, REFUSED};
 use crate::exec_handle::ArachneExec;
-use crate::exec_holding::{
-    cut_held, end_held, finish_held, join_held, leave_held, may_park_held, next_held, ready_held,
-    register_held, rest_blocked_held, rest_ready_held, shown_held, spawn_held, spawn_here_held,
-    start_held, take_held, take_many_held, wake_held, wake_here_held, wake_up_held,
+use crate::exec_holding::{cut_held, end_held, join_held, may_park_held};
+use crate::exec_told::{
+    ArachneExecLeft, ArachneExecTold, code_alone, end_alone, told_job, told_next, told_ready,
+    told_rested, told_spawned, told_spawned_here, told_taken, told_woken, told_woken_here,
 };
-use crate::exec_told::{ArachneExecLeft, ArachneExecTold, code_alone, end_alone};
 use crate::executing::Executing;
-use arachne_exec::MOST_SHARDS;
+use arachne_exec::{MOST_SHARDS, WORKERS};
 use std::alloc::Global;
 
 /// Creates an executor with `shards` shards of 4,096 job slots, and puts its first seat (a thread's right to call it)
@@ -154,7 +153,16 @@ pub extern "C" fn arachne_exec_register(alloc: Global, exec: &mut ArachneExec, w
     let Some(mut value) = exec.take(alloc) else {
         return REFUSED;
     };
-    let told = register_held(&mut value, worker);
+    let told = match &mut *value {
+        Some(seat) if !seat.is_worker() && worker < WORKERS as u32 => {
+            if seat.register(worker as usize) {
+                DONE
+            } else {
+                LOST
+            }
+        }
+        _ => REFUSED,
+    };
     exec.put(value);
     told
 }
@@ -170,7 +178,13 @@ pub extern "C" fn arachne_exec_leave(alloc: Global, exec: &mut ArachneExec) -> u
     let Some(mut value) = exec.take(alloc) else {
         return REFUSED;
     };
-    let told = leave_held(&mut value);
+    let told = match &mut *value {
+        Some(seat) if seat.is_worker() => {
+            seat.leave();
+            DONE
+        }
+        _ => REFUSED,
+    };
     exec.put(value);
     told
 }
@@ -192,7 +206,10 @@ pub extern "C" fn arachne_exec_spawn(
     let Some(mut value) = exec.take(alloc) else {
         return code_alone(REFUSED);
     };
-    let told = spawn_held(&mut value, block, job);
+    let told = match &mut *value {
+        Some(seat) if seat.has_block(block) => told_spawned(&seat.spawn(block, job)),
+        _ => code_alone(REFUSED),
+    };
     exec.put(value);
     told
 }
@@ -214,7 +231,12 @@ pub extern "C" fn arachne_exec_spawn_here(
     let Some(mut value) = exec.take(alloc) else {
         return code_alone(REFUSED);
     };
-    let told = spawn_here_held(&mut value, block, job);
+    let told = match &mut *value {
+        Some(seat) if seat.is_empty_handed() && seat.has_block(block) => {
+            told_spawned_here(&seat.spawn_here(block, job))
+        }
+        _ => code_alone(REFUSED),
+    };
     exec.put(value);
     told
 }
@@ -230,7 +252,10 @@ pub extern "C" fn arachne_exec_shown(alloc: Global, exec: &mut ArachneExec, shar
     let Some(mut value) = exec.take(alloc) else {
         return 0;
     };
-    let told = shown_held(&mut value, shard);
+    let told = match &mut *value {
+        Some(seat) if seat.has_shard(shard) => seat.shown(shard),
+        _ => 0,
+    };
     exec.put(value);
     told
 }
@@ -245,7 +270,10 @@ pub extern "C" fn arachne_exec_ready(alloc: Global, exec: &mut ArachneExec, bloc
     let Some(mut value) = exec.take(alloc) else {
         return 0;
     };
-    let told = ready_held(&mut value, block);
+    let told = match &mut *value {
+        Some(seat) if seat.has_block(block) => seat.ready(block),
+        _ => 0,
+    };
     exec.put(value);
     told
 }
@@ -266,7 +294,12 @@ pub extern "C" fn arachne_exec_take(
     let Some(mut value) = exec.take(alloc) else {
         return code_alone(REFUSED);
     };
-    let told = take_held(&mut value, block);
+    let told = match &mut *value {
+        Some(seat) if seat.is_empty_handed() && seat.has_block(block) => told_taken(&seat.take(
+            block,
+        )),
+        _ => code_alone(REFUSED),
+    };
     exec.put(value);
     told
 }
@@ -290,7 +323,12 @@ pub extern "C" fn arachne_exec_take_many(
     let Some(mut value) = exec.take(alloc) else {
         return 0;
     };
-    let told = take_many_held(&mut value, block, most);
+    let told = match &mut *value {
+        Some(seat) if seat.has_block(block) && seat.is_empty_handed() => {
+            seat.take_many(block, most)
+        }
+        _ => 0,
+    };
     exec.put(value);
     told
 }
@@ -306,7 +344,13 @@ pub extern "C" fn arachne_exec_start(alloc: Global, exec: &mut ArachneExec) -> A
     let Some(mut value) = exec.take(alloc) else {
         return code_alone(REFUSED);
     };
-    let told = start_held(&mut value);
+    let told = match &mut *value {
+        Some(seat) => match seat.hand() {
+            Some(place) => told_job(&seat.start(place)),
+            None => code_alone(REFUSED),
+        },
+        None => code_alone(REFUSED),
+    };
     exec.put(value);
     told
 }
@@ -324,7 +368,10 @@ pub extern "C" fn arachne_exec_next(alloc: Global, exec: &mut ArachneExec) -> Ar
     let Some(mut value) = exec.take(alloc) else {
         return code_alone(REFUSED);
     };
-    let told = next_held(&mut value);
+    let told = match &mut *value {
+        Some(seat) if seat.is_empty_handed() && seat.is_worker() => told_next(&seat.next()),
+        _ => code_alone(REFUSED),
+    };
     exec.put(value);
     told
 }
@@ -357,7 +404,13 @@ pub extern "C" fn arachne_exec_wake_up(alloc: Global, exec: &mut ArachneExec) ->
     let Some(mut value) = exec.take(alloc) else {
         return REFUSED;
     };
-    let told = wake_up_held(&mut value);
+    let told = match &mut *value {
+        Some(seat) if seat.is_worker() => {
+            seat.wake_up();
+            DONE
+        }
+        _ => REFUSED,
+    };
     exec.put(value);
     told
 }
@@ -372,7 +425,13 @@ pub extern "C" fn arachne_exec_rest_ready(alloc: Global, exec: &mut ArachneExec)
     let Some(mut value) = exec.take(alloc) else {
         return code_alone(REFUSED);
     };
-    let told = rest_ready_held(&mut value);
+    let told = match &mut *value {
+        Some(seat) => match seat.hand() {
+            Some(place) => told_ready(place, seat.rest_ready(place)),
+            None => code_alone(REFUSED),
+        },
+        None => code_alone(REFUSED),
+    };
     exec.put(value);
     told
 }
@@ -391,7 +450,13 @@ pub extern "C" fn arachne_exec_rest_blocked(
     let Some(mut value) = exec.take(alloc) else {
         return code_alone(REFUSED);
     };
-    let told = rest_blocked_held(&mut value);
+    let told = match &mut *value {
+        Some(seat) => match seat.hand() {
+            Some(place) => told_rested(place, &seat.rest_blocked(place)),
+            None => code_alone(REFUSED),
+        },
+        None => code_alone(REFUSED),
+    };
     exec.put(value);
     told
 }
@@ -406,7 +471,16 @@ pub extern "C" fn arachne_exec_finish(alloc: Global, exec: &mut ArachneExec) -> 
     let Some(mut value) = exec.take(alloc) else {
         return REFUSED;
     };
-    let told = finish_held(&mut value);
+    let told = match &mut *value {
+        Some(seat) => match seat.hand() {
+            Some(place) => {
+                seat.finish(place);
+                DONE
+            }
+            None => REFUSED,
+        },
+        None => REFUSED,
+    };
     exec.put(value);
     told
 }
@@ -427,7 +501,10 @@ pub extern "C" fn arachne_exec_wake(
     let Some(mut value) = exec.take(alloc) else {
         return code_alone(REFUSED);
     };
-    let told = wake_held(&mut value, name);
+    let told = match &mut *value {
+        Some(seat) => told_woken(name, &seat.wake(name)),
+        None => code_alone(REFUSED),
+    };
     exec.put(value);
     told
 }
@@ -447,7 +524,10 @@ pub extern "C" fn arachne_exec_wake_here(
     let Some(mut value) = exec.take(alloc) else {
         return code_alone(REFUSED);
     };
-    let told = wake_here_held(&mut value, name);
+    let told = match &mut *value {
+        Some(seat) if seat.is_empty_handed() => told_woken_here(&seat.wake_here(name)),
+        _ => code_alone(REFUSED),
+    };
     exec.put(value);
     told
 }

@@ -7,10 +7,10 @@ ghost use Rattle.arachne_exec_c.specs.SeatingHeld.{held, IsOfOne};
 
 use crate::codes::{DONE, NO_MEMORY, REFUSED};
 use crate::locks_handle::ArachneLocks;
-use crate::seated::{
-    Seated, ask_held, check_held, free_held, join_held, split_held, withdraw_held,
+use crate::seated::{Seated, join_held, split_held};
+use crate::told::{
+    ArachneLockTold, code_alone, told_asked, told_checked, told_freed, told_withdrawn,
 };
-use crate::told::{ArachneLockTold, code_alone};
 use std::alloc::Global;
 
 /// Creates `count` locks, and puts their first seat, a thread's right to use them, into `locks`, which must be empty.
@@ -119,7 +119,10 @@ pub extern "C" fn arachne_lock_ask(
     let Some(mut value) = locks.take(alloc) else {
         return code_alone(REFUSED);
     };
-    let told = ask_held(&mut value, lock, who);
+    let told = match &mut *value {
+        Some(seated) if seated.has(lock) => told_asked(seated.ask(lock, who)),
+        _ => code_alone(REFUSED),
+    };
     locks.put(value);
     told
 }
@@ -141,7 +144,10 @@ pub extern "C" fn arachne_lock_free(
     let Some(mut value) = locks.take(alloc) else {
         return code_alone(REFUSED);
     };
-    let told = free_held(&mut value, lock, who);
+    let told = match &mut *value {
+        Some(seated) if seated.has(lock) => told_freed(seated.free(lock, who)),
+        _ => code_alone(REFUSED),
+    };
     locks.put(value);
     told
 }
@@ -163,7 +169,10 @@ pub extern "C" fn arachne_lock_withdraw(
     let Some(mut value) = locks.take(alloc) else {
         return code_alone(REFUSED);
     };
-    let told = withdraw_held(&mut value, lock, who);
+    let told = match &mut *value {
+        Some(seated) if seated.has(lock) => told_withdrawn(seated.withdraw(lock, who)),
+        _ => code_alone(REFUSED),
+    };
     locks.put(value);
     told
 }
@@ -184,7 +193,10 @@ pub extern "C" fn arachne_lock_check(
     let Some(mut value) = locks.take(alloc) else {
         return code_alone(REFUSED);
     };
-    let told = check_held(&mut value, lock, who);
+    let told = match &mut *value {
+        Some(seated) if seated.has(lock) => told_checked(seated.check(lock, who)),
+        _ => code_alone(REFUSED),
+    };
     locks.put(value);
     told
 }

@@ -4,13 +4,9 @@ ghost use Rattle.std.specs.Option.{ForSome};
 ghost use Rattle.std.specs.declared.option.Option.TheVariants.{None, Some};
 ghost use Rattle.arachne_lock.specs.Calls.{AskAnswer, FreeAnswer, WithdrawAnswer, CheckAnswer};
 ghost use Rattle.arachne_lock.specs.Rule.{IsLawfulSeat};
-ghost use Rattle.arachne_exec_c.specs.LockTold.{IsAskTold, IsFreeTold, IsWithdrawTold, IsCheckTold};
 ghost use Rattle.arachne_exec_c.specs.Seating.{Seating, HasLock, IsNew, IsJoined, with_seat, first_of, second_of, joined_of};
 
 use crate::codes::{DONE, REFUSED};
-use crate::told::{
-    ArachneLockTold, code_alone, told_asked, told_checked, told_freed, told_withdrawn,
-};
 use arachne_lock::{
     Admitted, AskRefusal, Attempt, LockSetSeat, Locks, NotOwner, Released, Withdrawn,
 };
@@ -47,13 +43,13 @@ impl Seated {
         Ok(Seated { locks, seat })
     }
 
-    fn has(&self, lock: usize) -> bool
+    pub(crate) fn has(&self, lock: usize) -> bool
         ensures { IsTrue result ↔ HasLock lock self.now }
     {
         lock < self.locks.count()
     }
 
-    fn ask(&mut self, lock: usize, who: u64) -> Attempt<Result<Admitted, AskRefusal>>
+    pub(crate) fn ask(&mut self, lock: usize, who: u64) -> Attempt<Result<Admitted, AskRefusal>>
         requires { HasLock lock self.old }
         ensures stays { self.new ≡ with_seat self.old self.new.seat }
         ensures answer { AskAnswer lock who self.old.seat result self.new.seat }
@@ -62,7 +58,7 @@ impl Seated {
         self.locks.ask(&mut self.seat, lock, who)
     }
 
-    fn free(&mut self, lock: usize, who: u64) -> Attempt<Result<Released, NotOwner>>
+    pub(crate) fn free(&mut self, lock: usize, who: u64) -> Attempt<Result<Released, NotOwner>>
         requires { HasLock lock self.old }
         ensures stays { self.new ≡ with_seat self.old self.new.seat }
         ensures answer { FreeAnswer lock who self.old.seat result self.new.seat }
@@ -71,7 +67,7 @@ impl Seated {
         self.locks.free(&mut self.seat, lock, who)
     }
 
-    fn withdraw(&mut self, lock: usize, who: u64) -> Attempt<Withdrawn>
+    pub(crate) fn withdraw(&mut self, lock: usize, who: u64) -> Attempt<Withdrawn>
         requires { HasLock lock self.old }
         ensures stays { self.new ≡ with_seat self.old self.new.seat }
         ensures answer { WithdrawAnswer lock who self.old.seat result self.new.seat }
@@ -80,7 +76,7 @@ impl Seated {
         self.locks.withdraw(&mut self.seat, lock, who)
     }
 
-    fn check(&mut self, lock: usize, who: u64) -> Attempt<Option<u64>>
+    pub(crate) fn check(&mut self, lock: usize, who: u64) -> Attempt<Option<u64>>
         requires { HasLock lock self.old }
         ensures stays { self.new ≡ with_seat self.old self.new.seat }
         ensures answer { CheckAnswer lock who self.old.seat result self.new.seat }
@@ -145,46 +141,5 @@ pub(crate) fn join_held(mine: &mut Option<Seated>, theirs: &mut Option<Seated>) 
             *theirs = other;
             REFUSED
         }
-    }
-}
-
-/// Asks for the lock with index `lock` for the task `who`, through the seat (a right to use the locks) in `held`.
-pub(crate) fn ask_held(held: &mut Option<Seated>, lock: usize, who: u64) -> ArachneLockTold
-    ensures { IsAskTold lock who held.old held.new result }
-{
-    match held {
-        Some(seated) if seated.has(lock) => told_asked(seated.ask(lock, who)),
-        _ => code_alone(REFUSED),
-    }
-}
-
-/// Frees the lock with index `lock`, which the task `who` holds, through the seat (a right to use the locks) in `held`.
-pub(crate) fn free_held(held: &mut Option<Seated>, lock: usize, who: u64) -> ArachneLockTold
-    ensures { IsFreeTold lock who held.old held.new result }
-{
-    match held {
-        Some(seated) if seated.has(lock) => told_freed(seated.free(lock, who)),
-        _ => code_alone(REFUSED),
-    }
-}
-
-/// Takes the task `who` out of the queue of the lock with index `lock`, through the seat (a right to use the locks) in
-/// `held`.
-pub(crate) fn withdraw_held(held: &mut Option<Seated>, lock: usize, who: u64) -> ArachneLockTold
-    ensures { IsWithdrawTold lock who held.old held.new result }
-{
-    match held {
-        Some(seated) if seated.has(lock) => told_withdrawn(seated.withdraw(lock, who)),
-        _ => code_alone(REFUSED),
-    }
-}
-
-/// Checks if the task `who` holds the lock with index `lock`, through the seat (a right to use the locks) in `held`.
-pub(crate) fn check_held(held: &mut Option<Seated>, lock: usize, who: u64) -> ArachneLockTold
-    ensures { IsCheckTold lock who held.old held.new result }
-{
-    match held {
-        Some(seated) if seated.has(lock) => told_checked(seated.check(lock, who)),
-        _ => code_alone(REFUSED),
     }
 }

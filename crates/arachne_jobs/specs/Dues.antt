@@ -7,7 +7,7 @@ use Rattle.arachne_machine.specs.Tallying.{AdvancesOver, Dues}
 use Rattle.arachne_machine.specs.declared.pause.Pause.{Pause}
 use Rattle.arachne_jobs.specs.Cells.{HasNotBegun}
 use Rattle.arachne_jobs.specs.Threads.{Thread, IsAwaiting}
-use Rattle.arachne_jobs.specs.declared.due.Due.{Due}
+use Rattle.arachne_jobs.specs.declared.openings.Due.{Due}
 
 -- what is due to this ledger
 abbrev pub due_to : Due → ℕ → ℕ

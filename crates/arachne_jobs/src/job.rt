@@ -1,5 +1,4 @@
-//! A job: a thread of the program that has a thread slot of its own, with its ends of join cells (each carries one
-//! thread's outcome to its parent).
+//! A job: a thread of the program that has a thread slot of its own, with its ends of join cells.
 ghost use Rattle.std.specs.Prelude.{◌≡◌, ◌≤◌, ◌<◌, ℕ, List, [], false, true, vec_capacity, vec_len, IfErr, IfNone, IfOk, IfSome, IsSome, OnErr, OnOk, None, Some};
 ghost use Rattle.arachne_program.specs.declared.program.Program.{Program};
 ghost use Rattle.arachne_program.specs.Program.{source_of};
@@ -232,8 +231,7 @@ impl<'p> RunJob for Job<'p> {
         let mut waits = Vec::with_capacity(alloc, 1).ok()?;
         let mut ties = spares.ties.take(alloc, None).ok()?;
         let contents = spares.threads.take_contents().ok()?;
-        // The child is taken out of its cell last. If memory was refused before that, the child still waits for its
-        // parent.
+        // The child is taken out of its cell last: if memory was refused before, it still waits for its parent.
         let Some((waiting, cell, end)) = ticket.take() else {
             spares.ties.keep(ties);
             spares.threads.keep_contents(contents);

@@ -5,35 +5,32 @@
 //! that child, is then in a queue. Whichever comes first takes the child out of the cell: a worker that has popped the
 //! ticket and has a free slot, or the parent when it waits for the child.
 //!
-//! A *tag* is the number by which a run identifies a thread. Workers see a job only through the traits in the module
-//! `slice`.
+//! A *tag* is the number by which a run identifies a thread. Workers see a job only through the traits in `slice`.
 #![tactic(auto)]
 
 mod classes;
-mod due;
 mod ends;
 mod fault;
 mod job;
 mod left;
 mod openings;
-mod queued;
 mod room;
 mod slice;
 mod spares;
-mod tags;
+mod spill;
 mod ties;
 mod waiting;
 mod wanted;
 
 pub use classes::has_exclusive;
-pub use due::Due;
 pub use fault::JobFault;
 pub use job::Job;
-pub use openings::Openings;
-pub use queued::{make_room, next_ticket, put_ticket};
-pub use room::Room;
+pub use openings::{Due, Openings};
+pub use room::{BLOCK, Room, Tags};
 pub use slice::{JobOf, RunJob, RunSpares, RunThread, RunTicket, Slice};
 pub use spares::JobSpares;
-pub use tags::{BLOCK, Tags};
+pub use spill::{
+    CAPACITY, SpillPass, SpillQueue, make_room, next_ticket, put_ticket, tags_stay_balanced,
+};
 pub use waiting::Ticket;
 pub use wanted::{OutcomeReceiver, OutcomeSender, Wanted};

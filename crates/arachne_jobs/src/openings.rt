@@ -1,13 +1,52 @@
-//! Decides at each fork if the child may get a thread slot of its own, and collects the amounts that a worker's threads
-//! add to ledgers (shared sums).
+//! Decides at each fork if the child may get a thread slot, and collects what threads add to ledgers (shared sums).
 ghost use Rattle.std.specs.Prelude.{◌≡◌, ◌↔◌, ◌≤◌, ◌+◌, ◌%◌, ◌^◌, false, true, if◌then◌else◌, IsTrue};
+ghost use Rattle.arachne_machine.specs.Tallying.{GainsAt};
+ghost use Rattle.arachne_jobs.specs.Dues.{IsOfAnother, due_to};
 ghost use Rattle.arachne_jobs.specs.declared.openings.TheConstants.{LARGE};
 
-use crate::due::Due;
-use crate::room::Room;
-use crate::tags::Tags;
-use arachne_machine::Placing;
+use crate::room::{Room, Tags};
+use arachne_machine::{Placing, Tallying};
 use arachne_program::Class;
+
+/// An amount that a worker must still add to a ledger (a sum that threads share), and the number of that ledger.
+#[derive(Clone, Copy, Debug)]
+pub struct Due {
+    pub ledger: u64,
+    /// The amount, modulo 2^64. If it is 0, the worker must add nothing.
+    pub amount: u64,
+}
+
+impl Due {
+    /// Returns an amount of 0, for which the worker must add nothing.
+    pub fn none() -> Due
+        ensures { result.amount ≡ 0 }
+    {
+        Due {
+            ledger: 0,
+            amount: 0,
+        }
+    }
+}
+
+impl Tallying for Due {
+    ghost due_to = { due_to };
+
+    /// Adds `amount` to what the worker must still add to the ledger of number `ledger`. If another ledger's amount is
+    /// still to be added, returns false and changes nothing.
+    #[inline(always)]
+    fn take(&mut self, ledger: u64, amount: u64) -> bool
+        ensures taken { result ≡ true → GainsAt (due_to self.old) ledger amount (due_to self.new) }
+        ensures full { result ≡ false → self.new ≡ self.old }
+        ensures another { result ≡ false → IsOfAnother self.old ledger }
+    {
+        if self.amount != 0 && self.ledger != ledger {
+            return false;
+        }
+        self.ledger = ledger;
+        self.amount = self.amount.wrapping_add(amount);
+        true
+    }
+}
 
 /// The data of a worker that its threads change while they run.
 #[derive(Drop)]
@@ -50,8 +89,7 @@ impl Openings {
         }
     }
 
-    /// Records if the forked child is large: if it has at least `LARGE` iterations of a sweep (a parallel reduction) to
-    /// run.
+    /// Records if the forked child has at least `LARGE` iterations of a sweep (a parallel reduction) to run.
     #[inline(always)]
     fn note_turns(&mut self, turns: u64)
         ensures others { self.new ≡ record self.old { is_large = self.new.is_large } }

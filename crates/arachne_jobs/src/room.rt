@@ -1,11 +1,13 @@
 //! Shared counters that a worker reads before each fork: of free thread slots, of children that wait for one, and of
-//! tags.
+//! tags. A tag is the number by which the run identifies a thread.
 ghost use Rattle.std.specs.Prelude.{◌≡◌, ◌↔◌, ◌+◌, ◌<◌, ◌≤◌, ◌*◌, ◌%◌, ◌^◌, IsTrue};
-ghost use Rattle.arachne_jobs.specs.declared.tags.TheConstants.{BLOCK};
+ghost use Rattle.arachne_jobs.specs.declared.room.TheConstants.{BLOCK};
 
-use crate::tags::BLOCK;
 use crossbeam_utils::CachePadded;
 use std::sync::atomic::{AtomicU64, Ordering};
+
+/// The number of tags (numbers that identify threads) in a block. A worker gets a whole block by one atomic operation.
+pub const BLOCK: u64 = 64;
 
 /// Shared counters of the free thread slots, of the children that wait for a slot, and of the blocks of tags
 /// (identifying numbers) that were handed out. Each counter has a cache line of its own.
@@ -97,8 +99,7 @@ impl Room {
     }
 }
 
-/// Returns the first tag of the block of number `block`. The blocks follow one another without a gap, and the first
-/// begins at tag 1.
+/// Returns the first tag of the block of number `block`. The first block begins at tag 1, and there is no gap.
 #[inline(always)]
 fn first_tag(block: u64) -> u64
     ensures { result ≡ BLOCK * (block % 2 ^ 58) + 1 }
@@ -127,4 +128,38 @@ fn or_zero(number: u64) -> u64
     ensures below { 2 ^ 63 ≤ number → result ≡ 0 }
 {
     if number > u64::MAX / 2 { 0 } else { number }
+}
+
+/// A block of tags, numbers that identify threads, from which a worker gives one to each new thread.
+#[derive(Debug, Drop)]
+pub struct Tags {
+    pub next: u64,
+    pub left: u64,
+}
+
+impl Tags {
+    /// Returns an empty block of tags.
+    pub fn new() -> Tags
+        ensures { result.left ≡ 0 }
+    {
+        Tags { next: 0, left: 0 }
+    }
+
+    /// Returns the next tag of the block. If none is left, gets a new block from `room` and returns its first tag.
+    pub fn take(&mut self, room: &Room) -> u64
+        ensures of_block { 0 < self.old.left → result ≡ self.old.next }
+        ensures next { result < u64.MAX → self.new.next ≡ result + 1 }
+        ensures fewer { 0 < self.old.left → self.new.left + 1 ≡ self.old.left }
+        ensures first { self.old.left ≡ 0 → result % BLOCK ≡ 1 }
+        ensures drawn { self.old.left ≡ 0 → self.new.left + 1 ≡ BLOCK }
+    {
+        if self.left == 0 {
+            self.next = room.next_block();
+            self.left = BLOCK;
+        }
+        let tag = self.next;
+        self.next = tag.wrapping_add(1);
+        self.left -= 1;
+        tag
+    }
 }

@@ -1,5 +1,4 @@
-//! The traits by which a worker (a core's kernel thread) runs a job for some steps, and then fulfils the request at
-//! which the job has stopped.
+//! The traits by which a worker (a core's kernel thread) runs a job for some steps, and then fulfils its request.
 ghost use Rattle.std.specs.Prelude.{◌≡◌, ◌≤◌, ℕ, List, [], Option, false, IfOk, IfSome, IsSome, None, OnOk, Some};
 ghost use Rattle.arachne_program.specs.Program.{source_of};
 ghost use Rattle.arachne_program.specs.Checked.{IsChecked};

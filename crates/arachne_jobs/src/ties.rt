@@ -1,5 +1,4 @@
-//! A job's ends of join cells (each carries one thread's outcome to its parent) and its parent's id, in a box that
-//! later jobs reuse.
+//! A job's ends of join cells and its parent's id, in a box that later jobs reuse.
 ghost use Rattle.std.specs.Prelude.{◌≡◌, ◌≤◌, ◌+◌, [], IfOk, vec_len, vec_capacity};
 
 use crate::ends::End;
@@ -7,8 +6,7 @@ use arachne_core::ThreadId;
 use std::alloc::{AllocError, Global};
 use std::marker::Model;
 
-/// A job's ends of join cells, the newest last, and its parent's id. This type has no lifetime, so that any job can
-/// reuse it.
+/// A job's ends of join cells, the newest last, and its parent's id. Without a lifetime, so that any job can reuse it.
 #[derive(Drop)]
 pub struct Ties {
     pub(crate) ends: Vec<End>,

@@ -1,5 +1,4 @@
-//! The key of a join cell: the thread whose outcome the cell carries, and that thread's parent. It exists only for
-//! contracts.
+//! The key of a join cell, which exists only for contracts: the thread whose outcome the cell carries.
 ghost use Rattle.std.specs.Prelude.{◌≡◌};
 ghost use Rattle.arachne_jobs.specs.Cells.{IsFor};
 ghost use Rattle.arachne_jobs.specs.Threads.{tag_of};

@@ -8,7 +8,6 @@ ghost use Rattle.std.specs.Prelude.{◌≡◌, ◌≢◌, ◌<◌, ◌==◌, IsS
 ghost use Rattle.arachne_judge.specs.Rules.{broken_by_pull, broken_if, first_broken};
 ghost use Rattle.arachne_judge.specs.declared.rules.Rule.TheVariants.{CoreZero};
 
-use crate::breaks;
 use crate::cores::Core;
 use crate::log::{Entry, Log, What};
 use crate::rules::{Broken, Counts, Rule, Run, Verdict};
@@ -216,14 +215,18 @@ impl<'r> Case<'r> {
 
     fn slice(&mut self, core: u8, nth: u64) {
         let mut known = self.core(core);
-        self.judges(Rule::Numbers, breaks::is_out_of_turn(known.next, nth));
+        self.judges(Rule::Numbers, nth != known.next);
         known.next = nth.saturating_add(1);
         let is_second = known.is_in_slice;
         known.is_in_slice = true;
         self.set_core(core, known);
         self.counts(Rule::InHand);
         match known.turn.and_then(|id| self.thread(id)) {
-            Some(mut thread) if !is_out_of_hand(&thread, core, is_second) => {
+            Some(mut thread)
+                if thread.core == core
+                    && !thread.is_in_slice
+                    && !is_second
+                    && !thread.has_ended() => {
                 thread.is_in_slice = true;
                 self.set_thread(thread);
             }
@@ -240,11 +243,8 @@ impl<'r> Case<'r> {
         let Some(order) = self.run.orders.get(self.applied) else {
             return;
         };
-        let own = self.core(0).ended;
-        self.judges(
-            Rule::Due,
-            breaks::is_overdue(order.after, self.counted, own),
-        );
+        let ended = self.counted.saturating_add(self.core(0).ended);
+        self.judges(Rule::Due, order.after <= ended);
     }
 
     /// Records that a rule is broken for each report that is still missing. Called when core 0 begins a slice, and at
@@ -259,26 +259,23 @@ impl<'r> Case<'r> {
             if known.owes_move {
                 known.owes_move = false;
                 self.untold = self.untold.saturating_add(1);
-                if breaks::is_untold(self.run.has_exclusive, self.untold, self.most_untold()) {
+                let turns = self.counts.of(Rule::OwnCore);
+                let most = UNTOLD.saturating_add(turns / TURNS_PER_UNTOLD);
+                if self.run.has_exclusive || self.untold > most {
                     self.breaks(Rule::OwnCore);
                 }
             }
-            if breaks::parks_for_nothing(known.owes_close, known.owes_return) {
+            if known.owes_close || known.owes_return {
                 known.owes_close = false;
                 known.owes_return = false;
                 self.breaks(Rule::Parks);
             }
             let ends = u64::from(self.is_over);
-            if breaks::unparks_for_nothing(known.unparks, known.grants, ends) {
+            if known.unparks > known.grants.saturating_add(ends) {
                 self.breaks(Rule::Unparks);
             }
             self.set_core(core, known);
         }
-    }
-
-    /// Returns the number of moves of threads that may have stayed unreported so far.
-    fn most_untold(&self) -> u64 {
-        UNTOLD.saturating_add(self.counts.of(Rule::OwnCore) / TURNS_PER_UNTOLD)
     }
 
     fn turn(&mut self, core: u8, id: ThreadId, is_alone: bool) {
@@ -292,7 +289,7 @@ impl<'r> Case<'r> {
         if is_alone {
             self.counts(Rule::Alone);
         }
-        if breaks::is_beside(known.alone, id) {
+        if known.alone.is_some_and(|other| other != id) {
             self.breaks(Rule::Alone);
         }
         if is_alone {
@@ -387,7 +384,7 @@ impl<'r> Case<'r> {
     fn sliced(&mut self, core: u8, steps: u32, end: SliceEnd)
         ensures { self.old.run.quantum < steps → IsSome self.new.broken }
     {
-        self.judges(Rule::Quantum, breaks::is_past(self.run.quantum, steps));
+        self.judges(Rule::Quantum, steps > self.run.quantum);
         self.steps = self.steps.saturating_add(u64::from(steps));
         let mut known = self.core(core);
         if !known.is_in_slice {
@@ -434,7 +431,7 @@ impl<'r> Case<'r> {
         if self.run.has_exclusive {
             self.breaks(Rule::Stays);
         }
-        self.judges(Rule::Pulls, breaks::is_from_there(core, from));
+        self.judges(Rule::Pulls, from == core);
         if let Some(mut thread) = self.thread(id) {
             thread.pulled = Some(core);
             thread.home = home;
@@ -476,14 +473,13 @@ impl<'r> Case<'r> {
     fn applied(&mut self, core: u8, orders: usize)
         ensures { core ≢ 0 → IsSome self.new.broken }
     {
-        let is_another = breaks::is_another(core);
-        self.judges(Rule::CoreZero, is_another);
+        self.judges(Rule::CoreZero, core > 0);
         for nth in self.applied..orders {
             let Some(order) = self.run.orders.get(nth) else {
                 self.breaks(Rule::Due);
                 break;
             };
-            self.judges(Rule::Due, breaks::is_early(order.after, self.ended));
+            self.judges(Rule::Due, self.ended < order.after);
             let of = u8::try_from(order.core).unwrap_or(u8::MAX);
             let mut known = self.core(of);
             if order.kind == OrderKind::Grant {
@@ -504,7 +500,7 @@ impl<'r> Case<'r> {
     fn moved_away(&mut self, core: u8, receivers: u64)
         ensures { self.new.broken ≡ broken_if (not (core == 0)) self.old.broken (record { rule = CoreZero; at = self.old.at }) }
     {
-        self.judges(Rule::CoreZero, breaks::is_another(core));
+        self.judges(Rule::CoreZero, core != 0);
         for receiver in 0..self.run.cores {
             if receivers.checked_shr(u32::from(receiver)).unwrap_or(0) & 1 == 1 {
                 let mut known = self.core(receiver);
@@ -515,16 +511,4 @@ impl<'r> Case<'r> {
             }
         }
     }
-}
-
-/// Returns whether a slice of this thread on `core` breaks the rule `InHand`; see `is_not_in_hand`. `is_second` is true
-/// if the core is in a slice already.
-fn is_out_of_hand(thread: &ThreadFacts, core: u8, is_second: bool) -> bool {
-    breaks::is_not_in_hand(
-        core,
-        thread.core,
-        thread.is_in_slice,
-        is_second,
-        thread.has_ended(),
-    )
 }

@@ -7,7 +7,6 @@
 //! terms are in `docs/glossary.md`.
 #![tactic(auto)]
 
-mod breaks;
 mod case;
 mod cores;
 mod log;

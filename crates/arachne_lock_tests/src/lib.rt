@@ -5,8 +5,6 @@
 #![tactic(auto)]
 
 #[cfg(test)]
-mod contended;
-#[cfg(test)]
 mod rows;
 #[cfg(test)]
 mod shortage;

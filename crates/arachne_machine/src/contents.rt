@@ -30,7 +30,7 @@ impl Contents {
     }
 
     /// Returns a placeholder that belongs to no thread. Allocates no memory.
-    fn vacant(alloc: Global) -> Contents {
+    pub(crate) fn vacant(alloc: Global) -> Contents {
         Contents {
             value: 0,
             sums: Vec::new(alloc),

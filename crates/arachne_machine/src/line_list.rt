@@ -52,6 +52,16 @@ impl LineList {
         }
     }
 
+    /// Removes all lines, and makes this a list for threads of a program with `locks` locks. Keeps the capacities.
+    #[inline(always)]
+    pub fn clear(&mut self, locks: usize)
+        ensures { self.new ≡ record { locks = locks; lines = [] } }
+    {
+        self.marks.clear();
+        self.holds.clear();
+        self.locks = locks;
+    }
+
     /// Moves the line `own` into a new list. Returns `Err` if memory is refused; then nothing has changed.
     pub fn of(alloc: Global, own: &mut ThreadLine) -> Result<LineList, AllocError>
         ensures ok { IfOk result (λ list. list ≡ record { locks = length own.old.holds; lines = own.old ∷ [] }) }

@@ -54,6 +54,17 @@ impl Lines {
         }
     }
 
+    /// Removes all lines, and makes this a list for threads of a program with `locks` locks. Keeps the capacity of the
+    /// last list.
+    #[inline(always)]
+    pub fn clear(&mut self, locks: u8)
+        ensures { self.new ≡ [] }
+    {
+        self.earlier.clear();
+        self.count = 0;
+        self.last.clear(usize::from(locks));
+    }
+
     /// Returns the number of lines.
     #[inline(always)]
     pub fn len(&self) -> usize

@@ -10,7 +10,7 @@ use crate::spares::Spares;
 use crate::tables::zeros;
 use arachne_program::{Class, Expr, Name, Program, Sequence};
 use std::alloc::{AllocError, Global};
-use std::mem::replace;
+use std::mem::{replace, swap};
 
 /// A thread's line in the report of a run: its name, its tag (identifying number), the kind of thread slot in which it
 /// runs, and how often it held each lock.
@@ -191,7 +191,7 @@ impl<'p> State<'p> {
         self.environment.extend_from_slice(environment)?;
         self.frames.clear();
         self.parents.clear();
-        self.lines = Lines::new(self.alloc, program.locks);
+        self.lines.clear(program.locks);
         self.program = program;
         self.own = own;
         self.sums = sums;
@@ -382,23 +382,22 @@ impl<'p> State<'p> {
         self.lines.at(self.level.place).tag()
     }
 
-    /// Moves the value, the ledger sums and the report lines out of the state of a thread that has ended.
+    /// Moves the value, the ledger sums and the report lines of a thread that has ended into `contents`. The earlier
+    /// sums and lines of `contents` are left in this state, so that the next thread reuses their memory.
     #[inline(always)]
-    pub fn finish(&mut self) -> Contents
+    pub fn finish(&mut self, contents: &mut Contents)
         requires ended { pending_of self.old.control ≡ Some pause.Ended }
         requires alone { self.old.parents.items ≡ [] }
         requires sound { IsSoundState self.old }
-        ensures sums { result.sums.items ≡ self.old.sums.items }
-        ensures own { result.own ≡ own_line self.old.own }
-        ensures below { result.below ≡ self.old.lines }
-        ensures of_its_name { IsOfItsName (finished self.old.program.now result) }
+        ensures sums { contents.new.sums.items ≡ self.old.sums.items }
+        ensures own { contents.new.own ≡ own_line self.old.own }
+        ensures below { contents.new.below ≡ self.old.lines }
+        ensures of_its_name { IsOfItsName (finished self.old.program.now contents.new) }
     {
-        Contents {
-            value: self.value(),
-            sums: replace(&mut self.sums, Vec::new(self.alloc)),
-            own: self.own.take_line(self.alloc),
-            below: replace(&mut self.lines, Lines::new(self.alloc, self.program.locks)),
-        }
+        contents.value = self.value();
+        contents.own = self.own.take_line(self.alloc);
+        swap(&mut contents.sums, &mut self.sums);
+        swap(&mut contents.below, &mut self.lines);
     }
 
     /// Returns the value of a thread that has ended.

@@ -442,9 +442,12 @@ impl<'p> Thread<'p> {
         ensures lines { result.lines ≡ own_line_of (whole self.entry) ∷ (whole self.entry).below }
     {
         let mut state = self.state;
+        let program = state.program;
+        let mut parts = Contents::vacant(state.alloc);
+        state.finish(&mut parts);
         Outcome {
-            program: state.program,
-            contents: state.finish(),
+            program,
+            contents: parts,
         }
     }
 
@@ -460,7 +463,7 @@ impl<'p> Thread<'p> {
         let mut state = self.state;
         let mut contents = contents;
         let program = Snapshot::of(state.program);
-        *contents = state.finish();
+        state.finish(&mut contents);
         spares.keep(state);
         DetachedOutcome { program, contents }
     }

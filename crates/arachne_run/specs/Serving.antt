@@ -4,7 +4,7 @@ use Rattle.arachne_machine.specs.declared.pause.Pending.{Pending}
 use Rattle.arachne_machine.specs.declared.pause.Pending.TheVariants as pause
 use Rattle.arachne_workers.specs.declared.desk.ThreadStop.{ThreadStop}
 use Rattle.arachne_workers.specs.declared.desk.ThreadStop.TheVariants as stop
-use Rattle.arachne_jobs.specs.declared.due.Due.{Due}
+use Rattle.arachne_jobs.specs.declared.openings.Due.{Due}
 use Rattle.arachne_ledger.specs.Sums.{raised}
 use Rattle.arachne_sleep.specs.Calls.{AskAnswer, CheckAnswer}
 use Rattle.arachne_sleep.specs.SleepLocks.{ChangesAt}

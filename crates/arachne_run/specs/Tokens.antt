@@ -9,14 +9,14 @@ use Rattle.arachne_weights.specs.Weight.{whole}
 use Rattle.arachne_ledger.specs.Views.{IsShareOf, IsWhole as IsWholeShare}
 use Rattle.arachne_sleep.specs.SleepLocks.{AreSeatsOf}
 use Rattle.arachne_sleep.specs.Views.{IsWhole as IsWholeSeat}
-use Rattle.arachne_spill.specs.Views.{IsPassOf, IsWhole as IsWholePass, QueueView}
+use Rattle.arachne_jobs.specs.Views.{IsPassOf, IsWhole as IsWholePass, QueueView}
 use Rattle.arachne_arbiter.specs.Orders.{Progress}
 use Rattle.arachne_core.specs.declared.layout.TheConstants.{CORES, SLOTS}
-use Rattle.arachne_run.specs.declared.in_hand.InHand.{InHand}
+use Rattle.arachne_run.specs.declared.seat.InHand.{InHand}
 use Rattle.arachne_run.specs.declared.machine.Machine.{Machine}
 use Rattle.arachne_run.specs.declared.resources.Holdings.{Holdings}
 use Rattle.arachne_run.specs.declared.resources.Resources.{Resources}
-use Rattle.arachne_run.specs.declared.tokens.Tokens.{Tokens}
+use Rattle.arachne_run.specs.declared.machine.Tokens.{Tokens}
 
 -- what a worker's seat is a seat at: the table, the queue of tickets, the ledgers and locks, how many cores and orders
 -- there are, the most steps of a slice, and whether workers may move threads to their own cores

@@ -2,7 +2,6 @@
 //! kernel thread is in a call on the same lock.
 ghost use Rattle.std.specs.Prelude.{◌≡◌, ◌<◌, ◌≤◌, false, Err, None, Ok, MatchOption, IfErr, IfOk, IfSome, IsOk, OnOk, length};
 ghost use Rattle.arachne_ledger.specs.Sums.{raised};
-ghost use Rattle.arachne_ledger.specs.Views.{IsShareOf};
 ghost use Rattle.arachne_sleep.specs.Calls.{FreeAnswer};
 ghost use Rattle.arachne_sleep.specs.SleepLocks.{AreSeatsOf, ChangesAt};
 ghost use Rattle.arachne_run.specs.Serving.{IsGrantBy, IsServed, IsSettled, IsWantOf, StopsAt, has_lock_after, has_lock_by, is_wait, sums_after};
@@ -18,7 +17,6 @@ use crate::resources::{Holdings, Resources};
 use arachne_arbiter::Pace;
 use arachne_core::ThreadId;
 use arachne_jobs::{Due, RunThread};
-use arachne_ledger::{Ledgers, Share};
 use arachne_sleep::{Freed, LockSeats, NotHolder, SleepLocks, Tried, Who};
 use arachne_workers::{ThreadStop, stand_by};
 use std::marker::Model;
@@ -83,8 +81,7 @@ impl<'a> Model for Access<'a> {
 }
 
 impl<'a> Access<'a> {
-    /// Creates a worker's access to the locks and ledgers in `resources`; `holdings` are the worker's rights to use
-    /// them.
+    /// Creates a worker's access to the locks and ledgers in `resources`, by its rights to use them.
     pub(crate) fn new(resources: &'a Resources, holdings: Holdings) -> Access<'a>
         requires { AreHoldingsOf resources.now holdings }
         ensures { result ≡ record { resources = resources.now; sums = holdings.share.sums } }
@@ -191,8 +188,7 @@ impl<'a> Access<'a> {
         unreachable!()
     }
 
-    /// Frees a lock, and tries again while another kernel thread is in a call on it. Returns whether another thread
-    /// holds the lock now.
+    /// Frees a lock, and tries again while another kernel thread is in a call on it. Returns the next holder, if any.
     pub(crate) fn free<H: Wait + Clock>(
         &mut self,
         rt: &H,
@@ -238,12 +234,8 @@ impl<'a> Access<'a> {
     ) -> Result<Tried<Result<Freed, NotHolder>>, WorkerFault>
         ensures { self.new ≡ self.old }
     {
-        free_at(
-            &self.resources.locks,
-            &mut self.holdings.lock_seats,
-            lock,
-            who,
-        )
+        let seats = &mut self.holdings.lock_seats;
+        free_at(&self.resources.locks, seats, lock, who)
     }
 
     /// Adds the amount in `due`, which threads of this worker have tallied, to its ledger. Then sets that amount to 0.
@@ -253,7 +245,12 @@ impl<'a> Access<'a> {
         ensures added { OnOk result (IsSettled due.old self.old.sums self.new.sums) }
         ensures settled { OnOk result (due.new.amount ≡ 0) }
     {
-        settle_at(&self.resources.ledgers, &mut self.holdings.share, due)
+        if due.amount == 0 {
+            return Ok(());
+        }
+        self.add(due.ledger, due.amount)?;
+        due.amount = 0;
+        Ok(())
     }
 
     /// Adds `amount` to the ledger (counter) of number `ledger`. The error is `Foreign` if there is no such ledger,
@@ -261,14 +258,19 @@ impl<'a> Access<'a> {
     pub(crate) fn add(&mut self, ledger: u64, amount: u64) -> Result<(), WorkerFault>
         ensures same { self.new.resources ≡ self.old.resources }
         ensures raised { OnOk result (self.new.sums ≡ raised self.old.sums ledger amount) }
+        ensures there { ledger < self.old.resources.ledgers.count → IsOk result }
+        ensures missing { self.old.resources.ledgers.count ≤ ledger → (result ≡ Err Foreign) × (self.new ≡ self.old) }
     {
         let ledgers = &self.resources.ledgers;
-        add_to(ledgers, &mut self.holdings.share, ledger, amount)
+        if ledger >= ledgers.count() as u64 {
+            return Err(WorkerFault::Foreign);
+        }
+        ledgers.add(&mut self.holdings.share, ledger as usize, amount);
+        Ok(())
     }
 }
 
-/// Returns how the worker continues after a thread has freed a lock: if another thread holds the lock now, the worker
-/// must wake that thread.
+/// Returns how the worker continues after a thread has freed a lock: it must wake the thread that holds the lock now.
 #[inline(always)]
 fn stop_after(freed: Freed) -> ThreadStop
     ensures next { MatchOption freed.next (result ≡ stopped.Goes) (λ next. result ≡ stopped.Wakes next.id) }
@@ -294,39 +296,6 @@ fn free_at(
 {
     let lock = number_of(locks, lock)?;
     Ok(locks.free(seats, lock, who))
-}
-
-/// Adds `amount` to the sum that `share` has for the ledger of number `ledger`. The error is `Foreign` if there is no
-/// such ledger.
-fn add_to(ledgers: &Ledgers, share: &mut Share, ledger: u64, amount: u64) -> Result<(), WorkerFault>
-    requires { IsShareOf ledgers.now share.old }
-    ensures own { IsShareOf ledgers.now share.new }
-    ensures raised { OnOk result (share.new.sums ≡ raised share.old.sums ledger amount) }
-    ensures there { ledger < ledgers.now.count → IsOk result }
-    ensures missing { ledgers.now.count ≤ ledger → (result ≡ Err Foreign) × (share.new ≡ share.old) }
-{
-    if ledger >= ledgers.count() as u64 {
-        return Err(WorkerFault::Foreign);
-    }
-    ledgers.add(share, ledger as usize, amount);
-    Ok(())
-}
-
-/// Adds the amount in `due`, which threads have tallied, to the sum in `share` for its ledger. Then sets that amount to
-/// 0.
-#[inline(always)]
-fn settle_at(ledgers: &Ledgers, share: &mut Share, due: &mut Due) -> Result<(), WorkerFault>
-    requires { IsShareOf ledgers.now share.old }
-    ensures own { IsShareOf ledgers.now share.new }
-    ensures added { OnOk result (IsSettled due.old share.old.sums share.new.sums) }
-    ensures settled { OnOk result (due.new.amount ≡ 0) }
-{
-    if due.amount == 0 {
-        return Ok(());
-    }
-    add_to(ledgers, share, due.ledger, due.amount)?;
-    due.amount = 0;
-    Ok(())
 }
 
 /// Returns `lock` as a `u8`, if there is a lock of this number. Otherwise the error is `Foreign`.

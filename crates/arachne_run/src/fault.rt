@@ -30,7 +30,7 @@ pub enum RunFault {
     Worker(WorkerFault),
 }
 
-/// A fault that a worker met, or that was found after all workers had ended, as opposed to a fault of the setup.
+/// A fault that a worker met, or that was found after all workers had ended.
 #[derive(Clone, Copy, Debug, PartialEq, Eq, Error)]
 pub enum WorkerFault {
     /// The allocator refused memory.

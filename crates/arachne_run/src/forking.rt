@@ -1,12 +1,11 @@
 //! Gives slots to threads: the child of a fork gets a slot, waits for one, or runs inside its parent's slot.
 //!
-//! The caller passes the seat (the right to access the table) by which this module uses the table, and the queue of
-//! tickets (entries of waiting children).
+//! The caller passes the seat (the right to access the table), and the pass of the queue of waiting children.
 ghost use Rattle.std.specs.Prelude.{◌≡◌, ◌↔◌, ◌<◌, ◌≤◌, [], ◌∷◌, false, IfOk, IfSome, IsOk, IsSome, IsTrue, OnOk, map};
 ghost use Rattle.rand_core.specs.Stream.{next_u64};
 ghost use Rattle.arachne_arbiter.specs.Placed.{GetsPlace, IsAtStartOfSome};
 ghost use Rattle.arachne_contexts.specs.Out.{Claim as a_claim, HasOut};
-ghost use Rattle.arachne_spill.specs.Views.{IsPassOf};
+ghost use Rattle.arachne_jobs.specs.Views.{IsPassOf};
 ghost use Rattle.arachne_run.specs.Serving.{StopsAt};
 ghost use Rattle.arachne_run.specs.Tokens.{IsOutWith, IsSetUp, IsSpent, thread_in};
 
@@ -16,9 +15,8 @@ use crate::machine::Machine;
 use crate::stack::Stack;
 use arachne_arbiter::{Cores, Pace};
 use arachne_contexts::{Contexts, Held, Identified, Placed};
-use arachne_jobs::{Openings, RunJob, Slice, make_room, put_ticket};
+use arachne_jobs::{Openings, RunJob, Slice, SpillPass, make_room, put_ticket};
 use arachne_program::Class;
-use arachne_spill::SpillPass;
 use arachne_workers::{PostedThread, ThreadStop};
 use rand_core::Rng;
 use std::alloc::{AllocError, Global};
@@ -66,8 +64,7 @@ pub(crate) fn go_on<H: Wait + Clock, T: RunJob, C: Contexts<T>, R: Rng>(
     let slice = held
         .value
         .slice(left, &mut forks.spares, room, &mut forks.openings)?;
-    // Forks that didn't pause the thread drew no random number; the draws are made up for here, so that the chooser's
-    // later numbers are the same.
+    // Forks that didn't pause the thread drew no random number. The draws are made up for here.
     draw(&mut forks.chooser, forks.openings.draws);
     forks.openings.draws = 0;
     access.settle(&mut forks.openings.due)?;
@@ -100,8 +97,7 @@ fn draw<R: Rng>(chooser: &mut R, words: u64) {
 ///
 /// A normal child gets a slot on the less loaded of two random cores, or else on the first other core with a free slot
 /// (`claim_normal` of `arachne_arbiter`); an exclusive child, which wants a core for itself, gets an empty core. If
-/// there is no slot, a normal child waits if the queue of waiting children has room, and any other child runs inside
-/// its parent's slot.
+/// there is no slot, a normal child waits if the queue has room, and any other child runs inside its parent's slot.
 fn answer_fork<H: Wait, T: RunJob, C: Contexts<T>, R: Rng>(
     rt: &H,
     alloc: Global,
@@ -137,12 +133,11 @@ fn answer_fork<H: Wait, T: RunJob, C: Contexts<T>, R: Rng>(
         return Ok(ThreadStop::Posted(post));
     }
     let tickets = &machine.tickets;
-    let wants_room = is_worth_room(class, forks.openings.is_large);
+    let wants_room = is_normal_and(class, forks.openings.is_large);
     make_room(rt, tickets, room, pass, wants_room);
-    let waits = may_wait(class, !tickets.is_full(rt, pass));
+    let waits = is_normal_and(class, !tickets.is_full(rt, pass));
     if let Some(ticket) = held.value.put_aside(alloc, me, child, tag, waits)? {
-        // If other workers have filled the queue meanwhile, the child waits without a ticket (an entry there), so only
-        // its parent can run it.
+        // If the queue was filled meanwhile, the child waits without a ticket there, so only its parent can run it.
         if put_ticket(rt, tickets, room, pass, ticket).is_ok() {
             return Ok(ThreadStop::Spilled);
         }
@@ -150,10 +145,8 @@ fn answer_fork<H: Wait, T: RunJob, C: Contexts<T>, R: Rng>(
     Ok(ThreadStop::Goes)
 }
 
-/// Claims a slot for a child of this class.
-///
-/// For a normal child the slot is on a core chosen by a random number, for an exclusive child (which wants a core for
-/// itself) on an empty core.
+/// Claims a slot for a child: for a normal one on a core chosen by a random number, for an exclusive one (which wants a
+/// core for itself) on an empty core.
 #[inline(always)]
 fn claim_for<H: Wait, T: RunJob, C: Contexts<T>, R: Rng>(
     cores: &Cores<'_, H, T, C>,
@@ -174,19 +167,11 @@ fn claim_for<H: Wait, T: RunJob, C: Contexts<T>, R: Rng>(
     }
 }
 
-/// Returns whether a child for which no slot was found waits for one. A normal child, which may share a core, waits if
-/// the queue has room; an exclusive one never waits.
-fn may_wait(class: Class, has_room: bool) -> bool
-    ensures { IsTrue result ↔ (class ≡ Class.Normal) × IsTrue has_room }
+/// Returns whether a child of this class may wait for a slot, and `holds` is true. An exclusive child never waits.
+fn is_normal_and(class: Class, holds: bool) -> bool
+    ensures { IsTrue result ↔ (class ≡ Class.Normal) × IsTrue holds }
 {
-    class == Class::Normal && has_room
-}
-
-/// Returns whether it pays to make room in the queue of waiting children for this child: it is large, and may wait.
-fn is_worth_room(class: Class, is_large: bool) -> bool
-    ensures { IsTrue result ↔ (class ≡ Class.Normal) × IsTrue is_large }
-{
-    class == Class::Normal && is_large
+    class == Class::Normal && holds
 }
 
 /// Frees a claimed slot into which no thread was put. The caller must then count the slot as free.

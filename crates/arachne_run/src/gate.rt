@@ -1,11 +1,9 @@
-//! A trait by which tests observe and delay a run: each worker calls it before each slice and at each event of its
-//! core.
+//! A trait by which tests observe and delay a run.
 use arachne_core::ThreadId;
 use arachne_program::Name;
 use arachne_workers::WorkerEvent;
 
-/// A hook that each core's kernel thread calls before each slice and at each event of its core. Tests use it to watch
-/// or delay cores.
+/// A hook that each core's kernel thread calls before each slice and at each event of its core, for tests.
 pub trait Gate {
     /// Called before the slice number `nth` of `core`, counted from 0, begins. The number saturates at 2^64 - 1.
     fn slice(&self, core: u8, nth: u64);

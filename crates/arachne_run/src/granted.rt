@@ -75,8 +75,7 @@ pub(crate) fn ask(locks: &SleepLocks, seats: &mut LockSeats, lock: u8, who: Who)
     }
 }
 
-/// Tries once to check whether a thread that has asked for a lock holds it now. Returns `Got::Contended` if another
-/// kernel thread is in a call on the lock.
+/// Checks once whether a thread that has asked for a lock holds it now. Returns `Got::Contended` as [`ask`] does.
 #[inline(always)]
 pub(crate) fn check(locks: &SleepLocks, seats: &mut LockSeats, lock: u8, who: Who) -> Got
     requires own { AreSeatsOf locks.now seats.old }

@@ -9,13 +9,10 @@
 #![tactic(auto)]
 
 mod access;
-mod audit;
-mod both;
 mod fault;
 mod forking;
 mod gate;
 mod granted;
-mod in_hand;
 mod machine;
 mod report;
 mod resources;
@@ -24,11 +21,9 @@ mod seat;
 mod setup;
 mod shared;
 mod stack;
-mod tokens;
 mod workers;
 
-pub use arachne_jobs::{Job, RunJob, Ticket};
-pub use arachne_spill::{SpillPass, SpillQueue};
+pub use arachne_jobs::{Job, RunJob, SpillPass, SpillQueue, Ticket};
 pub use arachne_workers::{Cause, SliceEnd, WorkerEvent};
 pub use fault::{RunFault, WorkerFault};
 pub use gate::{Gate, OpenGate};

@@ -1,22 +1,23 @@
-//! The report of a run: the program's value, ledgers and threads, and the history of its locks.
-ghost use Rattle.std.specs.Prelude.{◌≡◌, ◌≢◌, [], All, Err, IfOk, length, map};
+//! The report of a run: the program's value, ledgers and threads, and the history of its locks. It is made only if all
+//! threads have different tags (numbers in the run), and the locks' histories match the threads' lines.
+ghost use Rattle.std.specs.Prelude.{◌≡◌, ◌≢◌, ◌⊎◌, ℕ, ◌<◌, ◌≤◌, [], false, true, All, Contains, Err, IfErr, IfNone, IfOk, IfSome, Ok, OnOk, List, length, map, slice_index, slice_index_or};
 ghost use Rattle.arachne_program.specs.Program.{source_of};
 ghost use Rattle.arachne_program.specs.Meaning.{meaning_of};
-ghost use Rattle.arachne_run.specs.Distinct.{AreDistinct};
-ghost use Rattle.arachne_run.specs.Histories.{GrantsAreHolds};
-ghost use Rattle.arachne_run.specs.declared.fault.WorkerFault.TheVariants.{Ledgers, Threads};
+ghost use Rattle.arachne_sleep.specs.declared.event.LockEvent.TheVariants.{Grant};
+ghost use Rattle.arachne_sleep.specs.declared.who.Who.{Who};
+ghost use Rattle.arachne_run.specs.Distinct.{AreDistinct, AreMarksOf, HasClash};
+ghost use Rattle.arachne_run.specs.Histories.{GrantsAreHolds, IsGrantedAsHeld, grants_to};
+ghost use Rattle.arachne_run.specs.declared.fault.WorkerFault.TheVariants.{Ledgers, Memory, Threads};
 ghost use Rattle.arachne_run.specs.Reports.{histories_in, meaning_in, tags_of};
 
-use crate::audit::audit;
 use crate::fault::WorkerFault;
 use crate::resources::Remains;
-use arachne_machine::{DetachedOutcome, ThreadLines};
+use arachne_machine::{DetachedOutcome, LineView, ThreadLines};
 use arachne_program::Sequence;
-use arachne_sleep::History;
-use std::alloc::Global;
+use arachne_sleep::{History, LockEvent};
+use std::alloc::{AllocError, Global};
 
-/// The report of a program that has ended: its value, the sums of its ledgers, its threads, and the histories of its
-/// locks.
+/// The report of a program that has ended: its value, its ledgers' sums, its threads, and its locks' histories.
 #[derive(Debug, Drop)]
 pub struct Report {
     /// The value of the program's root thread.
@@ -66,5 +67,131 @@ impl Report {
             histories,
             applied,
         })
+    }
+}
+
+/// Checks that no two threads have the same tag (number in the run), and that each lock was granted to each thread as
+/// often as the thread's line in the report says.
+fn audit(alloc: Global, threads: &ThreadLines, histories: &[History]) -> Result<(), WorkerFault>
+    ensures distinct { OnOk result (AreDistinct (map (λ line. line.tag) threads.now)) }
+    ensures grants { OnOk result (GrantsAreHolds threads.now (map (λ history. history.items) histories.now)) }
+    ensures fault { IfErr result (λ fault. (fault ≡ Memory) ⊎ (fault ≡ Threads)) }
+{
+    let Some(marks) = marks_of(alloc, threads)? else {
+        return Err(WorkerFault::Threads);
+    };
+    if are_grants_holds(alloc, threads, marks.as_slice(), histories)? {
+        Ok(())
+    } else {
+        Err(WorkerFault::Threads)
+    }
+}
+
+/// Returns a list that is true at the index of each thread's tag, or `None` if two tags are equal or one is 2^64 - 1.
+fn marks_of(alloc: Global, threads: &ThreadLines) -> Result<Option<Vec<bool>>, AllocError>
+    ensures distinct { IfOk result (λ found. IfSome found (λ marks. AreDistinct (map (λ line. line.tag) threads.now))) }
+    ensures marks { IfOk result (λ found. IfSome found (λ marks. AreMarksOf (map (λ line. line.tag) threads.now) marks.items)) }
+    ensures none { IfOk result (λ found. IfNone found (HasClash (map (λ line. line.tag) threads.now))) }
+{
+    let mut marks = Vec::new(alloc);
+    marks.resize(threads.len(), false)?;
+    for line in threads.iter() {
+        let place = place_of(&line);
+        if place == usize::MAX {
+            return Ok(None);
+        }
+        if place >= marks.len() {
+            marks.resize(place + 1, false)?;
+        }
+        if marks[place] {
+            return Ok(None);
+        }
+        marks[place] = true;
+    }
+    Ok(Some(marks))
+}
+
+/// Returns the index of the thread's tag in the list that `marks_of` returns.
+#[inline(always)]
+fn place_of(line: &LineView<'_>) -> usize
+    ensures { result ≡ line.now.tag }
+{
+    line.tag() as usize
+}
+
+/// Returns whether each lock was granted to each thread as often as the thread's line in the report says, and to no
+/// other thread. `marks` is true at the index of each thread's tag.
+fn are_grants_holds(
+    alloc: Global,
+    threads: &ThreadLines,
+    marks: &[bool],
+    histories: &[History],
+) -> Result<bool, AllocError>
+    requires { AreMarksOf (map (λ line. line.tag) threads.now) marks.now }
+    ensures { result ≡ Ok true → GrantsAreHolds threads.now (map (λ history. history.items) histories.now) }
+{
+    for lock in 0..histories.len() {
+        if !is_granted_as_held(alloc, threads, marks, lock, &histories[lock])? {
+            return Ok(false);
+        }
+    }
+    Ok(true)
+}
+
+/// Returns whether the lock of number `lock` was granted to each thread as often as the thread's line in the report
+/// says, and to no other thread. The time is linear in the number of the lock's events and of the threads.
+fn is_granted_as_held(
+    alloc: Global,
+    threads: &ThreadLines,
+    marks: &[bool],
+    lock: usize,
+    history: &History,
+) -> Result<bool, AllocError>
+    requires { AreMarksOf (map (λ line. line.tag) threads.now) marks.now }
+    ensures { result ≡ Ok true → IsGrantedAsHeld lock threads.now history.now.items }
+{
+    let Some(grants) = grants_by_tag(alloc, marks, history)? else {
+        return Ok(false);
+    };
+    for line in threads.iter() {
+        let held = number_at(line.holds(), lock);
+        if number_at(grants.as_slice(), line.tag() as usize) != held {
+            return Ok(false);
+        }
+    }
+    Ok(true)
+}
+
+/// Returns a list that has, at the index of each thread's tag, the number of the lock's grants to that thread. Returns
+/// `None` if the lock was granted to a thread at whose tag `marks` isn't true.
+fn grants_by_tag(
+    alloc: Global,
+    marks: &[bool],
+    history: &History,
+) -> Result<Option<Vec<u64>>, AllocError>
+    ensures grants { IfOk result (λ found. IfSome found (λ grants. (tag : ℕ) → slice_index grants.items tag ≡ grants_to tag history.now.items)) }
+    ensures marked { IfOk result (λ found. IfSome found (λ grants. (who : Who) → Contains history.now.items (Grant who) → slice_index_or marks.now who.tag false ≡ true)) }
+{
+    let mut grants = Vec::new(alloc);
+    grants.resize(marks.len(), 0)?;
+    for event in history.iter() {
+        if let LockEvent::Grant(who) = event {
+            let tag = who.tag as usize;
+            if tag >= grants.len() || !marks[tag] {
+                return Ok(None);
+            }
+            grants[tag] += 1;
+        }
+    }
+    Ok(Some(grants))
+}
+
+/// Returns `numbers[place]`, or 0 if the list is shorter.
+fn number_at(numbers: &[u64], place: usize) -> u64
+    ensures { result ≡ slice_index numbers.now place }
+{
+    match numbers.get(place) {
+        Some(number) => *number,
+        None => 0,
     }
 }

@@ -1,15 +1,11 @@
 //! The ledgers (shared counters) and the locks of a run, and a worker's rights to use them.
-ghost use Rattle.std.specs.Prelude.{◌≡◌, ◌%◌, ◌^◌, All, Err, IfErr, IfOk, IsOk, length, map};
-ghost use Rattle.arachne_ledger.specs.Views.{IsShareOf, IsWhole as IsWholeShare};
+ghost use Rattle.std.specs.Prelude.{◌≡◌, ◌%◌, ◌^◌, All, IfErr, IfOk, length, map};
+ghost use Rattle.arachne_ledger.specs.Views.{IsWhole as IsWholeShare};
 ghost use Rattle.arachne_sleep.specs.History.{IsSound};
 ghost use Rattle.arachne_sleep.specs.OneHolder.{HasOneHolderAtATime};
-ghost use Rattle.arachne_sleep.specs.SleepLocks.{AreSeatsOf};
 ghost use Rattle.arachne_sleep.specs.Views.{IsWhole as IsWholeSeat};
-ghost use Rattle.arachne_run.specs.declared.fault.WorkerFault.TheVariants.{Memory, Token};
 ghost use Rattle.arachne_run.specs.Tokens.{AreHoldingsOf};
 
-use crate::both::both;
-use crate::fault::WorkerFault;
 use arachne_ledger::{Ledgers, Share};
 use arachne_sleep::{History, LockSeats, SleepLocks};
 use std::alloc::{AllocError, Global};
@@ -38,8 +34,7 @@ pub(crate) struct Remains {
 }
 
 impl Resources {
-    /// Creates `ledgers` ledgers and `locks` locks. Also returns the rights to use them, which `split` divides: a share
-    /// of the ledgers and a seat at each lock.
+    /// Creates `ledgers` ledgers and `locks` locks, and the rights to use them, which `split` divides.
     pub(crate) fn new(
         alloc: Global,
         ledgers: u8,
@@ -54,8 +49,7 @@ impl Resources {
         Ok((Resources { ledgers, locks }, Holdings { share, lock_seats }))
     }
 
-    /// Splits a worker's rights (its share and seats) in two, for two workers. If memory is refused, returns them
-    /// unsplit.
+    /// Splits a worker's rights (its share and seats) in two. If memory is refused, returns them unsplit.
     pub(crate) fn split(
         &self,
         alloc: Global,
@@ -92,64 +86,21 @@ impl Resources {
         }
     }
 
-    /// Closes the ledgers and the locks. The caller must have joined all shares and seats into `holdings`; the error is
-    /// `Token` if some of them are missing.
-    pub(crate) fn close(self, alloc: Global, holdings: Holdings) -> Result<Remains, WorkerFault>
-        requires { AreHoldingsOf self holdings }
+    /// Closes the ledgers and the locks. The caller must have joined all shares and seats into `holdings`.
+    pub(crate) fn close(self, alloc: Global, holdings: Holdings) -> Result<Remains, AllocError>
+        requires holdings { AreHoldingsOf self holdings }
+        requires all { IsWholeShare holdings.share × All IsWholeSeat holdings.lock_seats }
         ensures count { IfOk result (λ remains. length remains.histories.items ≡ length self.locks) }
         ensures sound { IfOk result (λ remains. All (λ history. IsSound history.items) remains.histories.items) }
         ensures one_holder { IfOk result (λ remains. All (λ history. HasOneHolderAtATime history.items) remains.histories.items) }
         ensures words { IfOk result (λ remains. remains.words.items ≡ map (λ sum. sum % 2 ^ 64) holdings.share.sums) }
-        ensures missing_share { (IsWholeShare holdings.share → ⊥) → result ≡ Err Token }
-        ensures missing_seat { (All IsWholeSeat holdings.lock_seats → ⊥) → result ≡ Err Token }
-        ensures whole { IsWholeShare holdings.share × All IsWholeSeat holdings.lock_seats → IfErr result (λ fault. fault ≡ Memory) }
-        ensures back { IsOk result → IsWholeShare holdings.share × All IsWholeSeat holdings.lock_seats }
     {
-        let histories = closed_locks(alloc, self.locks, holdings.lock_seats);
-        let words = closed_words(alloc, self.ledgers, holdings.share);
-        let (histories, words) = both(histories, words)?;
+        let Ok(histories) = self.locks.close(alloc, holdings.lock_seats) else {
+            return Err(AllocError);
+        };
+        let Ok(words) = self.ledgers.close(alloc, holdings.share) else {
+            return Err(AllocError);
+        };
         Ok(Remains { words, histories })
-    }
-}
-
-/// Returns the history of each lock, in the order of the locks. The error is `Token` if not all seats at the locks were
-/// returned.
-fn closed_locks(
-    alloc: Global,
-    locks: SleepLocks,
-    seats: LockSeats,
-) -> Result<Vec<History>, WorkerFault>
-    requires { AreSeatsOf locks seats }
-    ensures missing { (All IsWholeSeat seats → ⊥) → result ≡ Err Token }
-    ensures whole { All IsWholeSeat seats → IfErr result (λ fault. fault ≡ Memory) }
-    ensures back { IsOk result → All IsWholeSeat seats }
-    ensures count { IfOk result (λ histories. length histories.items ≡ length locks) }
-    ensures sound { IfOk result (λ histories. All (λ history. IsSound history.items) histories.items) }
-    ensures one_holder { IfOk result (λ histories. All (λ history. HasOneHolderAtATime history.items) histories.items) }
-{
-    if !locks.are_whole(&seats) {
-        return Err(WorkerFault::Token);
-    }
-    match locks.close(alloc, seats) {
-        Ok(histories) => Ok(histories),
-        Err(_) => Err(WorkerFault::Memory),
-    }
-}
-
-/// Returns the final sum of each ledger, which is also its sum in `share`. The error is `Token` if not all other shares
-/// were joined into `share`.
-fn closed_words(alloc: Global, ledgers: Ledgers, share: Share) -> Result<Vec<u64>, WorkerFault>
-    requires { IsShareOf ledgers share }
-    ensures missing { (IsWholeShare share → ⊥) → result ≡ Err Token }
-    ensures whole { IsWholeShare share → IfErr result (λ fault. fault ≡ Memory) }
-    ensures back { IsOk result → IsWholeShare share }
-    ensures sums { IfOk result (λ words. words.items ≡ map (λ sum. sum % 2 ^ 64) share.sums) }
-{
-    if !share.is_whole() {
-        return Err(WorkerFault::Token);
-    }
-    match ledgers.close(alloc, share) {
-        Ok(words) => Ok(words),
-        Err(_) => Err(WorkerFault::Memory),
     }
 }

@@ -1,28 +1,23 @@
-//! A worker's access to the table, by two seats: it takes, runs and puts back threads, and keeps slots for later
-//! children.
+//! A worker's access to the table: it takes, runs and puts back threads, and keeps slots for later children.
 //!
-//! Only this module and `forking` call the table while threads run. Between two calls, one seat holds the thread that
-//! the worker runs, if there is one, the other holds the slots that the worker keeps for later children, and neither
-//! seat holds anything else.
-ghost use Rattle.std.specs.Prelude.{ℕ, ◌≡◌, ◌≢◌, ◌↔◌, ◌==◌, ◌<◌, ◌≤◌, if◌then◌else◌, false, true, IfOk, IsSome, IsTrue, MatchOption, None, OnOk, Some, map};
+//! Only this module and `forking` call the table while threads run. Between two calls, one of two seats holds only the
+//! thread that the worker runs, if there is one, the other only the slots that it keeps for later children.
+ghost use Rattle.std.specs.Prelude.{ℕ, ◌≡◌, ◌≢◌, ◌↔◌, ◌==◌, ◌<◌, ◌≤◌, if◌then◌else◌, false, true, IfOk, IsSome, IsTrue, MatchOption, None, Some};
 ghost use Rattle.arachne_arbiter.specs.KernelThreads.{parked_cores};
 ghost use Rattle.arachne_arbiter.specs.Orders.{HasAppliedDue};
-ghost use Rattle.arachne_contexts.specs.Out.{Claim as a_claim, KeepsOut};
+ghost use Rattle.arachne_contexts.specs.Out.{KeepsOut};
 ghost use Rattle.arachne_run.specs.Tokens.{AreIdle, IsSetUp, ground_of};
 
 use crate::access::Access;
 use crate::fault::WorkerFault;
 use crate::forking::{ForkSupplies, free_place, give_place_back, go_on, post_waiting};
 use crate::gate::Gate;
-use crate::in_hand::{InHand, has_lock, rests_so};
-use crate::machine::Machine;
+use crate::machine::{Machine, Tokens};
 use crate::stack::Stack;
-use crate::tokens::Tokens;
 use arachne_arbiter::{Arbiter, Cores, Pace, Parking, SliceCounts};
-use arachne_contexts::{Claimed, Contexts, Moved, Placed, Tagged, Taken, Woken};
+use arachne_contexts::{Claimed, Contexts, Held, Moved, Placed, Rested, Tagged, Taken, Woken};
 use arachne_core::{MarkWord, OccWord, Place, Rest, ThreadId};
-use arachne_jobs::{Openings, RunJob, RunSpares, RunThread, RunTicket, next_ticket};
-use arachne_spill::SpillPass;
+use arachne_jobs::{Openings, RunJob, RunSpares, RunThread, RunTicket, SpillPass, next_ticket};
 use arachne_workers::{
     Desk, Grip, Halt, PostedThread, ThreadStop, TicketResult, WorkerEvent, is_drained,
     may_take_ticket,
@@ -57,10 +52,18 @@ pub(crate) struct RunSeat<'a, H, T: RunJob, C: Contexts<T>, R, G> {
     pub(crate) access: Access<'a>,
 }
 
+/// The thread that a worker has taken to run, and whether it was granted a lock since then.
+#[derive(Drop)]
+pub(crate) struct InHand<T, H> {
+    pub(crate) held: Held<T, H>,
+    /// True if the thread was granted a lock since the worker took it, and has freed none since.
+    pub(crate) has_lock: bool,
+}
+
 impl<'a, H, T: RunJob, C: Contexts<T>, R, G> Model for RunSeat<'a, H, T, C, R, G> {
     ghost use Rattle.std.specs.Prelude.{◌≡◌, ◌<◌, false, map};
     ghost use Rattle.arachne_contexts.specs.Out.{Claim as a_claim};
-    ghost use Rattle.arachne_spill.specs.Views.{IsPassOf};
+    ghost use Rattle.arachne_jobs.specs.Views.{IsPassOf};
     ghost use Rattle.arachne_run.specs.Tokens.{ground_of, in_hand, Ground, IsArbiterOf, IsSetUp};
 
     ghost Value = { Ground C };
@@ -72,6 +75,19 @@ impl<'a, H, T: RunJob, C: Contexts<T>, R, G> Model for RunSeat<'a, H, T, C, R, G
         × (s.is_broken ≡ false → C.has s.machine.now.table s.seat (in_hand T.tag_of s.held))
         × (s.is_broken ≡ false → C.has s.machine.now.table s.spare (map a_claim s.kept))
         × IsPassOf s.machine.now.tickets s.pass × IsArbiterOf s.machine.now s.arbiter × (s.access.resources ≡ s.machine.now.resources) };
+}
+
+impl<T, H> InHand<T, H> {
+    /// Returns `held`, which the worker has just taken, as a thread that was granted no lock since then.
+    #[inline(always)]
+    fn taken(held: Held<T, H>) -> InHand<T, H>
+        ensures { result ≡ record { held = held; has_lock = false } }
+    {
+        InHand {
+            held,
+            has_lock: false,
+        }
+    }
 }
 
 impl<'a, H: Wait, T: RunJob, C: Contexts<T>, R: Rng + Drop, G: Gate> RunSeat<'a, H, T, C, R, G> {
@@ -378,18 +394,15 @@ impl<'a, H: Wait + Clock, T: RunJob, C: Contexts<T>, R: Rng + Drop, G: Gate> Des
             return Ok(TicketResult::Gone);
         }
         self.is_broken = true;
-        let posted = post_child::<H, T, C>(
-            rt,
-            self.alloc,
-            machine,
-            &mut self.spare,
-            &mut self.kept,
-            self.core,
-            ticket,
-            &mut self.forks.spares,
-        )?;
+        let (spare, kept) = (&mut self.spare, &mut self.kept);
+        let Some(claim) = free_place::<H, T, C>(rt, machine, spare, kept, self.core)? else {
+            self.is_broken = false;
+            return Ok(TicketResult::Gone);
+        };
+        let job = T::of_ticket(self.alloc, ticket, &mut self.forks.spares);
+        let posted = post_waiting::<H, T, C>(rt, machine, &mut self.spare, claim, job)?;
         self.is_broken = false;
-        Ok(posted)
+        Ok(of_ticket(posted))
     }
 
     fn tend(&mut self) -> (Option<usize>, u64) {
@@ -429,10 +442,8 @@ impl<'a, H: Wait + Clock, T: RunJob, C: Contexts<T>, R: Rng + Drop, G: Gate> Des
 }
 
 /// Carries out the orders that are due to open or close cores, and moves threads away from closed ones
-/// ([`Arbiter::tend`]).
-///
-/// Returns the number of all orders carried out so far, if this call has carried out an order, and the cores to which
-/// it has moved threads, one bit for each.
+/// ([`Arbiter::tend`]). Returns the number of all orders carried out so far, if this call has carried out an order, and
+/// the cores to which it has moved threads, one bit for each.
 #[inline(always)]
 fn tend_by<H: Wait, T: Tagged, C: Contexts<T>>(
     arbiter: &mut Arbiter,
@@ -459,8 +470,7 @@ fn tend_by<H: Wait, T: Tagged, C: Contexts<T>>(
     }
 }
 
-/// Returns whether this worker has `arbiter`, and with it has carried out fewer than `orders` orders to open or close
-/// cores.
+/// Returns whether this worker has `arbiter`, and has carried out fewer than `orders` orders to open or close cores.
 fn has_orders_left(arbiter: &Option<Arbiter>, orders: usize) -> bool
     ensures { MatchOption arbiter.now (result ≡ false) (λ progress. IsTrue result ↔ (progress.applied < orders)) }
 {
@@ -468,33 +478,6 @@ fn has_orders_left(arbiter: &Option<Arbiter>, orders: usize) -> bool
         Some(arbiter) => arbiter.applied() < orders,
         None => false,
     }
-}
-
-/// Puts the child of a ticket (the entry of a waiting child) into a slot, if the child still waits and the core has a
-/// free slot.
-fn post_child<H: Wait, T: RunJob, C: Contexts<T>>(
-    rt: &H,
-    alloc: Global,
-    machine: &Machine<C, T::Ticket>,
-    spare: &mut C::Seat,
-    kept: &mut Stack<C::Claim>,
-    core: u8,
-    ticket: T::Ticket,
-    spares: &mut T::Spares,
-) -> Result<TicketResult, WorkerFault>
-    requires seat { C.sits machine.now.table spare.old }
-    requires out { C.has machine.now.table spare.old (map a_claim kept.old) }
-    requires set_up { IsSetUp C.core_count C.slot_count machine.now }
-    requires core { core < machine.now.cores }
-    ensures seat { C.sits machine.now.table spare.new }
-    ensures out { OnOk result (C.has machine.now.table spare.new (map a_claim kept.new)) }
-{
-    let Some(claim) = free_place::<H, T, C>(rt, machine, spare, kept, core)? else {
-        return Ok(TicketResult::Gone);
-    };
-    let job = T::of_ticket(alloc, ticket, spares);
-    let posted = post_waiting::<H, T, C>(rt, machine, spare, claim, job)?;
-    Ok(of_ticket(posted))
 }
 
 /// Returns the result of a ticket: `Posted` if its child was put into a slot, `Gone` if the child no longer waited.
@@ -505,5 +488,29 @@ fn of_ticket(posted: Option<PostedThread>) -> TicketResult
     match posted {
         Some(post) => TicketResult::Posted(post),
         None => TicketResult::Gone,
+    }
+}
+
+/// Returns whether the worker runs a thread that was granted a lock since the worker took it, and has freed none since.
+#[inline(always)]
+fn has_lock<T, H>(in_hand: &Option<InHand<T, H>>) -> bool
+    ensures { MatchOption in_hand.now (result ≡ false) (λ thread. result ≡ thread.has_lock) }
+{
+    match in_hand {
+        Some(thread) => thread.has_lock,
+        None => false,
+    }
+}
+
+/// Returns the state in which the worker has put back a thread: ready if another worker woke the thread meanwhile,
+/// otherwise `asked`, as the worker requested.
+#[inline(always)]
+fn rests_so(rested: Rested, asked: Rest) -> Rest
+    ensures as_asked { rested ≡ Rested.AsAsked → result ≡ asked }
+    ensures woken { rested ≡ Rested.WokenMeanwhile → result ≡ Rest.Ready }
+{
+    match rested {
+        Rested::AsAsked => asked,
+        Rested::WokenMeanwhile => Rest::Ready,
     }
 }

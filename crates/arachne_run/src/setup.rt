@@ -24,8 +24,7 @@ pub struct Setup {
 }
 
 impl Setup {
-    /// Checks these settings, and that there are as many `choosers` (random generators) as cores. Returns the first
-    /// fault that it finds.
+    /// Returns the first fault of these settings, also if there are not as many `choosers` as cores.
     pub(crate) fn check(&self, choosers: usize) -> Result<(), RunFault>
         ensures refused { (fault : RunFault) → refusal_of self.now.cores self.now.quantum self.now.slots choosers ≡ Some fault → result ≡ Err fault }
         ensures accepted { IsOk result → refusal_of self.now.cores self.now.quantum self.now.slots choosers ≡ None }

@@ -3,16 +3,14 @@ ghost use Rattle.std.specs.Prelude.{◌≡◌, IfOk, MatchOption, Some};
 ghost use Rattle.arachne_run.specs.Setups.{numbered};
 
 use crate::fault::WorkerFault;
-use arachne_jobs::Room;
-use arachne_spill::CAPACITY;
+use arachne_jobs::{CAPACITY, Room};
 use arachne_workers::{Halt, SharedWords};
 use std::alloc::{AllocError, Global};
 use std::marker::Model;
 use std::snapshot::Snapshot;
 use std::sync::{Mutex, Wait};
 
-/// The words by which workers wake one another, the words that are read before each fork, and the first fault of any
-/// worker.
+/// The words by which workers wake one another, those that are read before each fork, and the first fault of a worker.
 #[derive(Drop)]
 pub(crate) struct SharedState {
     room: Room,
@@ -20,8 +18,7 @@ pub(crate) struct SharedState {
     workers: SharedWords,
 }
 
-/// Zero-sized evidence that [`SharedState::fail`] has stopped all workers for a fault. A worker that fails returns this
-/// value instead of its tokens.
+/// Zero-sized evidence that [`SharedState::fail`] has stopped all workers. A worker that fails returns it.
 #[derive(Drop)]
 pub(crate) struct Failed {
     fault: Snapshot<WorkerFault>,

@@ -6,11 +6,10 @@ ghost use Rattle.arachne_run.specs.declared.fault.WorkerFault.TheVariants.{Kerne
 
 use crate::fault::WorkerFault;
 use crate::gate::Gate;
-use crate::machine::Machine;
+use crate::machine::{Machine, Tokens};
 use crate::seat::RunSeat;
 use crate::shared::Failed;
 use crate::stack::Stack;
-use crate::tokens::Tokens;
 use arachne_arbiter::Pace;
 use arachne_contexts::{Contexts, Tagged};
 use arachne_jobs::RunJob;
@@ -188,9 +187,8 @@ where
 
 /// Runs the worker of a core until all workers stop. If there is a root thread, it runs first.
 ///
-/// Returns the worker's tokens (its rights to use the shared objects). After a fault, stops all workers and returns no
-/// tokens, since this worker's seats perhaps still hold a thread or slots. A missing chooser (random generator) is a
-/// fault.
+/// Returns the worker's tokens (its rights to use the shared objects). After a fault, as is a missing chooser, stops
+/// all workers and returns no tokens, since this worker's seats perhaps still hold a thread or slots.
 fn work_on<H: Wait + Clock, T: RunJob, C: Contexts<T>, R: Rng + Drop, G: Gate>(
     rt: &H,
     alloc: Global,
@@ -249,8 +247,7 @@ fn worker_on<'a, H, D, C, K: Tagged + Drop>(
     }
 }
 
-/// Returns the tokens (rights to use the shared objects) of a worker that has ended. Returns an error if the worker's
-/// seats still hold a thread or slots.
+/// Returns the tokens of a worker that has ended, or an error if its seats still hold a thread or slots.
 fn into_tokens<'a, H: Wait, T: RunJob, C: Contexts<T>, R: Rng + Drop, G: Gate>(
     machine: &Machine<C, T::Ticket>,
     desk: RunSeat<'a, H, T, C, R, G>,

@@ -89,13 +89,6 @@ impl SleepLock {
         ))
     }
 
-    /// Returns the lock's number.
-    pub fn number(&self) -> u8
-        ensures { result ≡ self.now.number }
-    {
-        self.number
-    }
-
     /// Asks for the lock for the user thread `who`. If nobody holds the lock, `who` gets it at once, and otherwise
     /// waits.
     ///

@@ -88,10 +88,3 @@ fn none_to_sixteen_ledgers(rt: HostRuntime) -> Result<(), AllocError> {
     }
     Ok(())
 }
-
-#[test]
-fn more_ledgers_than_memory_are_refused(rt: HostRuntime) {
-    for count in [1 << 59, usize::MAX] {
-        assert!(rt; Ledgers::new(rt.alloc(), count).is_err());
-    }
-}

@@ -1,15 +1,10 @@
-//! Tests of the queue of waiting children: one that is filled until it refuses and then emptied, and one into which one
-//! kernel thread pushes and from which another pops.
-ghost use Rattle.arachne_spill.specs.Views.{IsPassOf};
+//! Test of the queue of waiting children: it is filled until it refuses, and then emptied.
+ghost use Rattle.arachne_jobs.specs.Views.{IsPassOf};
 
 use arachne_contexts::Tagged;
-use arachne_spill::{CAPACITY, SpillPass, SpillQueue};
+use arachne_jobs::{CAPACITY, SpillPass, SpillQueue};
 use std::alloc::AllocError;
 use std::sync::Wait;
-use std::thread;
-use std::thread::Threads;
-
-const TICKETS: u64 = 10_000;
 
 #[derive(Drop)]
 struct Ticket {
@@ -76,80 +71,5 @@ fn the_257th_ticket_comes_back(rt: HostRuntime) -> Result<(), AllocError> {
     let drained = looks(&rt, &queue, &mut pass);
     assert!(rt; (empty, full, drained) == ((true, false), (false, true), (true, false)));
     assert!(rt; (refused, popped, CAPACITY) == (Some(256), Some(256), 256));
-    Ok(())
-}
-
-/// Pushes a ticket, and tries again as long as the queue is full.
-fn push_at_last<R: Wait>(rt: &R, queue: &Queue, pass: &mut Pass, ticket: Ticket)
-    requires { IsPassOf queue.now pass.old }
-    ensures { IsPassOf queue.now pass.new }
-{
-    let mut waiting = ticket;
-    for _ in rt.forever() {
-        match queue.push(rt, pass, waiting) {
-            Ok(()) => return,
-            Err(ticket) => waiting = ticket,
-        }
-        thread::yield_now();
-    }
-}
-
-/// Waits until the queue has a ticket, pops it, and returns its tag (its number).
-fn pop_at_last<R: Wait>(rt: &R, queue: &Queue, pass: &mut Pass) -> u64
-    requires { IsPassOf queue.now pass.old }
-    ensures { IsPassOf queue.now pass.new }
-{
-    for _ in rt.forever() {
-        if let Some(ticket) = queue.pop(rt, pass) {
-            return ticket.tag;
-        }
-        thread::yield_now();
-    }
-    unreachable!()
-}
-
-fn send<R: Wait>(rt: &R, queue: &Queue, mut pass: Pass) -> Pass
-    requires { IsPassOf queue.now pass }
-    ensures { IsPassOf queue.now result }
-{
-    for tag in 0..TICKETS {
-        push_at_last(rt, queue, &mut pass, Ticket { tag });
-    }
-    pass
-}
-
-/// Pops all the tickets that the other kernel thread pushes. Returns how many of them were in order.
-fn receive<R: Wait>(rt: &R, queue: &Queue, mut pass: Pass) -> (Pass, u64)
-    requires { IsPassOf queue.now pass }
-    ensures { IsPassOf queue.now result.0 }
-{
-    let mut in_order = 0u64;
-    for tag in 0..TICKETS {
-        if pop_at_last(rt, queue, &mut pass) == tag {
-            in_order = in_order.wrapping_add(1);
-        }
-    }
-    (pass, in_order)
-}
-
-fn send_and_receive<R: Threads + Wait + Sync>(rt: &R, queue: &Queue, pass: Pass) -> (Pass, u64)
-    requires { IsPassOf queue.now pass }
-    ensures { IsPassOf queue.now result.0 }
-{
-    let (mine, theirs) = queue.split(rt, pass);
-    let (mine, (theirs, in_order)) = thread::join(
-        rt,
-        move || send(rt, queue, mine),
-        move || receive(rt, queue, theirs),
-    );
-    (queue.join_passes(rt, theirs, mine), in_order)
-}
-
-#[test]
-fn two_threads_pass_10_000_tickets(rt: HostRuntime) -> Result<(), AllocError> {
-    let (queue, pass) = Queue::new(rt.alloc())?;
-    let (mut pass, in_order) = send_and_receive(&rt, &queue, pass);
-    let is_whole = queue.is_whole(&pass);
-    assert!(rt; in_order == 10_000 && is_whole && queue.pop(&rt, &mut pass).is_none());
     Ok(())
 }

@@ -53,10 +53,10 @@ pub(crate) struct Shared {
     pub(crate) deputy: Line<AtomicUsize>,
     /// The time, in nanoseconds, at which a worker that runs tasks last polled the epoll.
     pub(crate) looked: Line<AtomicU64>,
-    /// Milliseconds between two checks of the other workers by the *deputy*, the worker that polls the epoll now and
-    /// then.
+    /// Milliseconds between two checks, by the *deputy* (the worker that polls the epoll now and then), for other
+    /// workers in a long poll.
     pub(crate) rests: AtomicI32,
-    /// Milliseconds between two checks of the other workers by the worker that waits in the epoll.
+    /// Milliseconds between two checks, by the worker that waits in the epoll, for other workers in a long poll.
     pub(crate) pauses: AtomicI32,
     /// Nanoseconds between two checks of the first worker by the second, while only the first has a processor;
     /// otherwise 0.

@@ -76,7 +76,7 @@ pub(crate) const HAND: usize = 48;
 /// one to help.
 const MANY: usize = 4;
 
-/// For the policy, a worker counts at most this many of its ready jobs.
+/// A worker counts at most this many of its ready jobs, for the policy that decides on the number of cores.
 const CROWD: u32 = 128;
 
 /// How far a worker is in its round over its blocks, and the progress that it has seen other workers make.

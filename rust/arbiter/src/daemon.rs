@@ -97,6 +97,8 @@ pub struct Arbiter {
     kept: Vec<usize>,
     cores: Vec<Core>,
     host: Host,
+    /// The processors that are granted or kept.
+    managed: Vec<usize>,
     /// The processors on which threads without a core run.
     rest: Vec<usize>,
     /// All processors that a thread may use when it no longer belongs to a client.
@@ -129,8 +131,9 @@ impl Arbiter {
             start: Instant::now(),
             log: options.log,
             kept: kept.concat(),
-            host: Host::new(cores.iter().map(|cpus| cpus[0]).collect()),
+            host: Host::new(cores.iter().map(|cpus| cpus[0]).collect(), options.cpus.clone()),
             cores: cores.into_iter().map(|cpus| Core { cpus, owner: None, since: Instant::now() }).collect(),
+            managed: options.cpus.clone(),
             rest: options.cpus.clone(),
             all: options.all.clone(),
             connections: BTreeMap::new(),
@@ -155,8 +158,7 @@ impl Arbiter {
             }
             self.answer_readers();
         }
-        let ids: Vec<u32> = self.clients.keys().copied().collect();
-        ids.into_iter().for_each(|id| self.drop_client(id));
+        self.drop_clients();
         println!("by force {}, after {:.0} s", self.forced, self.start.elapsed().as_secs_f64());
     }
 
@@ -255,6 +257,11 @@ impl Arbiter {
         }
     }
 
+    fn drop_clients(&mut self) {
+        let ids: Vec<u32> = self.clients.keys().copied().collect();
+        ids.into_iter().for_each(|id| self.drop_client(id));
+    }
+
     fn drop_client(&mut self, id: u32) {
         let places: Vec<u32> = self.clients.get(&id).map_or(Vec::new(), |it| it.threads.keys().copied().collect());
         places.into_iter().for_each(|place| self.drop_thread(id, place));
@@ -273,7 +280,9 @@ impl Arbiter {
         let client = self.clients.get_mut(&id);
         if let Some((process, thread)) = client.and_then(|it| Some((it.process, it.threads.remove(&place)?))) {
             self.connections.remove(&thread.connection);
-            self.means.leave(thread.id, thread.is_of(process), &self.kept, &self.all);
+            // Others may be granted until the next look, unless nothing is granted.
+            let free = if self.host.takes_machine() { &self.managed } else { &self.kept };
+            self.means.leave(thread.id, thread.is_of(process), free, &self.all);
         }
     }
 
@@ -410,15 +419,30 @@ impl Arbiter {
         let ended = all.filter(|(_, client, _, thread)| !thread.is_of(client.process));
         let ended: Vec<_> = ended.map(|(id, _, place, _)| (id, place)).collect();
         ended.into_iter().for_each(|(id, place)| self.drop_thread(id, place));
-        let processes = self.clients.values().map(|client| client.process).collect();
-        let known = self.clients.values().flat_map(|it| it.threads.values().map(|thread| thread.id)).collect();
-        Some(Look { threads: self.means.strangers(known, processes), all: false })
+        Some(self.look_at_strangers())
     }
 
-    /// Moves threads off each processor that the host of this virtual machine has taken, and back when the host has
-    /// returned it.
+    /// Returns a look at the threads that clients' threads may have begun.
+    fn look_at_strangers(&self) -> Look {
+        let processes = self.clients.values().map(|client| client.process).collect();
+        let known = self.clients.values().flat_map(|it| it.threads.values().map(|thread| thread.id)).collect();
+        Look { threads: self.means.strangers(known, processes), all: false }
+    }
+
+    /// Looks at what the host of this virtual machine takes. If it takes the machine, ends all connections, so that
+    /// clients go on as without a daemon. If it takes a processor, moves the processor's thread to `rest` (the
+    /// processors of threads without a core), and back when the host has returned the processor.
     fn look_at_host(&mut self) {
-        let changed = self.host.look();
+        let (was_taken, changed) = (self.host.takes_machine(), self.host.look());
+        if self.host.takes_machine() != was_taken {
+            self.say(|| format!("machine taken by the host: {}", self.host.takes_machine()));
+        }
+        if self.host.takes_machine() && !was_taken {
+            // Once the clients are gone, only this look finds what their threads have begun on a core.
+            self.look = Some(self.look_at_strangers());
+            self.drop_clients();
+            self.connections.clear();
+        }
         if changed.is_empty() {
             return;
         }
@@ -439,6 +463,9 @@ impl Arbiter {
 
     fn status(&self) -> String {
         let mut text = String::new();
+        if self.host.takes_machine() {
+            text += &format!("the host takes the machine, now {} %: nothing is granted\n", self.host.percent());
+        }
         for (id, client) in &self.clients {
             let Client { process, user, priority, least, asked, allowed, given, forced, .. } = client;
             let has = client.threads.values().filter(|thread| thread.core.is_some()).count();

@@ -154,12 +154,12 @@ impl Means {
         }
     }
 
-    /// Lets a thread that is no client's any more run on all processors: with cpusets, on the processors `kept` until
+    /// Lets a thread that is no client's any more run on all processors: with cpusets, on the processors `free` until
     /// the next look moves it to the set `rest`. `lives` is false if the thread has ended.
-    pub fn leave(&mut self, thread: u32, lives: bool, kept: &[usize], all: &[usize]) {
+    pub fn leave(&mut self, thread: u32, lives: bool, free: &[usize], all: &[usize]) {
         match self {
             Means::Cpusets(sets) => {
-                let _ = sets.run_on(thread, kept);
+                let _ = sets.run_on(thread, free);
                 sets.left.push(thread);
             }
             Means::Affinity(_) if lives => drop(sys::set_affinity(thread, all)),

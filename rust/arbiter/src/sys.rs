@@ -165,11 +165,11 @@ pub fn affinity_of(thread: u32) -> Vec<usize> {
     (0..PROCESSORS).filter(|cpu| mask[cpu / 64] >> (cpu % 64) & 1 == 1).collect()
 }
 
-/// Gives this process the lowest real-time priority, so that it runs before other processes: clients wait for its
-/// decisions. Returns false if the system refuses that.
-pub fn go_first() -> bool {
+/// Gives this process the lowest real-time priority, if the system lets it, so that it runs before other processes:
+/// clients wait for its decisions.
+pub fn go_first() {
     // SAFETY: the priority lives through the call.
-    unsafe { sched_setscheduler(0, 1 | 0x4000_0000, &1) == 0 }
+    unsafe { sched_setscheduler(0, 1 | 0x4000_0000, &1) };
 }
 
 /// Returns the user of this process.

@@ -276,11 +276,14 @@ fn there_are_limits_of_connections_and_of_clients() {
         assert!(process.wait().unwrap().success());
     }
     drop((clients, many));
-    becomes("there is room again", || {
-        let mut stream = daemon.connect();
-        let _ = stream.write_all(&bytes_of([HELLO, VERSION, 0, 64]));
-        receive(&mut stream).map_or(false, |answer| answer[0] == WELCOME)
-    });
+    becomes("there is room again", || comes(&daemon));
+}
+
+/// Returns true if the daemon takes in a client, whose connection ends at once.
+fn comes(socket: &Socket) -> bool {
+    let mut stream = socket.connect();
+    let _ = stream.write_all(&bytes_of([HELLO, VERSION, 0, 64]));
+    receive(&mut stream).map_or(false, |answer| answer[0] == WELCOME)
 }
 
 /// Returns 200 connections, after the daemon has closed the last one.
@@ -603,41 +606,68 @@ fn a_container() {
     assert!(is_refused(&mut socket.join(it.client, 1 << 21, 1, false)));
 }
 
+/// The host takes a fifth of one processor, which is at most a tenth of the machine.
 #[test]
 fn while_the_host_takes_a_processor_its_thread_runs_in_the_rest() {
-    let (stat, path) = (path_of("stat"), path_of("host"));
-    // Hundredths of a second of each processor: all, and those that the host has taken.
-    let account = |all: u64, stolen: u64| {
-        let line = |cpu| format!("cpu{cpu} {} 0 0 0 0 0 0 {stolen} 0 0\n", all - stolen);
-        // The file changes in one step, like the kernel's.
-        fs::write(path_of("next"), (0..1024).map(line).collect::<String>()).unwrap();
-        fs::rename(path_of("next"), &stat).unwrap();
-    };
-    account(100, 10);
-    let mut command = run(&path, &[]);
-    command.env("ARBITER_STAT", &stat);
-    let daemon = Daemon::begun(command, path);
+    let host = Host::new("stat");
+    let daemon = host.daemon("host");
     let client = granted(&daemon, 5, 0);
     let (id, cpu) = (thread_on(&daemon, client.cpu).to_string(), client.cpu);
     assert_eq!(processors_of(&id), cpu.to_string());
-    let all = Cell::new(100);
-    let goes_on = |stolen| {
-        all.set(all.get() + 100);
-        account(all.get(), stolen);
-        thread::sleep(Duration::from_millis(20));
-    };
     becomes("it may run elsewhere", || {
-        goes_on(all.get() / 2);
+        host.takes(20, |it| it == cpu);
         processors_of(&id) != cpu.to_string()
     });
     assert!(status(&daemon).contains("; the host takes it"));
     assert_eq!(status(&daemon).matches("has 1;").count(), 1, "the core is the client's all the same");
-    let stolen = all.get() / 2;
     becomes("it is on its core again", || {
-        goes_on(stolen);
+        host.takes(0, |_| false);
         processors_of(&id) == cpu.to_string()
     });
-    fs::remove_file(stat).unwrap();
+    assert!(is_silent(&client.control), "the client is one all the time");
+}
+
+/// The client's thread goes on beginning others on its core, until it is no client's any more.
+#[test]
+fn while_the_host_takes_the_machine_there_are_no_clients() {
+    let (host, begin) = (Host::new("machine"), Instant::now());
+    let daemon = host.daemon("lifts");
+    let (early, (mut control, [_, client, ..])) = (daemon.connect(), daemon.hello(5, 0));
+    let ((tells, told), (goes, waits)) = (mpsc::channel(), mpsc::channel());
+    thread::spawn(move || {
+        tells.send(number()).unwrap();
+        waits.iter().for_each(|()| {
+            let tells = tells.clone();
+            thread::spawn(move || tells.send(number()).map(|()| thread::sleep(Duration::from_secs(100))));
+        });
+        thread::sleep(Duration::from_secs(100));
+    });
+    let mut threads = vec![told.recv().unwrap()];
+    let mut thread = daemon.join(client, threads[0], 0, false);
+    send(&mut thread, [WAIT, 0, 0, 0]);
+    send(&mut control, [ASK, 1, 0, 0]);
+    assert!(is_granted(&mut thread));
+    let begun = Cell::new(0);
+    becomes("its connections end", || {
+        goes.send(()).unwrap();
+        begun.set(begun.get() + 1);
+        host.takes(20, |_| true);
+        !is_silent(&control)
+    });
+    assert!(receive(&mut control).is_none() && receive(&mut thread).is_none());
+    assert!(status(&daemon).starts_with("the host takes the machine, now 20 %: nothing is granted\nprocessor"));
+    assert!([early, daemon.connect()].iter_mut().all(|it| receive(it).is_none()), "nobody comes");
+    threads.extend(told.iter().take(begun.get()));
+    for thread in threads {
+        let may = |thread: u32| processors_of(&thread.to_string());
+        becomes("it may run everywhere", || may(thread) == may(number()));
+    }
+    becomes("clients come again", || {
+        host.takes(5, |_| true);
+        comes(&daemon)
+    });
+    assert!(begin.elapsed() >= Duration::from_secs(5), "it was calm for five seconds");
+    granted(&daemon, 5, 0);
 }
 
 /// The group's files are plain files here, so the test shows only what the daemon writes to them.

@@ -124,6 +124,28 @@ fn a_runtime_goes_on_without_its_daemon_and_joins_the_next() {
 }
 
 #[test]
+fn while_the_host_takes_the_machine_runtimes_go_on_by_themselves() {
+    let (host, cores, all) = (Host::new("machine"), cores(), processors_of(&std::process::id().to_string()));
+    let daemon = host.daemon("lifts");
+    let (low, of_low) = busy(&daemon, cores, 7);
+    let (high, of_high) = busy(&daemon, cores, 0);
+    for _ in 0..2 {
+        becomes("both are clients", || {
+            host.takes(0, |_| false);
+            [&low, &high].iter().all(|it| it.stats().arbiter)
+        });
+        becomes("who is first has all", || active(&high) == cores && active(&low) == 1);
+        becomes("both go on by themselves", || {
+            host.takes(30, |_| true);
+            [&low, &high].iter().all(|it| !it.stats().arbiter && active(it) == cores)
+        });
+        becomes("their workers may run everywhere", || workers().iter().all(|it| processors_of(it) == all));
+        of_low.gets_on("the one gets on");
+        of_high.gets_on("the other gets on");
+    }
+}
+
+#[test]
 fn a_runtime_that_is_killed_has_no_core() {
     let (daemon, cores) = (Daemon::new("killed"), cores());
     let mut client = other("a_runtime_to_kill", &daemon).spawn().unwrap();

@@ -153,34 +153,3 @@ pub(super) fn closed(alloc: Global, locks: SleepLocks, seats: LockSeats) -> Opti
     }
     locks.close(alloc, seats).ok()
 }
-
-/// The greatest number of locks that a program may have.
-const MOST: u8 = 16;
-
-/// Makes a set of `count` locks, splits and joins its seats (rights to use it), and closes it. Returns the locks'
-/// histories.
-fn made_and_closed(alloc: Global, count: u8) -> Option<Vec<History>> {
-    let (locks, seats) = SleepLocks::new(alloc, count).ok()?;
-    let (own, theirs) = locks.split(alloc, seats).ok()?;
-    if count > 0 && (locks.are_whole(&own) || locks.are_whole(&theirs)) {
-        return None;
-    }
-    let seats = locks.join_seats(theirs, own);
-    closed(alloc, locks, seats)
-}
-
-/// Returns the lowest number of locks, up to `MOST`, for which no set of locks can be made.
-fn first_refused(alloc: Global) -> Option<u8> {
-    for count in 0..=MOST {
-        match made_and_closed(alloc, count) {
-            Some(histories) if histories.len() == usize::from(count) => {}
-            _ => return Some(count),
-        }
-    }
-    None
-}
-
-#[test]
-fn there_may_be_any_number_of_locks(rt: HostRuntime) {
-    assert_eq!(rt; first_refused(rt.alloc()), None);
-}

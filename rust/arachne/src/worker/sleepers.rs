@@ -2,13 +2,11 @@
 //!
 //! One waits in the epoll, a *deputy* polls the epoll now and then, and each of the others waits on a condition
 //! variable of its own, its *bell*. The deputy is needed while the worker that waits in the epoll runs tasks or has no
-//! processor. The deputy polls the epoll after 1, 2, 4 .. ms, and each millisecond while tasks run. So the events of
-//! sockets are seen as long as at least one worker isn't in a long poll.
+//! processor. While no task runs, the deputy polls the epoll at intervals of 1, 2, 4 .. ms; while tasks run, each
+//! millisecond. So the events of sockets are seen as long as at least one worker isn't in a long poll.
 //!
 //! **Beside a long poll.** While any worker is awake, the worker in the epoll and the deputy check the other workers,
-//! at least every `LONG_REST` milliseconds. So the events of sockets are seen as long as at least one worker isn't in a
-//! long poll. **Beside a long poll.** While any worker is awake, the worker in the epoll and the deputy check the other
-//! workers, at least every `LONG_REST` milliseconds. If they find a worker in the same poll twice, they take all jobs
+//! at least every `LONG_REST` milliseconds. If they find a worker in the same poll twice, they take all jobs
 //! in its local queues, even the one to run next, fire its timers, and take the ready jobs in its task slots. A worker
 //! that is woken again and again does the same once a millisecond, before it goes back to sleep (`looks_before_sleep`);
 //! a busy worker does it in `look_out`. So, as long as at least one worker isn't in a long poll, a ready job behind a
@@ -21,7 +19,7 @@
 //! the second runs the waiting jobs, on any processor that it may use. Once nothing has run for a while the second
 //! worker looks less and less often, and `goes_on` makes it look as often as before.
 //!
-//! With the watcher, ready jobs also run if all workers are in long polls.
+//! With the watcher thread of `Builder::watch_polls`, ready jobs also run if all workers are in long polls.
 
 use super::{Turn, FEW, LONG_POLL, LOOK_OUT};
 use crate::cores::Judge;

@@ -99,13 +99,15 @@ impl Arbiter {
         true
     }
 
+    /// Takes in a new connection, or closes it.
     fn accept(&mut self, stream: UnixStream) {
         let peer = match sys::peer(&stream) {
             Ok(peer) => peer,
             Err(_) => return,
         };
         let alike = self.connections.values().filter(|it| it.peer.0 == peer.0).count();
-        if self.connections.len() >= CONNECTIONS || alike >= OF_A_PROCESS || stream.set_nonblocking(true).is_err() {
+        let has_room = self.connections.len() < CONNECTIONS && alike < OF_A_PROCESS;
+        if self.host.takes_machine() || !has_room || stream.set_nonblocking(true).is_err() {
             return;
         }
         self.connected += 1;

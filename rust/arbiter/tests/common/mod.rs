@@ -2,6 +2,7 @@
 #![allow(dead_code)]
 
 use arbiter::protocol::*;
+use std::cell::RefCell;
 use std::env;
 use std::fs;
 use std::io::{ErrorKind, Read, Write};
@@ -135,6 +136,48 @@ pub fn run(path: &Path, words: &[&str]) -> Command {
         command.arg("--cpuset").arg(folder);
     }
     command
+}
+
+/// A machine's host: a file that a daemon reads in place of the kernel's account of stolen time.
+pub struct Host {
+    file: PathBuf,
+    /// The hundredths of a second since the machine began, and those that the host has taken of each processor.
+    times: RefCell<(u64, Vec<u64>)>,
+}
+
+impl Host {
+    pub fn new(name: &str) -> Host {
+        let host = Host { file: path_of(name), times: RefCell::new((100, vec![0; 1024])) };
+        host.takes(0, |_| false);
+        host
+    }
+
+    /// Starts a daemon on this host's machine.
+    pub fn daemon(&self, name: &str) -> Daemon {
+        let path = path_of(name);
+        let mut command = run(&path, &[]);
+        command.env("ARBITER_STAT", &self.file);
+        Daemon::begun(command, path)
+    }
+
+    /// Lets a second pass. The host takes `share` per cent of it from each processor for which `is_one` returns true.
+    pub fn takes(&self, share: u64, is_one: impl Fn(u32) -> bool) {
+        let (all, stolen) = &mut *self.times.borrow_mut();
+        *all += 100;
+        (0..).zip(&mut *stolen).filter(|(cpu, _)| is_one(*cpu)).for_each(|(_, stolen)| *stolen += share);
+        let line = |(cpu, stolen): (usize, &u64)| format!("cpu{cpu} {} 0 0 0 0 0 0 {stolen} 0 0\n", *all - stolen);
+        // The file changes in one step, like the kernel's.
+        let next = self.file.with_extension("next");
+        fs::write(&next, stolen.iter().enumerate().map(line).collect::<String>()).unwrap();
+        fs::rename(next, &self.file).unwrap();
+        thread::sleep(Duration::from_millis(20));
+    }
+}
+
+impl Drop for Host {
+    fn drop(&mut self) {
+        let _ = fs::remove_file(&self.file);
+    }
 }
 
 pub fn path_of(name: &str) -> PathBuf {

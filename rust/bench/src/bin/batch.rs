@@ -1,8 +1,8 @@
 //! A batch program, which computes as long as it has processors.
 //!
-//! `batch threads N` computes on N kernel threads; `batch arachne CORES [SOCKET PRIORITY]` on a runtime with a policy,
-//! and with the arbiter at SOCKET. Every 10 ms, the program prints the time in milliseconds, how many units of work (of
-//! some 20 us each) it has done, and on how many cores it runs. The program ends when its standard input ends.
+//! `batch CORES [SOCKET PRIORITY]` computes on a runtime with a policy, and with the arbiter at SOCKET. Every 10 ms, the
+//! program prints the time in milliseconds, how many units of work (of some 20 us each) it has done, and on how many
+//! cores it runs. The program ends when its standard input ends.
 use std::sync::atomic::{AtomicU64, Ordering::Relaxed};
 use std::thread;
 use std::time::{Duration, SystemTime};
@@ -40,19 +40,11 @@ fn runtime(count: usize, arbiter: Option<&[String]>) -> arachne::Runtime {
 
 fn main() {
     let words: Vec<String> = std::env::args().skip(1).collect();
-    let count: usize = words[1].parse().expect("batch threads|arachne N [SOCKET PRIORITY]");
-    let runtime = (words[0] == "arachne").then(|| runtime(count, words.get(2..4)));
-    if runtime.is_none() {
-        for nth in 0..count {
-            thread::spawn(move || loop {
-                work(nth);
-            });
-        }
-    }
+    let count = words[0].parse().expect("batch CORES [SOCKET PRIORITY]");
+    let runtime = runtime(count, words.get(1..3));
     thread::spawn(move || loop {
         let now = SystemTime::now().duration_since(SystemTime::UNIX_EPOCH).unwrap().as_micros() as f64 / 1e3;
-        let active = runtime.as_ref().map_or(count, |runtime| runtime.stats().active);
-        println!("{now:.1} {} {active}", DONE.load(Relaxed));
+        println!("{now:.1} {} {}", DONE.load(Relaxed), runtime.stats().active);
         thread::sleep(Duration::from_millis(10));
     });
     examples::wait_for_end();

@@ -1,5 +1,5 @@
-//! Trials of a server on arachne, bounded in count and time: `trial NAME [CORES]`. Each trial prints its figures and
-//! ends.
+//! Trials of a runtime under a server's loads: `trial NAME [CORES]`. Each trial prints its figures, and ends after a
+//! limited time.
 //!
 //! - soak: tasks of eight kinds for SECONDS (a third word; 300 if there is none), with their count and the resident
 //!   memory.

@@ -49,8 +49,8 @@ returns-clause-took c =
     let row : place / 64 ≡ c.args.block = omega (arith, low) in
     let held = ap (λ v. v.known) got.3 ∙ (λ i. gained place (same i) (noted (ready_at (row i)) got.0 (saw at.After-first_from-index i))) in
     let back : index ≡ place % 64 = omega (arith, low) in
-    subst (λ (taken : TakenJob). HasTakenFrom c.args.from.index taken c.args.block c.args.seat.now.known c.lay.new.seat.known)
-    (sym (c.new.ensures ∙ ap (taken_with c.has_more.result) c.job_at.ensures))
+    subst (λ (taken : TakenJob). HasTakenFrom c.args.from taken c.args.block c.args.seat.now.known c.lay.new.seat.known)
+    (sym (ap (taken_with c.has_more.result) c.job_at.ensures))
     (record {
       turn = record {
         took = record {
@@ -67,7 +67,7 @@ returns-clause-took c =
               ∙ ap (λ v. v.known) mark.1
               ∙ ap (λ k. using_up c.refresh-mark.result place mark.0 (noted (mark_at place) c.refresh-mark.result k)) held;
         };
-        first = subst (λ (from : ℕ). IsFirstFrom c.look-ready.result from (place % 64)) c.begun-from.ensures (subst (IsFirstFrom c.look-ready.result c.begun-from.result) back c.first_from-index.ensures);
+        first = subst (IsFirstFrom c.look-ready.result c.args.from) back c.first_from-index.ensures;
       };
       more = subst (λ (i : ℕ). IsTrue c.has_more.result ↔ (2 * 2 ^ i ≤ c.look-ready.result)) back c.has_more.ensures;
     })

@@ -35,12 +35,12 @@ loop-index-preserved c =
     let first = c.in-Some.ensures.some in let was = c.loop-index.invariant.looked in
     let at : block / 64 ≡ shard = omega (arith, first.low) in
     let missed = looked-missed (worker_of shard) k c.loop-index.seat.known was.0 block c.take_from.new.seat.known c.in_default-take_from.ensures.none in
-    let on = looked-told (worker_of shard) k c.take_from.new.seat.known missed.0 c.tidy.result.1 in
+    let on = looked-told (worker_of shard) k c.take_from.new.seat.known missed.0 c.tidy.result in
     let longer : on.0.1 ≡ missed.2 ++ was.0.1 = on.1 ∙ missed.3 in
     let same = ap (λ v. v.known) c.seat-in-Some-2.view_is in
-    let told = ap (λ v. v.known) c.tidy.ensures.seat ∙ (λ i. rousing c.tidy.result.1 (worker_of (at i)) (same i)) in
+    let told = ap (λ v. v.known) c.tidy.ensures ∙ (λ i. rousing c.tidy.result (worker_of (at i)) (same i)) in
     let left = ap (λ (left : Unsearched). left.blocks) c.pass.ensures in
-    let gone : c.tidy.result.0.block % 64 ≡ this = omega (arith, c.tidy.ensures.hidden, first.low) in
+    let gone : block % 64 ≡ this = omega (arith, first.low) in
     record {
       seat = search rules;
       looked = subst (λ (z : Notes). (found : HasLooked (worker_of shard) k z) × IsAmong (summary_at shard) c.look-shown.result found.1
@@ -50,7 +50,7 @@ loop-index-preserved c =
             λ index low set. ⊎_elim
                 (λ still. dite (ℕ_discrete index this)
                 (λ e. inr (subst (λ (looks : List (ℕ × ℕ)). HasNoJob (64 * shard + index) looks) (sym on.1) (subst (λ (j : ℕ). HasNoJob (64 * shard + j) missed.0.1) (sym e) missed.1)))
-                (λ ne. inl (ap (λ (blocks : ℕ). bit_at blocks index) left ∙ clear_other c.loop-index.left.blocks (c.tidy.result.0.block % 64) (omega arith) index low (λ e. ne (e ∙ gone)) ∙ still)))
+                (λ ne. inl (ap (λ (blocks : ℕ). bit_at blocks index) left ∙ clear_other c.loop-index.left.blocks (block % 64) (omega arith) index low (λ e. ne (e ∙ gone)) ∙ still)))
                 (λ none. inr (subst (λ (looks : List (ℕ × ℕ)). HasNoJob (64 * shard + index) looks) (sym longer) (none-more (64 * shard + index) missed.2 was.0.1 none)))
                 (was.2 index low set),
           );
@@ -59,10 +59,10 @@ loop-index-preserved c =
 
 pub loop-index-smaller : goal.loop-index-smaller
 loop-index-smaller c =
-    let first = c.in-Some.ensures.some in
-    let block : c.tidy.result.0.block % 64 ≡ c.in-Some.index = omega (arith, c.tidy.ensures.hidden, first.low) in
+    let first = c.in-Some.ensures.some in let block : ℕ = 64 * c.args.shard + c.in-Some.index in
+    let gone : block % 64 ≡ c.in-Some.index = omega (arith, first.low) in
     subst (λ (n : ℕ). n < c.loop-index.left.blocks) (sym (ap (λ (left : Unsearched). left.blocks) c.pass.ensures))
-    (less-without c.loop-index.left.blocks c.in-Some.index c.tidy.result.0.block block first.there)
+    (less-without c.loop-index.left.blocks c.in-Some.index block gone first.there)
 
 -- no block is left
 pub returns-clause-none : goal.returns-clause-none

@@ -1,5 +1,0 @@
-use Rattle.arachne_spill.specs.Views.{IsPassOf}
-use Rattle.arachne_tests.proofs.spill.pop_at_last.Given as goal
-
-abbrev pub invariant-loop : goal.invariant-loop
-invariant-loop g l = IsPassOf l.queue l.pass

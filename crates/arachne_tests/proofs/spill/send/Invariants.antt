@@ -1,5 +1,0 @@
-use Rattle.arachne_spill.specs.Views.{IsPassOf}
-use Rattle.arachne_tests.proofs.spill.send.Given as goal
-
-abbrev pub invariant-loop-tag : goal.invariant-loop-tag
-invariant-loop-tag g l = IsPassOf l.queue l.pass
