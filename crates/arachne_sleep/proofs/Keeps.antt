@@ -1,6 +1,5 @@
 -- Each kind of step keeps the rule, and what it says of its seat is true.
-use Rattle.std.proofs.Common.{◌≡◌, ◌≢◌, ℕ, ◌+◌, ◌≤◌, ⊎_elim, Bool, true, false, List, [], ◌∷◌, length, get_or, set, refl, sym, ap, ◌∙◌, subst, arith, length-set, get_or-set_same, Option, None, Some}
-use Rattle.std.specs.Prelude.{All, IfSome, if◌then◌else◌}
+use Rattle.std.proofs.Common.{◌≡◌, ◌≢◌, ℕ, ◌+◌, ◌≤◌, ⊎_elim, Bool, true, List, [], ◌∷◌, length, get_or, set, refl, sym, ap, ◌∙◌, subst, arith, length-set, get_or-set_same, Option, None, Some, All, IfSome, if◌then◌else◌}
 use Rattle.std.proofs.lemmas.Bool.Decides.{nat_tests}
 use Rattle.std.proofs.lemmas.Bool.{false≢true}
 use Rattle.std.proofs.lemmas.List.Elements.{All-nil, All-cons, All-append}
@@ -36,9 +35,6 @@ use Rattle.arachne_sleep.specs.Trace.{entry, Tells}
 use Rattle.arachne_sleep.proofs.Traces.{tells-more, tells-cut, tells-join}
 use Rattle.arachne_sleep.proofs.Growing.{begins-refl, begins-more, stands-more, granted-more, stands-since, times-since, times-append}
 
-abbrev EachFits : ℕ → List LockEvent → List (Token Known) → Type 0
-EachFits number history views = (i : ℕ) (t : Token Known) → get_elem? views i ≡ some t → Fits number history t
-
 -- the number of times that a seat has the guard, and the number of events that it made at a place
 abbrev guard_of : Token Known → ℕ
 guard_of t = if t.known.taken then 1 else 0
@@ -48,9 +44,6 @@ made_of k t = times_at k t.known.log.made
 
 has-guard : (t : Token Known) → t.known.taken ≡ true → guard_of t ≡ 1
 has-guard t e = ap (λ (b : Bool). if b then 1 else 0) e
-
-no-guard : (t : Token Known) → t.known.taken ≡ false → guard_of t ≡ 0
-no-guard t e = ap (λ (b : Bool). if b then 1 else 0) e
 
 -- a seat without the guard agrees with each history that extends its own; so does each seat if the history stays
 fits-more : (number : ℕ) (h g : List LockEvent) (t : Token Known) → BeginsWith g h → (t.known.taken ≡ true → h ≡ g) → Fits number h t → Fits number g t

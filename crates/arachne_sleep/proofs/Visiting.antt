@@ -1,6 +1,5 @@
 -- A call on the state while a seat has it: what its result says of the history, and the seat's log after it.
-use Rattle.std.proofs.Common.{◌≡◌, ℕ, ◌+◌, List, [], ◌∷◌, ◌++◌, length, get_or, refl, sym, ap, ◌∙◌, subst, append_assoc, length-append, Option, None, Some}
-use Rattle.std.specs.Prelude.{slice_get, IfSome, All}
+use Rattle.std.proofs.Common.{◌≡◌, ℕ, ◌+◌, List, [], ◌∷◌, ◌++◌, length, get_or, refl, sym, ap, ◌∙◌, subst, append_assoc, length-append, Option, None, Some, slice_get, IfSome, All}
 use Rattle.std.specs.declared.result.Result.{Result}
 use Rattle.std.specs.declared.result.Result.TheVariants.{Ok, Err}
 use Rattle.arachne_sleep.specs.declared.answer.Asked.{Asked}

@@ -1,5 +1,4 @@
-use Rattle.std.proofs.Common.{List, sym, ap, ◌∙◌, refl}
-use Rattle.std.specs.Prelude.{slice_get}
+use Rattle.std.proofs.Common.{List, sym, ap, ◌∙◌, refl, slice_get}
 use Rattle.arachne_weights.specs.Tokens.{held}
 use Rattle.arachne_sleep.specs.declared.view.Record.{Record}
 use Rattle.arachne_sleep.proofs.Traces.{noted-is-made}
