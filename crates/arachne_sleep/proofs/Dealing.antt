@@ -2,14 +2,9 @@
 use Rattle.std.proofs.Common.{◌≡◌, ℕ, ◌+◌, ◌<◌, List, [], ◌∷◌, ◌++◌, length, get_or, set, map, take, drop, reverse, sym, ap, ◌∙◌, subst, arith, append_assoc, All}
 use Rattle.std.specs.List.{AllZip}
 use Rattle.std.proofs.lemmas.List.{append-nil, map_push, take_more, take_more_set, take_all, drop_more, drop-set-lt, length_push, length-take-le, reverse-append, get_or_append_left, nil_from_length}
-use Rattle.std.proofs.lemmas.Grind.{drop_more_same}
-use Rattle.std.proofs.lemmas.List.Elements.{All-nil, All-cons}
-use Rattle.std.proofs.Math.Seq.{set-append_seam}
-use Rattle.arachne_sleep.specs.declared.event.LockEvent.{LockEvent}
-use Rattle.arachne_sleep.specs.History.{IsSound}
-use Rattle.arachne_sleep.specs.Calls.{IsToldBy}
-use Rattle.arachne_sleep.specs.Views.{SeatView, joined_with}
-use Rattle.arachne_sleep.specs.SleepLocks.{all_joined}
+use Rattle.std.proofs.{lemmas.Grind.drop_more_same, lemmas.List.Elements.{All-nil, All-cons}, Math.Seq.set-append_seam}
+use Rattle.arachne_sleep.specs.{declared.event.LockEvent.LockEvent, History.IsSound, Calls.IsToldBy}
+use Rattle.arachne_sleep.specs.{Views.{SeatView, joined_with}, SleepLocks.all_joined}
 
 -- ---- a split: the first k are split, and the others are as they were
 

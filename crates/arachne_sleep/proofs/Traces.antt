@@ -5,11 +5,8 @@ use Rattle.std.proofs.lemmas.Option.{none-some, same_Some}
 use mathlib.Core.Option.{some, some-injective, some-ne-none}
 use lib.ListN.{get_elem?}
 use Rattle.atomic_table.proofs.Lists.{at_set}
-use Rattle.arachne_weights.specs.declared.token.Token.{Token}
-use Rattle.arachne_weights.specs.Tokens.{held}
-use Rattle.arachne_sleep.specs.declared.view.Record.{Record}
-use Rattle.arachne_sleep.specs.declared.view.Known.{Known}
-use Rattle.arachne_sleep.specs.Words.{guard_word, word_count}
+use Rattle.arachne_weights.specs.{declared.token.Token.Token, Tokens.held}
+use Rattle.arachne_sleep.specs.{declared.view.Record.Record, declared.view.Known.Known, Words.{guard_word, word_count}}
 use Rattle.arachne_sleep.specs.Trace.{Entry, entry, IsNext, IsTrace, records_of, AreOfSeats, Tells, IsStepOf}
 
 there-in : {A : Type 0} (xs : List A) (i : ℕ) (v : A) → get_elem? xs i ≡ some v → i < length xs

@@ -5,17 +5,12 @@ use mathlib.Core.Option.{some}
 use mathlib.Core.Option as maybe
 use lib.ListN.{get_elem?}
 use Rattle.atomic_table.specs.Table.{State}
-use Rattle.arachne_sleep.specs.declared.event.LockEvent.{LockEvent}
-use Rattle.arachne_sleep.specs.History.{IsSound}
-use Rattle.arachne_weights.specs.declared.token.Token.{Token}
-use Rattle.arachne_weights.specs.Tokens.{held, spent, IsReachable}
+use Rattle.arachne_sleep.specs.{declared.event.LockEvent.LockEvent, History.IsSound, Views.{Guarded, SeatView}}
+use Rattle.arachne_weights.specs.{declared.token.Token.Token, Tokens.{held, spent, IsReachable}}
 use Rattle.arachne_weights.specs.Weight.{whole, first_part, second_part, joined}
-use Rattle.arachne_sleep.specs.Views.{Guarded, SeatView}
-use Rattle.arachne_sleep.specs.declared.view.Known.{Known}
-use Rattle.arachne_sleep.specs.declared.view.SeatLog.{SeatLog}
+use Rattle.arachne_sleep.specs.declared.view.{Known.Known, SeatLog.SeatLog}
 use Rattle.arachne_sleep.specs.Histories.{BeginsWith, StandsIn, IsGrantedIn, times_at, once_below}
-use Rattle.arachne_sleep.specs.Logs.{blank_log, cut_log, joined_log}
-use Rattle.arachne_sleep.specs.Words.{guard_word, word_count}
+use Rattle.arachne_sleep.specs.{Logs.{blank_log, cut_log, joined_log}, Words.{guard_word, word_count}}
 use Rattle.arachne_sleep.specs.Trace.{Entry, Tells}
 
 abbrev pub Board : Type 0

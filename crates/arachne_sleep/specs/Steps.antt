@@ -1,19 +1,11 @@
 -- The knowledge of a seat after each kind of step that it makes.
 use Rattle.std.specs.Prelude.{◌≡◌, ◌≢◌, ℕ, All, [], ◌∷◌, List, Option, IfSome}
-use Rattle.atomic_table.specs.Table.{Me}
-use Rattle.atomic_table.specs.Seated.{TableId}
-use Rattle.arachne_sleep.specs.declared.event.LockEvent.{LockEvent}
-use Rattle.arachne_sleep.specs.declared.answer.Pass.{Pass}
-use Rattle.arachne_sleep.specs.History.{IsSound}
-use Rattle.arachne_sleep.specs.Lock.{Lock}
-use Rattle.arachne_weights.specs.declared.token.Token.{Token}
-use Rattle.arachne_weights.specs.Tokens.{held}
-use Rattle.arachne_sleep.specs.Views.{Guarded, SleepLockView}
-use Rattle.arachne_sleep.specs.declared.view.Known.{Known}
-use Rattle.arachne_sleep.specs.declared.view.SeatLog.{SeatLog}
-use Rattle.arachne_sleep.specs.Histories.{BeginsWith, IsGrantedIn}
-use Rattle.arachne_sleep.specs.Logs.{contended_log, taken_log, given_back_log}
-use Rattle.arachne_sleep.specs.Rule.{idle_known, taken_known}
+use Rattle.atomic_table.specs.{Table.Me, Seated.TableId}
+use Rattle.arachne_sleep.specs.{declared.event.LockEvent.LockEvent, declared.answer.Pass.Pass, History.IsSound}
+use Rattle.arachne_sleep.specs.{Lock.Lock, Views.{Guarded, SleepLockView}, declared.view.Known.Known}
+use Rattle.arachne_weights.specs.{declared.token.Token.Token, Tokens.held}
+use Rattle.arachne_sleep.specs.{declared.view.SeatLog.SeatLog, Histories.{BeginsWith, IsGrantedIn}}
+use Rattle.arachne_sleep.specs.{Logs.{contended_log, taken_log, given_back_log}, Rule.{idle_known, taken_known}}
 
 -- a seat's view, and the slots that are with it
 abbrev pub Mine : Type 0

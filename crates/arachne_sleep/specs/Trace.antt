@@ -3,10 +3,8 @@ use Rattle.std.specs.Prelude.{◌≡◌, ℕ, ◌<◌, true, if◌then◌else◌
 use mathlib.Core.Option.{some}
 use lib.ListN.{get_elem?}
 use Rattle.arachne_weights.specs.declared.token.Token.{Token}
-use Rattle.arachne_sleep.specs.declared.view.Record.{Record}
-use Rattle.arachne_sleep.specs.declared.view.Kind.{Kind}
+use Rattle.arachne_sleep.specs.declared.view.{Record.Record, Kind.Kind, Known.Known}
 use Rattle.arachne_sleep.specs.declared.view.Kind.TheVariants as kind
-use Rattle.arachne_sleep.specs.declared.view.Known.{Known}
 use Rattle.arachne_sleep.specs.Words.{guard_word}
 
 -- a step, and the number of the seat that made it
