@@ -1,8 +1,5 @@
 -- The words that spell an order, by the result of each part of the reader.
-use Rattle.std.proofs.Common.{◌≡◌, ℕ, ◌^◌, ◌<◌, List, [], ◌∷◌, ◌++◌, Option, Some, None, Result, Ok, Err, refl, sym, ap, subst, ◌∙◌, append_assoc, arith, lit<}
-use Rattle.std.proofs.lemmas.List.{append-nil}
-use Rattle.std.specs.Prelude.{codes, ◌↔◌, ◌==◌, length, true, false}
-use Rattle.std.proofs.lemmas.Bool.{eqb-true}
+use Rattle.std.proofs.Common.{◌≡◌, ℕ, ◌^◌, ◌<◌, List, [], ◌∷◌, ◌++◌, Option, Some, None, Result, Ok, Err, refl, sym, ap, subst, ◌∙◌, append_assoc, arith, lit<, append-nil, codes, ◌↔◌, ◌==◌, length, true, false, eqb-true}
 use Rattle.arachne_lang.specs.Spelling.{numeral}
 use Rattle.arachne_lang.specs.Reading.{Halt, Reading, ◌>>=◌, word_at, figures_at, number_at}
 use Rattle.arachne_lang.proofs.Languages.{first}
@@ -91,15 +88,12 @@ no_core bytes rest left after kind found e is f none order = refuses bytes order
     let same = same_core bytes rest left after kind e is order spells in
     none order.core (sym f ∙ ap (figures_at (2 ^ 64)) same.1 ∙ needs_core bytes order spells))
 
-not_nil : (byte : ℕ) (rest : List ℕ) → byte ∷ rest ≡ [] → ⊥
-not_nil byte rest e = cc
-
 -- the number of the core ends the word, or something is left behind it
 pub some_left : (found core : ℕ) (rest : List ℕ) → false ≡ (length rest == 0) → Same (Ok (found, rest)) (Ok (core, [])) → ⊥
 some_left found core [] e same = absurd (cc)
 some_left found core (byte ∷ rest) e same =
     let parts : (found, byte ∷ rest) ≡ (core, []) = cc in
-    not_nil byte rest (ap (λ (p : ℕ × List ℕ). p.1) parts)
+    cc (ap (λ (p : ℕ × List ℕ). p.1) parts)
 
 pub none_left : (core : ℕ) (rest : List ℕ) → true ≡ (length rest == 0) → Same (Ok (core, rest)) (Ok (core, []))
 none_left core [] e = refl
@@ -184,7 +178,7 @@ kind_is bytes kind rest = (grants bytes (word_at (codes "grant:") bytes) refl ki
 more_left : (found core byte : ℕ) (rest : List ℕ) → Same (Ok (found, byte ∷ rest)) (Ok (core, [])) → ⊥
 more_left found core byte rest e =
     let parts : (found, byte ∷ rest) ≡ (core, []) = cc in
-    not_nil byte rest (ap (λ (p : ℕ × List ℕ). p.1) parts)
+    cc (ap (λ (p : ℕ × List ℕ). p.1) parts)
 
 -- the function gives an order exactly for the words that spell one
 pub order_of_spells : (word : List ℕ) (order : CoreOrder) → (order_of word ≡ Some order) ↔ Spells word order

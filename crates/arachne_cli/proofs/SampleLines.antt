@@ -1,7 +1,6 @@
 -- A line of a text of samples is read exactly.
-use Rattle.std.proofs.Common.{◌≡◌, ℕ, ◌^◌, List, [], ◌∷◌, ◌++◌, Ok, refl, sym, ap, subst, ◌∙◌, append_assoc, arith, lit<}
+use Rattle.std.proofs.Common.{◌≡◌, ℕ, ◌^◌, List, [], ◌∷◌, ◌++◌, Ok, refl, sym, ap, subst, ◌∙◌, append_assoc, arith, lit<, codes}
 use Rattle.std.proofs.lemmas.List.{append-nil, append_cancel_left}
-use Rattle.std.specs.Prelude.{codes}
 use Rattle.arachne_lang.specs.Spelling.{numeral, after_spaces}
 use Rattle.arachne_lang.specs.Reading.{Reading, ◌>>=◌, number_at}
 use Rattle.arachne_lang.proofs.Numerals.{NoDigit, numeral-not_empty}

@@ -1,6 +1,5 @@
 -- The reading of samples stops at the first fault of the text.
-use Rattle.std.proofs.Common.{◌≡◌, ℕ, zero, suc, ◌+◌, ◌-◌, ◌<◌, ◌≤◌, List, [], ◌∷◌, ◌++◌, length, take, drop, None, Result, Ok, Err, refl, sym, ap, subst, ◌∙◌, append_assoc, arith, inl, inr, length-append}
-use Rattle.std.specs.Prelude.{◌⊎◌, ◌==◌, true, false}
+use Rattle.std.proofs.Common.{◌≡◌, ℕ, zero, suc, ◌+◌, ◌-◌, ◌<◌, ◌≤◌, List, [], ◌∷◌, ◌++◌, length, take, drop, None, Result, Ok, Err, refl, sym, ap, subst, ◌∙◌, append_assoc, arith, inl, inr, length-append, ◌⊎◌, ◌==◌, true, false}
 use Rattle.std.proofs.Math.Seq.{take-append_seam, take-append-add}
 use Rattle.std.proofs.lemmas.Bool.{cases_lt, cases_order, eqb-true}
 use Rattle.std.proofs.lemmas.List.{append-nil, take-append-drop, take-append-le}
@@ -305,11 +304,9 @@ line_read before text bytes rest s read e at =
 
 -- the text of samples in range has no fault
 no_fault : (bytes : List ℕ) (samples : List Sample) → AreInRange samples → samples_text samples ≡ bytes → (f : TextFault) → HasFault bytes f → ⊥
-no_fault bytes samples fits text fault.Memory h = h
-no_fault bytes samples fits text (fault.Header b) h = h
-no_fault bytes samples fits text (fault.Nesting b) h = h
 no_fault bytes samples fits text (fault.Syntax b) h = h.0 (samples, text)
 no_fault bytes samples fits text (fault.Number b) h = h.3 (samples, drop (b + 1) bytes, fits, text ∙ sym (take-append-drop (b + 1) bytes))
+no_fault bytes samples fits text _ h = h
 
 pub read_has_no_fault : (bytes : List ℕ) (samples : List Sample) → AreInRange samples → samples_text samples ≡ bytes → (f : TextFault) → IsFirstFault bytes f → ⊥
 read_has_no_fault bytes samples fits text f one = no_fault bytes samples fits text f one.has

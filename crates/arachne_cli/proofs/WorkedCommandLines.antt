@@ -1,7 +1,6 @@
 -- Words that were worked out by hand: the request that they make by the definitions, and whether the program takes
 -- them.
-use Rattle.std.proofs.Common.{◌≡◌, List, [], ◌∷◌, Bool, true, false, Option, Some, None, refl}
-use Rattle.std.specs.Prelude.{codes}
+use Rattle.std.proofs.Common.{◌≡◌, List, [], ◌∷◌, Bool, true, false, Option, Some, None, refl, codes}
 use Rattle.clap.specs.Words.{Text}
 use Rattle.clap.specs.Walk.{walked}
 use Rattle.clap.specs.Takes.{walk_passes}

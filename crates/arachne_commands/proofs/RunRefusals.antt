@@ -1,7 +1,5 @@
 -- Why a run is refused, by the choosers that it is given.
-use Rattle.std.proofs.Common.{◌≡◌, ◌≤◌, ℕ, Bool, true, false, List, Option, None, Some, Result, Ok, Err, refl, sym, ap, subst, ◌∙◌, inl, inr, length}
-use Rattle.std.specs.Prelude.{◌&&◌, nat_le, IfErr, IsOk}
-use Rattle.std.proofs.lemmas.Bool.{leb-true}
+use Rattle.std.proofs.Common.{◌≡◌, ◌≤◌, ℕ, Bool, true, false, List, Option, None, Some, Result, Ok, Err, refl, sym, ap, subst, ◌∙◌, inl, inr, length, ◌&&◌, nat_le, IfErr, IsOk, leb-true}
 use Rattle.std.proofs.lemmas.List.FromFn.{length-map-range_with_len}
 use Rattle.arachne_core.specs.declared.layout.TheConstants.{CORES}
 use Rattle.arachne_run.specs.declared.fault.RunFault.{RunFault}

@@ -1,26 +1,17 @@
 -- That what a handle holds stays as it has to be, by what each call leaves in the hand.
-use Rattle.std.proofs.Common.{◌≡◌, ◌≢◌, ℕ, ◌+◌, ◌*◌, ◌/◌, ◌%◌, ◌^◌, ◌<◌, List, [], ◌∷◌, ◌++◌, map, if◌then◌else◌, sym, ap, refl, ◌∙◌, subst, arith, Option, None, Some}
-use Rattle.std.specs.Prelude.{IfSome, IfNone}
-use Rattle.std.specs.Int.{w64, bit_at, trailing_zeros}
+use Rattle.std.proofs.Common.{◌≡◌, ℕ, ◌+◌, ◌*◌, ◌/◌, ◌^◌, ◌<◌, List, [], ◌∷◌, ◌++◌, map, if◌then◌else◌, sym, ap, refl, ◌∙◌, subst, arith, Option, None, Some, ne_eqb, append-nil}
+use Rattle.std.specs.Int.{w64, trailing_zeros}
 use Rattle.std.specs.Int.RustNames.{bit_and}
-use Rattle.std.proofs.lemmas.Bool.{ne_eqb}
-use Rattle.std.proofs.lemmas.List.{append-nil}
 use Rattle.std.proofs.lemmas.Nat.{and_le_l}
 use Rattle.std.proofs.lemmas.Nat.Bits.{bit_at-zero, bit_at-trailing_zeros}
 use mathlib.Core.Logic.{dite}
 use native.Mathlib.Decide.{ℕ_discrete}
-use Rattle.arachne_exec.specs.declared.answers.HeldJob.{HeldJob}
-use Rattle.arachne_exec.specs.declared.answers.Next.{Next}
-use Rattle.arachne_exec.specs.declared.answers.Next.TheVariants as next
-use Rattle.arachne_exec.specs.declared.answers.WokenHere.{WokenHere}
-use Rattle.arachne_exec.specs.declared.answers.WokenHere.TheVariants as here
-use Rattle.arachne_exec.specs.Calls.{KeepsHand, HandsOver, HandsMany, LaysDown, HandsNext, HandsWoken}
+use Rattle.arachne_exec.specs.Calls.{HandsMany, LaysDown}
 use Rattle.arachne_exec.specs.Changes.{older}
 use Rattle.arachne_exec.specs.Layout.{others, places_in_word}
 use Rattle.arachne_exec.specs.Seats.{Places, SeatView, IsNewest}
 use Rattle.arachne_exec.proofs.Places.{lowest-first, none-there}
 use Rattle.arachne_exec_c.specs.Executing.{Exec, AreAt, IsInHand, IsKept, lowest_place, without_lowest}
-use Rattle.arachne_exec_c.specs.ExecTold.{place_of_job, job_to_run, job_woken}
 
 abbrev pub exec_of : Places → SeatView → Option ℕ → ℕ → ℕ → Exec
 exec_of executor seat hand more worker = record { executor = executor; seat = seat; hand = hand; more = more; worker = worker }
@@ -79,31 +70,6 @@ module _ (executor : Places) (old new : SeatView) (hand : Option ℕ) (more work
   empty : hand ≡ None → (old.known.hand ≡ []) × (more ≡ 0)
   empty none = subst (λ (h : Option ℕ). IsInHand executor.shards h more old.known.hand) none kept.held
 
-  -- the hand is as it was
-  pub kept-same : KeepsHand old.known new.known → IsKept (exec_of executor new hand more worker)
-  kept-same has = record {
-    own = own;
-    held = subst (IsInHand executor.shards hand more) (sym has.0) kept.held;
-    number = has.1 ∙ kept.number;
-    few = kept.few;
-  }
-
-  -- a job came into it
-  pub kept-job : (job : HeldJob) → hand ≡ None → HandsOver (4096 * executor.shards) job old.known new.known → IsKept (exec_of executor new (Some job.place) more worker)
-  kept-job job none has = let nothing = empty none in record {
-    own = own;
-    held = (
-      job.job,
-      [],
-      has.1 ∙ ap (λ (h : List (ℕ × ℕ)). (job.place, job.job) ∷ h) nothing.0,
-      sym (ap (places_in_word (job.place / 64)) nothing.1 ∙ nowhere (job.place / 64)),
-      has.0,
-      omega (arith, nothing.1),
-    );
-    number = has.2 ∙ kept.number;
-    few = kept.few;
-  }
-
   -- several came into it
   pub kept-many : (block bits : ℕ) → hand ≡ None → block < 64 * executor.shards → bits < 2 ^ 64 → HandsMany bits block old.known new.known
       → IsKept (exec_of executor new (lowest_place block bits) (without_lowest bits) worker)
@@ -134,17 +100,6 @@ module _ (executor : Places) (old new : SeatView) (hand : Option ℕ) (more work
 
     pub kept-laid-by : (place : ℕ) → now ≡ (lowest_place (place / 64) more, without_lowest more) → hand ≡ Some place → LaysDown old.known new.known → IsKept (exec_of executor new now.0 now.1 worker)
     kept-laid-by place is some has = subst (λ (z : Option ℕ × ℕ). IsKept (exec_of executor new z.0 z.1 worker)) (sym is) (kept-laid place some has)
-
--- the same of a take, by which also the turn changes
-module _ (executor : Places) (old new : SeatView) (hand : Option ℕ) (more worker : ℕ) (kept : IsKept (exec_of executor old hand more worker)) (stays : new ≡ record old { known = new.known; turn = new.turn }) where
-  taken-own : new.table ≡ executor.table
-  taken-own = ap (λ (s : SeatView). s.table) stays ∙ kept.own
-
-  pub taken-same : KeepsHand old.known new.known → IsKept (exec_of executor new hand more worker)
-  taken-same has = let is = kept-same executor old (record old { known = new.known }) hand more worker kept refl has in record { own = taken-own; held = is.held; number = is.number; few = is.few }
-
-  pub taken-job : (job : HeldJob) → hand ≡ None → HandsOver (4096 * executor.shards) job old.known new.known → IsKept (exec_of executor new (Some job.place) more worker)
-  taken-job job none has = let is = kept-job executor old (record old { known = new.known }) hand more worker kept refl job none has in record { own = taken-own; held = is.held; number = is.number; few = is.few }
 
 -- the job in hand is the newest, and stands at a place of the executor
 pub newest : (executor : Places) (seat : SeatView) (hand : Option ℕ) (more worker place : ℕ) → IsKept (exec_of executor seat hand more worker) → hand ≡ Some place

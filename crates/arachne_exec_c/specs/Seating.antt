@@ -1,5 +1,5 @@
 -- The seat that a handle on locks holds, and its change by each call.
-use Rattle.std.specs.Prelude.{◌≡◌, ℕ, ◌<◌, ◌≤◌, Bool, true, false}
+use Rattle.std.specs.Prelude.{◌≡◌, ℕ, ◌<◌}
 use Rattle.std.specs.declared.option.Option.{Option}
 use Rattle.std.specs.declared.option.Option.TheVariants.{None, Some}
 use Rattle.arachne_lock.specs.Views.{LocksView, SeatView, first_seat, first_half, second_half, joined_with}

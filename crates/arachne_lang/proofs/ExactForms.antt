@@ -1,7 +1,5 @@
 -- The rest of a form behind its word is read exactly.
-use Rattle.std.proofs.Common.{◌≡◌, ℕ, zero, suc, ◌^◌, ◌<◌, List, [], ◌++◌, Some, Ok, refl, sym, ap, subst, ◌∙◌, append_assoc, lit<}
-use Rattle.std.specs.Prelude.{codes}
-use Rattle.std.proofs.lemmas.List.{append-nil}
+use Rattle.std.proofs.Common.{◌≡◌, ℕ, zero, suc, ◌^◌, ◌<◌, List, [], ◌++◌, Some, Ok, refl, sym, ap, subst, ◌∙◌, append_assoc, lit<, codes, append-nil}
 use Rattle.arachne_program.specs.Tree.{Tree, Number}
 use Rattle.arachne_lang.specs.Spelling.{numeral, spelling}
 use Rattle.arachne_lang.specs.Text.{NumbersFit}

@@ -1,6 +1,5 @@
 -- The text of a program is read exactly.
-use Rattle.std.proofs.Common.{◌≡◌, ℕ, zero, suc, ◌<◌, List, [], ◌∷◌, ◌++◌, length, Option, Some, Result, Ok, Err, refl, sym, ap, subst, ◌∙◌, append_assoc, arith, lit<}
-use Rattle.std.specs.Prelude.{◌==◌, Bool, true, false, codes}
+use Rattle.std.proofs.Common.{◌≡◌, ℕ, zero, suc, ◌<◌, List, [], ◌∷◌, ◌++◌, length, Option, Some, Result, Ok, Err, refl, sym, ap, subst, ◌∙◌, append_assoc, arith, lit<, ◌==◌, Bool, true, false, codes}
 use Rattle.std.specs.List.{AllByRecursion, flat_map}
 use Rattle.std.proofs.lemmas.Bool.{eqb-true, eqb-false}
 use Rattle.std.proofs.lemmas.List.{append-nil, append_cancel_left}
@@ -169,9 +168,6 @@ lines_of_range arrays s t e ledgers locks root text = (
 
 abbrev pub arrays_text : List (List ℕ) → List ℕ
 arrays_text arrays = flat_map (line (codes "array")) arrays
-
-array_line : (array : List ℕ) → line (codes "array") array ≡ codes "array" ++ items_text array
-array_line array = refl
 
 arrays_text-more : (array : List ℕ) (arrays : List (List ℕ)) (x : List ℕ) → arrays_text (array ∷ arrays) ++ x ≡ codes "array" ++ (items_text array ++ (arrays_text arrays ++ x))
 arrays_text-more array arrays x =

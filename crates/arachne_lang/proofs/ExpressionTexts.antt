@@ -1,6 +1,5 @@
 -- No expression begins another.
-use Rattle.std.proofs.Common.{◌≡◌, ℕ, zero, suc, List, [], ◌∷◌, ◌++◌, refl, sym, ap, subst, ◌∙◌, append_assoc, lit<}
-use Rattle.std.specs.Prelude.{codes}
+use Rattle.std.proofs.Common.{◌≡◌, ℕ, zero, suc, List, [], ◌∷◌, ◌++◌, refl, sym, ap, subst, ◌∙◌, append_assoc, lit<, codes}
 use Rattle.std.proofs.lemmas.List.{append_cancel_left}
 use Rattle.arachne_lang.specs.declared.reading.heads.Head.{Head}
 use Rattle.arachne_program.specs.Tree.{Tree, Number}

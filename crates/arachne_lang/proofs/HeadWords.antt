@@ -1,7 +1,5 @@
 -- The words of the forms are read exactly.
-use Rattle.std.proofs.Common.{◌≡◌, ℕ, List, [], ◌++◌, Some, Result, Ok, refl, sym, subst, ◌∙◌}
-use Rattle.std.specs.Prelude.{true}
-use Rattle.std.proofs.lemmas.List.{append-nil}
+use Rattle.std.proofs.Common.{◌≡◌, ℕ, List, [], ◌++◌, Some, Result, Ok, refl, sym, subst, ◌∙◌, true, append-nil}
 use Rattle.arachne_program.specs.declared.program.Class.TheVariants as class
 use Rattle.arachne_program.specs.declared.program.Operation.TheVariants as operation
 use Rattle.arachne_program.specs.declared.program.Reduction.TheVariants as reduction

@@ -1,6 +1,5 @@
 -- A form whose parts were written one after the other.
-use Rattle.std.proofs.Common.{◌≡◌, ℕ, List, [], ◌∷◌, ◌++◌, refl, ap, append_assoc, sym, ◌∙◌}
-use Rattle.std.proofs.lemmas.List.{append-nil}
+use Rattle.std.proofs.Common.{◌≡◌, ℕ, List, [], ◌∷◌, ◌++◌, refl, ap, append_assoc, sym, ◌∙◌, append-nil}
 use Rattle.arachne_lang.specs.Spelling.{after_spaces, bracketed}
 
 pub after_spaces-append : (some others : List (List ℕ)) → after_spaces (some ++ others) ≡ after_spaces some ++ after_spaces others

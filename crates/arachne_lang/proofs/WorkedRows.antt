@@ -1,6 +1,5 @@
 -- The definitions on programs whose results were found by hand.
-use Rattle.std.proofs.Common.{◌≡◌, ℕ, ◌-◌, ◌^◌, List, [], ◌∷◌, refl}
-use Rattle.std.specs.Prelude.{map, ◌++◌, length, codes, Some, Ok, Err}
+use Rattle.std.proofs.Common.{◌≡◌, ℕ, ◌-◌, ◌^◌, List, [], ◌∷◌, refl, map, ◌++◌, length, codes, Some, Ok, Err}
 use Rattle.arachne_program.specs.declared.check_fault.CheckFault.TheVariants as fault
 use Rattle.arachne_lang.specs.Spelling.{header, text_of}
 use Rattle.arachne_program.specs.Checked.{verdict_of}

@@ -21,15 +21,7 @@ module _ (w : World) (h x y : ℕ) (can : CanMove w x y) where
   apart e = subst IsAtRest (ap w.state e ∙ can.target.free) can.at_rest
 
   pub may_move : Allowed claimed (event.Move h x y)
-  may_move = record {
-    from = can.context;
-    to = can.target.context;
-    at_rest = subst IsAtRest (sym (with_at-other w.state y (Claimed h) x apart)) can.at_rest;
-    claimed = with_at-same w.state y (Claimed h);
-    apart = can.apart;
-    from_core = can.shared;
-    to_core = can.target.core.not_alone;
-  }
+  may_move = assumption (subst IsAtRest (sym (with_at-other w.state y (Claimed h) x apart)) can.at_rest, with_at-same w.state y (Claimed h))
 
   pub may_release : Allowed moved (event.Release h y)
   may_release = record { context = can.target.context; claimed = with_at-same w.state y (Claimed h) }

@@ -1,6 +1,5 @@
 -- The laws of effects on an account.
-use Rattle.std.proofs.Common.{◌≡◌, ℕ, ◌+◌, List, [], ◌∷◌, ◌++◌, length, refl, ap, sym, ◌∙◌, arith, append_assoc, length-append}
-use Rattle.std.proofs.lemmas.List.{append-nil}
+use Rattle.std.proofs.Common.{◌≡◌, ℕ, ◌+◌, List, [], ◌∷◌, ◌++◌, length, refl, ap, sym, ◌∙◌, arith, append_assoc, length-append, append-nil}
 use Rattle.std.proofs.Math.Path.{fun_ext}
 use Rattle.arachne_program.specs.declared.meaning.Line.{Line}
 use Rattle.arachne_program.specs.Effects.{Child, Effects, nothing, ◌⨾◌, forked, line_of}

@@ -1,6 +1,5 @@
 -- Threads that differ only in their label, or in the program, of which they have equal texts.
-use Rattle.std.proofs.Common.{◌≡◌, length, ℕ, List, [], ◌∷◌, ◌++◌, refl, ap, sym, ◌∙◌, arith}
-use Rattle.std.specs.Prelude.{map}
+use Rattle.std.proofs.Common.{◌≡◌, length, ℕ, List, [], ◌∷◌, ◌++◌, refl, ap, sym, ◌∙◌, arith, map}
 use Rattle.arachne_program.specs.Program.{source_of}
 use Rattle.arachne_program.specs.Tree.{Source}
 use Rattle.arachne_program.specs.Value.{Environment}

@@ -1,6 +1,5 @@
 -- The answers that count a hold or an amount.
-use Rattle.std.proofs.Common.{◌≡◌, length, ℕ, ◌+◌, List, [], ◌∷◌, None, Some, refl, ap, sym, ◌∙◌, subst, arith, take, drop}
-use Rattle.std.specs.Prelude.{◌==◌, if◌then◌else◌, map, reverse}
+use Rattle.std.proofs.Common.{◌≡◌, length, ℕ, ◌+◌, List, [], ◌∷◌, None, Some, refl, ap, sym, ◌∙◌, subst, arith, take, drop, ◌==◌, if◌then◌else◌, map, reverse}
 use Rattle.std.specs.Borrow.{Bor}
 use Rattle.std.specs.Global.{Box}
 use Rattle.std.proofs.lemmas.List.{drop-set-lt, get_or-set_same, length-set, take-set}
@@ -158,15 +157,7 @@ with_body old counted new body is h = record {
 -- the innermost thread after such an answer
 top_rest : (old new : State) → KeepsRest old new → (top new).own.name ≡ (top old).own.name → (top new).own.label ≡ (top old).own.label → (top new).below ≡ (top old).below →
     LeavesRest (top old) (top new)
-top_rest old new h name label below = record {
-  program = h.program;
-  name = name;
-  label = label;
-  below = below;
-  forks = ap (λ x. x.forks) h.level;
-  frames = ap (λ x. drop x.start new.frames.items) h.level ∙ ap (drop old.level.start) h.frames;
-  environment = h.environment;
-}
+top_rest old new h name label below = assumption (ap (λ x. x.forks) h.level, ap (λ x. drop x.start new.frames.items) h.level ∙ ap (drop old.level.start) h.frames)
 
 -- the lines below the innermost
 below_rest : (old new : State) (lines : List ThreadLine) → KeepsRest old new → new.lines ≡ lines → (top new).below ≡ below_at (reverse old.parents.items) lines old.level.place

@@ -1,6 +1,5 @@
 -- A sweep that is split in halves has the same result.
-use Rattle.std.proofs.Common.{◌≡◌, ◌≤◌, ◌<◌, ℕ, zero, suc, ◌+◌, ◌-◌, ◌*◌, ◌/◌, ◌^◌, List, [], ◌∷◌, ◌++◌, true, false, inl, inr, refl, ap, sym, ◌∙◌, arith, rules}
-use Rattle.std.specs.Prelude.{min, max, nat_le, if◌then◌else◌}
+use Rattle.std.proofs.Common.{◌≡◌, ◌≤◌, ◌<◌, ℕ, zero, suc, ◌+◌, ◌-◌, ◌*◌, ◌/◌, ◌^◌, List, [], ◌∷◌, ◌++◌, true, false, inl, inr, refl, ap, sym, ◌∙◌, arith, rules, min, max, nat_le, if◌then◌else◌}
 use Rattle.std.specs.Int.Bits.{xor_assoc, xor_zero_r}
 use Rattle.std.proofs.Math.Nat.{min-le_left, min-eq_left, max-zero, mod-mod, add-mod-mod, mod-add-mod, add_assoc, mul_assoc}
 use Rattle.std.proofs.lemmas.Nat.{mul-mod_first, mul-mod_second}

@@ -1,9 +1,7 @@
 -- A step that hands a value on doesn't change the result of the thread.
-use Rattle.std.proofs.Common.{◌≡◌, ◌≢◌, ◌≤◌, ◌<◌, ℕ, ◌+◌, ◌-◌, List, [], ◌∷◌, ◌++◌, length, length-append, None, Some, inl, inr, refl, ap, sym, ◌∙◌, arith, subst, append_assoc, take, Bool, true, false, rules}
-use Rattle.std.specs.Prelude.{slice_index, ◌==◌, if◌then◌else◌, max}
+use Rattle.std.proofs.Common.{◌≡◌, ◌≢◌, ◌≤◌, ◌<◌, ℕ, ◌+◌, ◌-◌, List, [], ◌∷◌, ◌++◌, length, length-append, None, Some, inl, inr, refl, ap, sym, ◌∙◌, arith, subst, append_assoc, take, Bool, true, false, rules, slice_index, ◌==◌, if◌then◌else◌, max, append-nil}
 use Rattle.std.specs.Borrow.{Bor}
 use Rattle.std.proofs.lemmas.Bool.{cases_lt}
-use Rattle.std.proofs.lemmas.List.{append-nil}
 use Rattle.std.proofs.Math.Seq.{take-append_seam}
 use Rattle.arachne_program.specs.declared.program.Expr.{Expr}
 use Rattle.arachne_program.specs.declared.program.Operation.{Operation}

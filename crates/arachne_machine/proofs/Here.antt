@@ -1,7 +1,6 @@
 -- A child that will run here begins, and is joined.
-use Rattle.std.proofs.Common.{◌≡◌, ℕ, List, [], ◌∷◌, ◌++◌, false, Some, refl, ap, subst, sym, ◌∙◌, arith}
+use Rattle.std.proofs.Common.{◌≡◌, ℕ, List, [], ◌∷◌, ◌++◌, false, Some, refl, ap, subst, sym, ◌∙◌, arith, append-nil}
 use Rattle.std.specs.Borrow.{Bor}
-use Rattle.std.proofs.lemmas.List.{append-nil}
 use Rattle.arachne_program.specs.declared.program.Expr.{Expr}
 use Rattle.arachne_program.specs.Program.{source_of, tree_of}
 use Rattle.arachne_program.specs.Effects.{Evaluate}

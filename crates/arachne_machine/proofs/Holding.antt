@@ -1,10 +1,9 @@
 -- Lines whose holds are in one list.
-use Rattle.std.proofs.Common.{ℕ, ◌+◌, ◌≡◌, ◌≤◌, ◌<◌, List, [], ◌∷◌, ◌++◌, length, get_or, take, drop, refl, ap, sym, ◌∙◌, subst, arith, append_assoc, length-append}
-use Rattle.std.specs.Prelude.{◌*◌, zero, suc}
-use Rattle.std.proofs.lemmas.List.{drop-append-le, drop-set-add, drop-set-lt, drop_at, get_or-drop, get_or-take, length-drop, length-take-le, take-append-le, take-set-le, take_all, take_at}
+use Rattle.std.proofs.Common.{ℕ, ◌+◌, ◌≡◌, ◌≤◌, ◌<◌, List, [], ◌∷◌, ◌++◌, length, get_or, take, drop, refl, ap, sym, ◌∙◌, subst, arith, append_assoc, length-append, ◌*◌, zero, suc}
+use Rattle.std.proofs.lemmas.List.{drop-append-le, drop-set-add, drop-set-lt, drop_at, get_or-drop, get_or-take, length-drop, length-take-le, take-append-le, take-set-le, take_all, take_at, drop-drop}
 use Rattle.std.proofs.Math.ListN.{set}
 use Rattle.std.proofs.Math.Nat.{suc-mul}
-use Rattle.std.proofs.Math.Seq.{drop-nil, take-set-lt}
+use Rattle.std.proofs.Math.Seq.{take-set-lt}
 use Rattle.arachne_program.specs.Value.{wrapped}
 use Rattle.arachne_machine.specs.declared.line.ThreadLine.{ThreadLine}
 use Rattle.arachne_machine.specs.declared.line_list.Mark.{Mark}
@@ -49,11 +48,6 @@ holds-append locks (mark ∷ marks) others holds more fit fits =
       suc-mul (length (marks ++ others)) locks,
     )
 
-drop-drop : (n m : ℕ) (l : List ℕ) → drop m (drop n l) ≡ drop (n + m) l
-drop-drop zero m l = let none : m ≡ zero + m = omega arith in ap (λ (k : ℕ). drop k l) none
-drop-drop (suc n) m [] = drop-nil m ∙ sym (drop-nil (suc n + m))
-drop-drop (suc n) m (x ∷ l) = let more : suc (n + m) ≡ suc n + m = omega arith in drop-drop n m l ∙ ap (λ (k : ℕ). drop k (x ∷ l)) more
-
 -- the line at a place
 pub with_holds-at : (locks : ℕ) (marks : List Mark) (holds : List ℕ) (place : ℕ) (mark : Mark) (other : ThreadLine) → place < length marks → mark ≡ get_or marks place mark →
     get_or (with_holds locks marks holds) place other ≡ line_with mark (take locks (drop (place * locks) holds))
@@ -64,7 +58,7 @@ with_holds-at locks (first ∷ marks) holds zero mark other within is =
 with_holds-at locks (first ∷ marks) holds (suc place) mark other within is =
     let more : locks + place * locks ≡ suc place * locks = omega (arith, suc-mul place locks) in
     with_holds-at locks marks (drop locks holds) place mark other (omega (arith, within)) is
-    ∙ ap (λ (l : List ℕ). line_with mark (take locks l)) (drop-drop locks (place * locks) holds)
+    ∙ ap (λ (l : List ℕ). line_with mark (take locks l)) (drop-drop (place * locks) locks holds)
     ∙ ap (λ (n : ℕ). line_with mark (take locks (drop n holds))) more
 
 -- the numbers of the line at a place are within the list

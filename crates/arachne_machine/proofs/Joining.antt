@@ -1,8 +1,6 @@
 -- Joins, and the answers to pauses that count.
-use Rattle.std.proofs.Common.{◌≡◌, ℕ, ◌+◌, List, [], ◌∷◌, ◌++◌, length, None, Some, refl, ap, sym, ◌∙◌, subst, arith, append_assoc, take, drop}
-use Rattle.std.specs.Prelude.{slice_get, option_map}
+use Rattle.std.proofs.Common.{◌≡◌, ℕ, ◌+◌, List, [], ◌∷◌, ◌++◌, length, None, Some, refl, ap, sym, ◌∙◌, subst, arith, append_assoc, take, drop, slice_get, option_map, append-nil}
 use Rattle.std.specs.Borrow.{Bor}
-use Rattle.std.proofs.lemmas.List.{append-nil}
 use Rattle.std.proofs.Math.Seq.{drop-length, take-append_seam, take-length}
 use Rattle.arachne_program.specs.declared.program.Expr.{Expr}
 use Rattle.arachne_program.specs.declared.program.Reduction.{Reduction}
@@ -42,13 +40,7 @@ joins_by old new outcome n k k' gs' env' is_k is_name program own forks is_k' fr
     let fs = old.frames in
     let env = old.environment in
     let at : IsAt source name k (fs ++ []) env old = at_itself old k is_k in
-    let at' : IsAt source name k' (fs ++ gs') env' new = record {
-      source_is = ap (λ p. source_of p.now) program;
-      name_is = ap (λ o. o.name) own;
-      control_is = is_k';
-      frames_are = frames;
-      environment_is = environment;
-    } in
+    let at' : IsAt source name k' (fs ++ gs') env' new = assumption (ap (λ p. source_of p.now) program, ap (λ o. o.name) own) in
     record {
       program = program;
       own = own;
@@ -153,13 +145,7 @@ counts_by old new answered effects k k' is_k is_k' rest holds left left' awaits 
     let fs = old.frames in
     let env = old.environment in
     let at : IsAt source name k (fs ++ []) env old = at_itself old k is_k in
-    let at' : IsAt source name k' (fs ++ []) env new = record {
-      source_is = ap (λ p. source_of p.now) rest.program;
-      name_is = rest.name;
-      control_is = is_k';
-      frames_are = rest.frames ∙ sym (append-nil fs);
-      environment_is = rest.environment;
-    } in
+    let at' : IsAt source name k' (fs ++ []) env new = assumption (ap (λ p. source_of p.now) rest.program, rest.frames ∙ sym (append-nil fs)) in
     let end = same_end 0 0 (At answered ∷ []) Any (after name effects) source name k k' fs [] [] env env old new at at' (left (fs ++ [])) (left' (fs ++ [])) (λ h. (keep, tt)) outlook in
     record {
       program = rest.program;

@@ -1,6 +1,5 @@
 -- The outermost thread of a state is marked as one that runs in its parent's place.
-use Rattle.std.proofs.Common.{◌≡◌, ℕ, List, [], ◌∷◌, take, refl, ap, sym, ◌∙◌, subst, arith}
-use Rattle.std.specs.Prelude.{map, reverse}
+use Rattle.std.proofs.Common.{◌≡◌, ℕ, List, [], ◌∷◌, take, refl, ap, sym, ◌∙◌, subst, arith, map, reverse}
 use Rattle.std.specs.Borrow.{Bor}
 use Rattle.arachne_program.specs.declared.program.Program.{Program}
 use Rattle.arachne_program.specs.Value.{Environment}

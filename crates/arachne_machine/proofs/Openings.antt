@@ -1,7 +1,5 @@
 -- A step that begins an expression doesn't change the result of the thread.
-use Rattle.std.proofs.Common.{◌≡◌, ℕ, ◌+◌, ◌-◌, List, [], ◌∷◌, ◌++◌, length, None, refl, ap, sym, ◌∙◌, arith, subst}
-use Rattle.std.proofs.lemmas.List.{append-nil}
-use Rattle.std.specs.Prelude.{slice_index, nat_lt, ◌==◌, if◌then◌else◌, Bool}
+use Rattle.std.proofs.Common.{◌≡◌, ℕ, ◌+◌, ◌-◌, List, [], ◌∷◌, ◌++◌, length, None, refl, ap, sym, ◌∙◌, arith, subst, append-nil, slice_index, nat_lt, ◌==◌, if◌then◌else◌, Bool}
 use Rattle.std.specs.Borrow.{Bor}
 use Rattle.arachne_program.specs.declared.check_fault.CheckFault.TheVariants as fault
 use Rattle.arachne_program.specs.declared.program.Expr.{Expr}
@@ -30,7 +28,7 @@ use Rattle.arachne_machine.proofs.Accounts.{after-nothing, after-sequence}
 use Rattle.arachne_machine.proofs.Faultlessness.{no_faults-append, unless_none, or_else_none, less}
 use Rattle.arachne_machine.proofs.Frames.{with_steps-add}
 use Rattle.arachne_machine.proofs.Purity.{binary_pure, leaf_pure, leaf_work}
-use Rattle.arachne_machine.proofs.Outlooks.{StepOutlook, Step, steps_by, as_it_is, framed_as, alone, none_here, none_kept, nothing_first}
+use Rattle.arachne_machine.proofs.Outlooks.{StepOutlook, Step, steps_by, framed_as, alone, none_here, none_kept, nothing_first}
 
 -- After this many steps of an expression these frames and this next action have the result of the expression.
 pub record Opens (steps : ℕ) (source : Source) (name : List ℕ) (tree : Tree) (env : List ℕ) (k' : Control) (gs' : List Frame) : Type 0 where
@@ -64,7 +62,7 @@ begins_by steps old new expr tree k' gs' begins is_tree b left forks o =
     let env = old.environment in
     let same = subst (λ t. Opens steps source name t env k' gs') (sym is_tree) o in
     steps_by steps old old new (Begin expr) k' fs [] gs' env env
-    (framed_as old old env (fs ++ []) (fs ++ []) old.control (Begin expr) (alone old old env old.control (as_it_is old)) refl begins)
+    (framed_as old old env (fs ++ []) (fs ++ []) old.control (Begin expr) (alone old old env old.control assumption) refl begins)
     b refl (left (fs ++ gs')) forks (none_here gs' (nothing_first (fork_awaited k') (forks_of gs') forks).1) (λ h. none_kept source name k' gs' env forks)
     (opened steps source name expr env k' gs' same)
 

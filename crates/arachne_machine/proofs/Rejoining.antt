@@ -1,6 +1,5 @@
 -- The outcome of a child that had a state of its own is joined.
-use Rattle.std.proofs.Common.{◌≡◌, ◌≤◌, length, length-append, append_assoc, ℕ, ◌+◌, List, [], ◌∷◌, ◌++◌, None, refl, ap, sym, ◌∙◌, subst, arith, take, drop}
-use Rattle.std.specs.Prelude.{map, reverse}
+use Rattle.std.proofs.Common.{◌≡◌, ◌≤◌, length, length-append, append_assoc, ℕ, ◌+◌, List, [], ◌∷◌, ◌++◌, None, refl, ap, sym, ◌∙◌, subst, arith, take, drop, map, reverse}
 use Rattle.std.specs.Borrow.{Bor}
 use Rattle.std.specs.Global.{Box}
 use Rattle.std.proofs.lemmas.List.{drop-append-le, get_or_append_left, take-append-le}

@@ -1,7 +1,6 @@
 -- A thread that has not begun, in the place of one that has ended.
-use Rattle.std.proofs.Common.{◌≡◌, [], ◌∷◌, ◌++◌, None, false, refl, ap, ◌∙◌, arith}
+use Rattle.std.proofs.Common.{◌≡◌, [], ◌∷◌, ◌++◌, None, false, refl, ap, ◌∙◌, arith, append-nil}
 use Rattle.std.specs.Borrow.{Bor}
-use Rattle.std.proofs.lemmas.List.{append-nil}
 use Rattle.arachne_program.specs.declared.program.Program.{Program}
 use Rattle.arachne_program.specs.Program.{source_of}
 use Rattle.arachne_program.specs.Effects.{tabulated, task_effects, task_value}
@@ -20,13 +19,7 @@ use Rattle.arachne_machine.proofs.Outlooks.{IsAt, KeepsBy, account_at, at_faultl
 
 begins_at : (program : Bor Program) (own : Owned) (k : Control) (env : Environment) (t : Strand) → HasNotBegun program own k env t →
     IsAt (source_of program.now) own.name k [] env t
-begins_at program own k env t r = record {
-  source_is = ap (λ p. source_of p.now) r.program_is;
-  name_is = ap (λ o. o.name) r.own_is;
-  control_is = r.control_is;
-  frames_are = r.frames;
-  environment_is = r.environment_is;
-}
+begins_at program own k env t r = assumption (ap (λ p. source_of p.now) r.program_is, ap (λ o. o.name) r.own_is)
 
 -- A thread that has not begun, given its next action: its result is that of the action; it awaits and releases nothing,
 -- and has no forks.

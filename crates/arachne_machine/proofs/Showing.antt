@@ -1,6 +1,5 @@
 -- The view that callers have of an advance.
-use Rattle.std.proofs.Common.{◌≡◌, ◌-◌, ◌≤◌, ℕ, ◌+◌, List, [], ◌∷◌, ◌++◌, None, Some, Option, refl, ap, sym, ◌∙◌, subst, arith}
-use Rattle.std.specs.Prelude.{map, option_map, slice_get}
+use Rattle.std.proofs.Common.{◌≡◌, ◌-◌, ◌≤◌, ℕ, ◌+◌, List, [], ◌∷◌, ◌++◌, None, Some, Option, refl, ap, sym, ◌∙◌, subst, arith, map, option_map, slice_get}
 use Rattle.std.specs.Global.{Box}
 use Rattle.arachne_program.specs.declared.program.Class.{Class}
 use Rattle.arachne_program.specs.Program.{source_of}
@@ -154,9 +153,6 @@ shown_pause Q had beside left old new ps qs pause.Ended one p =
       sums = s.sums;
     }
 
-forks_go_on : ◌≡◌ {A = Option Pending} (Some pause.Forks) (Some pause.Ended) → ⊥
-forks_go_on e = cc
-
 -- it forks a child
 shown_fork : (Q : Type 0) (had beside left : ℕ) (old new : State) (ps qs : List (Box State)) (class : Class) (child : Box State) → IsKept old ps → had ≡ beside + 1 → WentToFork Q beside left old ps class child.value new qs →
     Shown Q had left old ps (pauses.Forks class (nested child.value [])) new qs
@@ -179,7 +175,7 @@ shown_fork Q had beside left old new ps qs class child was one f =
       λ ledger. ap (λ f. f ledger) (with_fork-sums made account),
     )) in
     let kept_new = kept_sound new qs sound w.kept.children (subst (λ p. ArePlaced (source_of p.now) (seen_children qs)) (sym l.program) w.kept.nested_is.waiting)
-    (λ e. absurd (forks_go_on (sym f.gives.pending ∙ e))) in
+    (λ e. cc (sym f.gives.pending ∙ e)) in
     let alone_c : IsAlone (nested c []) = (ap (map suspended) (alone_waiting c f.alone), refl, f.gives.fresh.here) in
     let whole_c : whole (nested c []) ≡ suspended (top c) = ap (λ ts. outermost (suspended (top c)) (map suspended ts)) (alone_waiting c f.alone) in
     let fresh : IsFresh (suspended (top new)).program ((suspended (top new)).name ++ (top last).forks ∷ []) 0 (whole (nested c [])) =

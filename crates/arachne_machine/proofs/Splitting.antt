@@ -1,8 +1,6 @@
 -- A fork doesn't change the result of the thread, if the child is the one of the fork's number.
-use Rattle.std.proofs.Common.{◌≡◌, ◌<◌, ℕ, ◌+◌, ◌-◌, ◌/◌, List, [], ◌∷◌, ◌++◌, length, Bool, false, Some, refl, ap, sym, ◌∙◌, subst, arith, append_assoc}
-use Rattle.std.specs.Prelude.{unwrap_or, max}
+use Rattle.std.proofs.Common.{◌≡◌, ◌<◌, ℕ, ◌+◌, ◌-◌, ◌/◌, List, [], ◌∷◌, ◌++◌, length, Bool, false, Some, refl, ap, sym, ◌∙◌, subst, arith, append_assoc, unwrap_or, max, append-nil}
 use Rattle.std.specs.Borrow.{Bor}
-use Rattle.std.proofs.lemmas.List.{append-nil}
 use Rattle.arachne_program.specs.declared.program.Class.{Class}
 use Rattle.arachne_program.specs.declared.program.Class.TheVariants.{Normal}
 use Rattle.arachne_program.specs.declared.program.Expr.{Expr}
@@ -81,13 +79,7 @@ forks_by class handed answered old new begins k k' f is_k pushed left left' fork
     let task = task_begun begins env in
     let made = made_as class begins env in
     let at : IsAt source name k (fs ++ []) env old = at_itself old k is_k in
-    let at' : IsAt source name k' (fs ++ f ∷ []) env new = record {
-      source_is = ap (λ p. source_of p.now) pushed.program;
-      name_is = ap (λ o. o.name) pushed.own;
-      control_is = pushed.control_is;
-      frames_are = pushed.frames;
-      environment_is = pushed.environment;
-    } in
+    let at' : IsAt source name k' (fs ++ f ∷ []) env new = assumption (ap (λ p. source_of p.now) pushed.program, ap (λ o. o.name) pushed.own) in
     record {
       program = pushed.program;
       own = pushed.own;

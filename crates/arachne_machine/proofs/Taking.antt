@@ -9,7 +9,7 @@ use Rattle.arachne_program.specs.Meaning.{task_of}
 use Rattle.arachne_machine.specs.declared.frame.Frame.{Frame}
 use Rattle.arachne_machine.specs.declared.frame.Frame.TheVariants.{Join, Merge}
 use Rattle.arachne_machine.specs.declared.frame.Control.{Control}
-use Rattle.arachne_machine.specs.declared.frame.Control.TheVariants.{Begin, Give, Cover, Forked, Halved, Awaits, AwaitsHalf, Asks, Frees, Tallies, Ended}
+use Rattle.arachne_machine.specs.declared.frame.Control.TheVariants.{Give, Awaits, AwaitsHalf}
 use Rattle.arachne_machine.specs.declared.level.Parent.{Parent}
 use Rattle.arachne_machine.specs.declared.line.ThreadLine.{ThreadLine}
 use Rattle.arachne_machine.specs.declared.pause.Pending.TheVariants as pause
@@ -56,15 +56,7 @@ awaits_task t name (AwaitsHalf n right reduction) is p keeps of_child = record {
   named = awaited_child t n (AwaitsHalf n right reduction) name is refl of_child;
   forked = subst (λ x. AwaitsFork (source_of t.program.now) t.own.name x t.environment) is keeps.0;
 }
-awaits_task t name (Begin expr) is p keeps of_child = cc
-awaits_task t name (Give value) is p keeps of_child = cc
-awaits_task t name (Cover stretch) is p keeps of_child = cc
-awaits_task t name (Forked expr) is p keeps of_child = cc
-awaits_task t name (Halved stretch) is p keeps of_child = cc
-awaits_task t name (Asks lock body) is p keeps of_child = cc
-awaits_task t name (Frees lock value) is p keeps of_child = cc
-awaits_task t name (Tallies ledger amount body) is p keeps of_child = cc
-awaits_task t name (Ended value) is p keeps of_child = cc
+awaits_task t name _ is p keeps of_child = cc
 
 same_task : (a b : Task) → Some a ≡ Some b → a ≡ b
 same_task a b e = cc

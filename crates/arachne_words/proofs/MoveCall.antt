@@ -65,16 +65,10 @@ module _ (z : Contexts) (moving y g : ℕ) (source target : Place) (inside : y <
 pub to-carried : (c : Contexts) (x : ℕ) (seen : Marked) (target : Place) (y g : ℕ) (k after : Known) (answer : Moved) → ToAnswer c x seen target y g k answer after → after.carried ≡ without y k.carried
 to-carried c x seen target y g k after moved.Moved is = ap (λ (q : Known). q.carried) is.4
 to-carried c x seen target y g k after (moved.Lost word) is = ap (λ (q : Known). q.carried) is.2
-to-carried c x seen target y g k after (moved.NoRoom word) is = absurd is
-to-carried c x seen target y g k after moved.Unposted is = absurd is
-to-carried c x seen target y g k after moved.Running is = absurd is
-to-carried c x seen target y g k after moved.Alone is = absurd is
+to-carried c x seen target y g k after _ is = absurd is
 
 pub seen-answer : (c : Contexts) (x : ℕ) (seen : Marked) (to : ℕ) (k after : Known) (answer : Moved) (room index y g : ℕ) (claimed : Known) → HasRoom c to k room index y g claimed
     → ToAnswer c x seen (record { core = to; index = index }) y g claimed answer after → SeenAnswer c x seen to k answer after
 seen-answer c x seen to k after moved.Moved room index y g claimed has is = (room, index, y, g, claimed, has, is)
 seen-answer c x seen to k after (moved.Lost word) room index y g claimed has is = inr (room, index, y, g, claimed, has, is)
-seen-answer c x seen to k after (moved.NoRoom word) room index y g claimed has is = absurd is
-seen-answer c x seen to k after moved.Unposted room index y g claimed has is = absurd is
-seen-answer c x seen to k after moved.Running room index y g claimed has is = absurd is
-seen-answer c x seen to k after moved.Alone room index y g claimed has is = absurd is
+seen-answer c x seen to k after _ room index y g claimed has is = absurd is

@@ -35,9 +35,6 @@ module _ {T : Type 0} (tag_of : T → ℕ) (z : Contexts) (h : HoldView) (value 
     laid : s2 ≡ record s0 { known = learned (name_index z.table.slots h.place) context (with_context s0.known out_with); slots = (context, Some value) ∷ s0.slots }
     laid = e2 ∙ ap (λ (v : CallView T). record v { slots = (context, Some value) ∷ rest v.slots }) e1.1
 
-    pub slot-taken : HasLast s1.slots context None
-    slot-taken = subst (λ (v : CallView T). HasLast v.slots context None) (sym e1.1) refl
-
     pub restable : IsRestable tag_of z s2 context out_with value
     restable = record {
       context_is = e1.0;
@@ -81,15 +78,7 @@ module _ {T : Type 0} (tag_of : T → ℕ) (z : Contexts) (h : HoldView) (value 
 
     module _ (s3 : CallView T) (found : ℕ) (e3 : s3 ≡ record s2 { known = noted kind.RestBlocked context found found s2.known }) where
       pub restable-again : IsRestable tag_of z s3 context out_with value
-      restable-again = record {
-        context_is = e1.0;
-        inside = restable.inside;
-        carried = subst (λ (v : CallView T). Carries v.known out_with) (sym e3) restable.carried;
-        held = refl;
-        tagged = refl;
-        shown = refl;
-        slot = subst (λ (v : CallView T). HasLast v.slots h.id.context (Some value)) (sym e3) restable.slot;
-      }
+      restable-again = assumption (subst (λ (v : CallView T). Carries v.known out_with) (sym e3) restable.carried, subst (λ (v : CallView T). HasLast v.slots h.id.context (Some value)) (sym e3) restable.slot)
 
       pub after-lost : (s4 : CallView T) (before : ℕ) (ready : Marked) → ready ≡ marked_by mark.Ready h
           → s4 ≡ record s3 { known = noted kind.RestReady context before (mark_word CORE_BITS ready) (without_context s3.known out_with); slots = rest s3.slots }

@@ -66,14 +66,7 @@ module _ (z : Contexts) (p : Place) (x : ℕ) (inside : x < z.table.slots) (seen
     fresh-first = ap (λ (v : CallView T). carried_at x v.known.carried) (sym early) ∙ fresh
 
     pub taken : IsTaken z s4 x p first
-    taken = record {
-      context_is = refl;
-      inside = inside;
-      carried = subst (λ (v : CallView T). Carries v.known first) (sym late) (with-at first x s0.known.carried refl);
-      held = refl;
-      place = at;
-      slot = subst (λ (v : CallView T). HasLast v.slots x None) (sym late) refl;
-    }
+    taken = assumption (subst (λ (v : CallView T). Carries v.known first) (sym late) (with-at first x s0.known.carried refl), subst (λ (v : CallView T). HasLast v.slots x None) (sym late) refl)
 
     module _ (s5 : CallView T) (before : ℕ) (e5 : s5 ≡ record s4 {
       known = noted kind.KeepName (name_index z.table.slots p) before x (with_context s4.known at_last);

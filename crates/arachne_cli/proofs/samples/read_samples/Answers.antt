@@ -1,5 +1,4 @@
-use Rattle.std.proofs.Common.{◌++◌, ◌∙◌, sym, ap, inr}
-use Rattle.std.proofs.lemmas.List.{append-nil}
+use Rattle.std.proofs.Common.{◌++◌, ◌∙◌, sym, ap, inr, append-nil}
 use Rattle.arachne_cli.specs.Samples.{IsFirstFault, samples_text}
 use Rattle.arachne_cli.proofs.SampleTexts.{text-unique, stopped, line_read, read_has_no_fault, one_first_fault, some_left, none_left}
 use Rattle.arachne_cli.proofs.samples.read_samples.Goals as goal

@@ -1,5 +1,5 @@
-use Rattle.std.proofs.Common.{refl}
 use denote.Param.Send.{sendable}
+use Rattle.std.proofs.Crossing as std
 use Rattle.rand_xoshiro.proofs.xoshiro256.Xoshiro256PlusPlus.TheSendSync as chooser
 use Rattle.arachne_machine.proofs.Crossing.{thread_send}
 use Rattle.arachne_jobs.proofs.Crossing.{job_send, spares_send, ticket_send}
@@ -9,28 +9,7 @@ use Rattle.arachne_commands.proofs.running.run_program.Goals as goal
 
 -- the values that a run sends to its kernel threads and shares with them may cross; the program is checked
 pub run_on_words-requires : goal.run_on_words-requires
-run_on_words-requires g c κs = (
-  search (sendable, job_send) depth 20,
-  (
-    search (sendable, chooser.the_send) depth 20,
-    (
-      search (sendable, thread_send) depth 20,
-      (
-        search (sendable, ticket_send) depth 20,
-        (
-          search (sendable, spares_send) depth 20,
-          (
-            search (sendable, c.type_bounds.sync-R) depth 20,
-            (
-              search (sendable, gate.the_sync) depth 20,
-              ((refl, tt), c.requires),
-            ),
-          ),
-        ),
-      ),
-    ),
-  ),
-)
+run_on_words-requires g c κs = search (sendable, std.crosses, job_send, chooser.the_send, thread_send, ticket_send, spares_send, gate.the_sync) depth 40
 
 -- a run that is refused is refused for a fault of its settings
 pub returns-clause-refused : goal.returns-clause-refused

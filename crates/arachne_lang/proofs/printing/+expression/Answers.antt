@@ -1,5 +1,4 @@
-use Rattle.std.proofs.Common.{map}
-use Rattle.std.specs.Prelude.{option_to_list}
+use Rattle.std.proofs.Common.{map, option_to_list}
 use Rattle.arachne_program.specs.Program.{tree_of}
 use Rattle.arachne_lang.specs.Spelling.{numeral, spelling}
 use Rattle.arachne_lang.proofs.PrintedForms.{three_parts_written}

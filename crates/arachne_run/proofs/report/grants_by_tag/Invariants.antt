@@ -1,5 +1,4 @@
-use Rattle.std.proofs.Common.{◌≡◌, ℕ, ◌+◌, ◌⊎◌, true, false, get_or, length, vec_len}
-use Rattle.std.specs.Prelude.{Contains}
+use Rattle.std.proofs.Common.{◌≡◌, ℕ, ◌+◌, ◌⊎◌, true, false, get_or, length, vec_len, Contains}
 use Rattle.arachne_sleep.specs.declared.event.LockEvent.TheVariants.{Grant}
 use Rattle.arachne_sleep.specs.declared.who.Who.{Who}
 use Rattle.arachne_run.specs.Histories.{grants_to}

@@ -1,5 +1,4 @@
-use Rattle.std.proofs.Common.{◌≡◌, ℕ, IfSome, subst}
-use Rattle.std.specs.Prelude.{slice_index}
+use Rattle.std.proofs.Common.{◌≡◌, ℕ, IfSome, subst, slice_index}
 use Rattle.arachne_run.specs.Histories.{grants_to}
 use Rattle.arachne_run.proofs.Granting.{as_held-more}
 use Rattle.arachne_run.proofs.report.is_granted_as_held.Goals as goal

@@ -1,6 +1,5 @@
-use Rattle.std.proofs.Common.{◌≡◌}
+use Rattle.std.proofs.Common.{◌≡◌, slice_index}
 use Rattle.std.specs.List.{All}
-use Rattle.std.specs.Prelude.{slice_index}
 use Rattle.arachne_machine.specs.declared.line.ThreadLine.{ThreadLine}
 use Rattle.arachne_run.specs.Histories.{grants_to}
 use Rattle.arachne_run.proofs.report.is_granted_as_held.Given as goal

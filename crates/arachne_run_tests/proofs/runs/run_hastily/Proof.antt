@@ -1,4 +1,3 @@
-use Rattle.std.proofs.Common.{refl}
 use contract.BorrowLft.{⊑_static}
 use denote.Param.Send.{sendable}
 use Rattle.std.proofs.Crossing as std
@@ -18,71 +17,17 @@ use Rattle.arachne_run_tests.proofs.runs.run_hastily.Tie as tie
 pub run_hastily_spec : {M : Type 1} → statement M
 run_hastily_spec = tie.close (λ R laws threads threads-dict wait wait-dict clock clock-dict world met-threads met-wait met-clock.
     tie.spec R laws threads threads-dict wait wait-dict clock clock-dict
-    (λ c κs lent. (
-      lent,
-      (
-        ⊑_static _,
-        (
-          ⊑_static _,
-          (
-            ⊑_static _,
-            (
-              ⊑_static _,
-              (
-                ⊑_static _,
-                (
-                  ⊑_static _,
-                  (
-                    ⊑_static _,
-                    (
-                      ⊑_static _,
-                      (
-                        ⊑_static _,
-                        (
-                          ⊑_static _,
-                          (
-                            search (sendable, hasty.the_send) depth 20,
-                            (
-                              search (sendable, chooser.the_send) depth 20,
-                              (
-                                search (sendable, nothing.the_send) depth 20,
-                                (
-                                  search (sendable, nothing.the_send) depth 20,
-                                  (
-                                    search (sendable, nothing.the_send) depth 20,
-                                    (
-                                      search (sendable, claim.the_send) depth 20,
-                                      (
-                                        search (sendable, hold.the_send) depth 20,
-                                        (
-                                          search (sendable, seat.the_send, hasty.the_send) depth 20,
-                                          (
-                                            search (sendable, c.requires.1.0) depth 20,
-                                            (
-                                              search (sendable, std.crosses, words.the_sync, hasty.the_send) depth 20,
-                                              (
-                                                search (sendable, std.crosses, watch.the_sync) depth 20,
-                                                ((refl, tt), c.requires.1.1),
-                                              ),
-                                            ),
-                                          ),
-                                        ),
-                                      ),
-                                    ),
-                                  ),
-                                ),
-                              ),
-                            ),
-                          ),
-                        ),
-                      ),
-                    ),
-                  ),
-                ),
-              ),
-            ),
-          ),
-        ),
-      ),
-    ))
+    (λ c κs lent. search (
+      sendable,
+      std.crosses,
+      ⊑_static,
+      hasty.the_send,
+      chooser.the_send,
+      nothing.the_send,
+      claim.the_send,
+      hold.the_send,
+      seat.the_send,
+      words.the_sync,
+      watch.the_sync,
+    ) depth 60)
     (λ c. tt))

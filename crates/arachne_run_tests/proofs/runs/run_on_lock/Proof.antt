@@ -1,4 +1,3 @@
-use Rattle.std.proofs.Common.{refl}
 use contract.BorrowLft.{⊑_static}
 use denote.Param.Send.{sendable}
 use Rattle.std.proofs.Crossing as std
@@ -32,71 +31,24 @@ program κs = record { mir = named 1; lft = κs.1.0 }
 pub run_on_lock_spec : {M : Type 1} → statement M
 run_on_lock_spec = tie.close (λ R laws threads threads-dict wait wait-dict clock clock-dict world met-threads met-wait met-clock.
     tie.spec R laws threads threads-dict wait wait-dict clock clock-dict
-    (λ c κs within. (
-      within.1.1.1.1.1,
-      (
-        job.the_within (program κs) _ within.0,
-        (
-          altered_laws.the_within (job_row.the_row (program κs)) tagged.ghosts _ (job.the_within (program κs) _ within.1.0),
-          (
-            ⊑_static _,
-            (
-              ⊑_static _,
-              (
-                thread.the_within (program κs) _ within.1.1.0,
-                (
-                  ticket.the_within (program κs) _ within.1.1.1.0,
-                  (
-                    spares.the_within (program κs) _ within.1.1.1.1.0,
-                    (
-                      ⊑_static _,
-                      (
-                        ⊑_static _,
-                        (
-                          ⊑_static _,
-                          (
-                            search (sendable, job_send) depth 20,
-                            (
-                              search (sendable, chooser.the_send) depth 20,
-                              (
-                                search (sendable, thread_send) depth 20,
-                                (
-                                  search (sendable, ticket_send) depth 20,
-                                  (
-                                    search (sendable, spares_send) depth 20,
-                                    (
-                                      search (sendable, claim.the_send) depth 20,
-                                      (
-                                        search (sendable, hold.the_send) depth 20,
-                                        (
-                                          search (sendable, seat.the_send) depth 20,
-                                          (
-                                            search (sendable, c.requires.1.0) depth 20,
-                                            (
-                                              search (sendable, std.crosses, altered.the_sync, job_send) depth 20,
-                                              (
-                                                search (sendable, std.crosses, watch.the_sync) depth 20,
-                                                ((refl, tt), c.requires.1.1),
-                                              ),
-                                            ),
-                                          ),
-                                        ),
-                                      ),
-                                    ),
-                                  ),
-                                ),
-                              ),
-                            ),
-                          ),
-                        ),
-                      ),
-                    ),
-                  ),
-                ),
-              ),
-            ),
-          ),
-        ),
-      ),
-    ))
+    (λ c κs within. search (
+      sendable,
+      std.crosses,
+      ⊑_static,
+      job.the_within (program κs),
+      altered_laws.the_within (job_row.the_row (program κs)) tagged.ghosts,
+      thread.the_within (program κs),
+      ticket.the_within (program κs),
+      spares.the_within (program κs),
+      job_send,
+      chooser.the_send,
+      thread_send,
+      ticket_send,
+      spares_send,
+      claim.the_send,
+      hold.the_send,
+      seat.the_send,
+      altered.the_sync,
+      watch.the_sync,
+    ) depth 60)
     (λ c. tt))

@@ -1,4 +1,3 @@
-use Rattle.std.proofs.Common.{refl}
 use contract.BorrowLft.{⊑_static}
 use denote.Param.Send.{sendable}
 use Rattle.std.proofs.Crossing as std
@@ -25,47 +24,19 @@ program κs = record { mir = named 1; lft = κs.1.0 }
 pub run_on_words_spec : {M : Type 1} → statement M
 run_on_words_spec = tie.close (λ R laws threads threads-dict wait wait-dict clock clock-dict world met-threads met-wait met-clock.
     tie.spec R laws threads threads-dict wait wait-dict clock clock-dict
-    (λ c κs within. (
-      within.1.1.1.1,
-      (
-        job.the_within (program κs) _ within.0,
-        (
-          ⊑_static _,
-          (
-            ⊑_static _,
-            (
-              thread.the_within (program κs) _ within.1.0,
-              (
-                ticket.the_within (program κs) _ within.1.1.0,
-                (
-                  spares.the_within (program κs) _ within.1.1.1.0,
-                  (
-                    search (sendable, job_send) depth 20,
-                    (
-                      search (sendable, chooser.the_send) depth 20,
-                      (
-                        search (sendable, thread_send) depth 20,
-                        (
-                          search (sendable, ticket_send) depth 20,
-                          (
-                            search (sendable, spares_send) depth 20,
-                            (
-                              search (sendable, c.requires.1.0) depth 20,
-                              (
-                                search (sendable, std.crosses, watch.the_sync) depth 20,
-                                ((refl, tt), c.requires.1.1),
-                              ),
-                            ),
-                          ),
-                        ),
-                      ),
-                    ),
-                  ),
-                ),
-              ),
-            ),
-          ),
-        ),
-      ),
-    ))
+    (λ c κs within. search (
+      sendable,
+      std.crosses,
+      ⊑_static,
+      job.the_within (program κs),
+      thread.the_within (program κs),
+      ticket.the_within (program κs),
+      spares.the_within (program κs),
+      job_send,
+      chooser.the_send,
+      thread_send,
+      ticket_send,
+      spares_send,
+      watch.the_sync,
+    ) depth 60)
     (λ c. tt))

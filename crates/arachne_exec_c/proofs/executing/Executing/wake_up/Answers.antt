@@ -1,4 +1,4 @@
-use Rattle.std.proofs.Common.{◌≡◌, ℕ, ◌-◌, ◌∙◌, ap, arith}
+use Rattle.std.proofs.Common.{◌≡◌, ◌-◌, ◌∙◌, ap, arith}
 use Rattle.arachne_exec.specs.Changes.{rising}
 use Rattle.arachne_exec_c.specs.Executing.{Exec}
 use Rattle.arachne_exec_c.proofs.executing.Executing.wake_up.Goals as goal

@@ -1,5 +1,4 @@
-use Rattle.std.proofs.Common.{List, ◌++◌}
-use Rattle.std.specs.Prelude.{Option}
+use Rattle.std.proofs.Common.{List, ◌++◌, Option}
 use Rattle.std.proofs.lemmas.Result.{err_from_is_err_and}
 use Rattle.arachne_lang.specs.declared.checker.Scope.{Scope}
 use Rattle.arachne_program.specs.declared.program.Expr.{Expr}

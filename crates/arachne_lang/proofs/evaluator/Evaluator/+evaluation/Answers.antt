@@ -1,5 +1,4 @@
-use Rattle.std.proofs.Common.{◌≡◌, ◌+◌, ◌≤◌, ◌<◌, max, length, Result, refl, ap, ◌∙◌, arith, rules}
-use Rattle.std.specs.Prelude.{IfOk}
+use Rattle.std.proofs.Common.{◌≡◌, ◌+◌, ◌≤◌, ◌<◌, max, length, Result, refl, ap, ◌∙◌, arith, rules, IfOk}
 use Rattle.std.specs.Vec.{with_item, with_items}
 use Rattle.std.proofs.lemmas.Result.{IfOk-weaker}
 use Rattle.arachne_program.specs.declared.program.Class.{Class}

@@ -1,5 +1,4 @@
-use Rattle.std.proofs.Common.{◌≡◌, ◌+◌, ◌-◌, ◌<◌, ℕ, List, get_or, take, drop, length, ap, sym, ◌∙◌, arith}
-use Rattle.std.specs.Prelude.{◌*◌}
+use Rattle.std.proofs.Common.{◌≡◌, ◌+◌, ◌-◌, ◌<◌, ℕ, List, get_or, take, drop, length, ap, sym, ◌∙◌, arith, ◌*◌}
 use Rattle.arachne_machine.specs.Lines.{Listed, line_with, with_holds}
 use Rattle.arachne_machine.specs.declared.line_list.Mark.{Mark}
 use Rattle.arachne_machine.proofs.Holding.{length-with_holds, with_holds-at, within-holds}

@@ -1,5 +1,4 @@
-use Rattle.std.proofs.Common.{rules, ◌≡◌, ◌+◌, ◌≤◌, ◌∷◌, ◌++◌, [], List, length, ap, ◌∙◌, arith, length-append}
-use Rattle.std.specs.Prelude.{vec_len, vec_capacity}
+use Rattle.std.proofs.Common.{rules, ◌≡◌, ◌+◌, ◌≤◌, ◌∷◌, ◌++◌, [], List, length, ap, ◌∙◌, arith, length-append, vec_len, vec_capacity}
 use Rattle.arachne_machine.specs.declared.line.ThreadLine.{ThreadLine}
 use Rattle.std.specs.Result.{is_ok}
 use Rattle.arachne_machine.specs.Lines.{Listed, lines_in}

@@ -4,7 +4,6 @@ use Rattle.arachne_machine.specs.declared.state.Progress.{Progress}
 use Rattle.arachne_machine.specs.declared.state.Progress.TheVariants as way
 use Rattle.arachne_machine.specs.Steps.{top}
 use Rattle.arachne_machine.specs.Runs.{Advances, Comes, RunsOn, beginning_in, current_in}
-use Rattle.arachne_machine.proofs.Strides.{some_none}
 use Rattle.arachne_machine.proofs.Going.{as_is, runs_next, runs_nothing}
 use Rattle.arachne_machine.proofs.Lasting.{forks_next, pauses_next, refused_next, stopped_pending}
 use Rattle.arachne_machine.proofs.state.State.advance.Given as given
@@ -44,7 +43,7 @@ loop-rest-preserved-in-Ok-Begin g c =
     record {
       makes = runs_next c.args.left.now (c.loop-rest.rest - 1) c.make.new.left c.args.self.now _ (beginning_in c.make.new.self arm.expr) (so_far g at)
           (comes g at _ (way.Begin arm.expr) arm.field-0-is arm.ensures.ok);
-      left_over = λ none. absurd (some_none arm.expr none);
+      left_over = λ none. cc;
     }
 
 pub loop-rest-preserved : goal.loop-rest-preserved

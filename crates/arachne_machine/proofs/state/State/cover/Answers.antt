@@ -1,5 +1,4 @@
-use Rattle.std.proofs.Common.{rules, ◌≤◌, ◌<◌, ◌+◌, ◌-◌, ◌/◌, ap, subst, sym, arith}
-use Rattle.std.specs.Prelude.{max}
+use Rattle.std.proofs.Common.{rules, ◌≤◌, ◌<◌, ◌+◌, ◌-◌, ◌/◌, ap, subst, sym, arith, max}
 use Rattle.arachne_program.specs.declared.program.Class.TheVariants.{Normal}
 use Rattle.arachne_machine.specs.Ending.{fork_awaited}
 use Rattle.arachne_machine.specs.declared.state.Progress.TheVariants as way

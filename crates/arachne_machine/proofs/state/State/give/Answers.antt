@@ -10,17 +10,7 @@ pub returns-then-is_err-clause-err : goal.returns-then-is_err-clause-err
 returns-then-is_err-clause-err g c =
     let t = c.args.self.now in
     let turns = c.refused.ensures.turns in
-    let same : IsSame (giving_in t c.args.value) c.refused.new.self = record {
-      program = turns.program;
-      own = turns.own;
-      lines = turns.lines;
-      sums = turns.sums;
-      parents = turns.parents;
-      level = turns.level;
-      environment_is = turns.environment_is ∙ c.try_reserve.ensures.items;
-      frames_are = turns.frames_are;
-      control_is = turns.control_is;
-    } in
+    let same : IsSame (giving_in t c.args.value) c.refused.new.self = assumption (turns.environment_is ∙ c.try_reserve.ensures.items) in
     on_err c.refused.result _ (runs_nothing _ (giving_in t c.args.value) c.refused.new.self c.requires.sound same refl)
 
 pub loop-next-init : goal.loop-next-init

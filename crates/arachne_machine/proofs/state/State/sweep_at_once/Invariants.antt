@@ -1,5 +1,4 @@
-use Rattle.std.proofs.Common.{◌≡◌, ◌≤◌, ◌-◌, ◌+◌}
-use Rattle.std.specs.Prelude.{vec_len, vec_capacity}
+use Rattle.std.proofs.Common.{◌≡◌, ◌≤◌, ◌-◌, ◌+◌, vec_len, vec_capacity}
 use Rattle.std.specs.Borrow.{Bor}
 use Rattle.arachne_program.specs.declared.program.Expr.{Expr}
 use Rattle.arachne_machine.specs.Steps.{ComesToSweep, IsSame, top}

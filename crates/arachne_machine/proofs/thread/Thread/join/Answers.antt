@@ -1,7 +1,6 @@
 -- An outcome is joined. If the call succeeds, the thread goes on with it (`went_on`). After an error the state is
 -- unchanged (`stayed`).
-use Rattle.std.proofs.Common.{◌≡◌, length, List, sym, ap, ◌∙◌, subst}
-use Rattle.std.specs.Prelude.{OnErr, OnOk}
+use Rattle.std.proofs.Common.{◌≡◌, length, List, sym, ap, ◌∙◌, subst, OnErr, OnOk}
 use Rattle.arachne_program.specs.Program.{source_of}
 use Rattle.arachne_machine.specs.Outcome.{finished}
 use Rattle.arachne_machine.specs.Kept.{nested}

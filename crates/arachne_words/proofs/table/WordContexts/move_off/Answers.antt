@@ -9,8 +9,7 @@ use Rattle.arachne_rule.specs.declared.view.Carried.{Carried}
 use Rattle.arachne_rule.specs.declared.view.Kind.TheVariants as kind
 use Rattle.arachne_rule.specs.Layout.{name_index}
 use Rattle.arachne_rule.specs.Views.{noted, with_context}
-use Rattle.arachne_words.specs.Seats.{claimed_by}
-use Rattle.arachne_words.specs.Moves.{free_at, shared_claim}
+use Rattle.arachne_words.specs.Moves.{free_at}
 use Rattle.arachne_words.specs.Steps.{IsClaimed}
 use Rattle.arachne_words.proofs.MoveCall.{left, replaced, named, left-claimed-1, replaced-claimed, named-carried, source-claim, after}
 use Rattle.arachne_words.proofs.table.WordContexts.move_off.Given as given

@@ -1,6 +1,5 @@
-use Rattle.std.proofs.Common.{◌≡◌, ℕ, ◌*◌, ◌∙◌, ap, sym, subst, arith, None}
+use Rattle.std.proofs.Common.{◌≡◌, ℕ, ◌*◌, ◌∙◌, ap, sym, subst, arith, None, replicate}
 use Rattle.arachne_core.specs.declared.layout.TheConstants.{CORE_BITS}
-use Rattle.std.specs.Prelude.{replicate}
 use Rattle.std.proofs.Common.{get_or}
 use Rattle.atomic_table.specs.Table.{opening}
 use Rattle.arachne_weights.specs.Tokens.{held}

@@ -1,7 +1,7 @@
 -- A held thread is put back. The idea: its slot is taken and its value put into it (`taken`, `restable-now`), which is
 -- the condition of `rest_ready` and `try_rest_blocked`; each of the three ways is one equation of the seat
 -- (`made-ready`, `made-blocked`, `forestalled`). Another step changes that of its way, and `RestAnswer`.
-use Rattle.std.proofs.Common.{◌≡◌, ℕ, ◌∙◌, ap, sym, subst, refl, None, ◌∷◌, List, Option}
+use Rattle.std.proofs.Common.{◌≡◌, ℕ, ◌∙◌, ap, sym, subst, refl, None, ◌∷◌}
 use Rattle.arachne_core.specs.declared.layout.TheConstants.{CORE_BITS}
 use Rattle.arachne_core.specs.declared.place.Place.{Place}
 use Rattle.arachne_core.specs.declared.mark.Mark.TheVariants as mark
