@@ -45,7 +45,7 @@ pub enum PoolFault {
 
 /// Returns the error of a worker's loop whose table didn't know a place or a job that it had given to the worker.
 pub(crate) fn disowned() -> Halt {
-    Halt { why: 0 }
+    Halt::Token
 }
 
 /// A worker's loop ends early only if the table didn't know a place or a job.

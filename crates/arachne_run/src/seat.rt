@@ -224,10 +224,10 @@ impl<'a, H: Wait + Clock, T: RunJob, C: Contexts<T>, R: Rng + Drop, G: Gate> Des
     #[inline(always)]
     fn advance(&mut self, pace: &mut Pace, left: &mut u32) -> Result<ThreadStop, Halt> {
         if self.is_broken {
-            return Err(Halt::from(WorkerFault::Token));
+            return Err(Halt::Token);
         }
         let Some(thread) = &mut self.held else {
-            return Err(Halt::from(WorkerFault::Token));
+            return Err(Halt::Token);
         };
         self.is_broken = true;
         let stop = go_on::<H, T, C, R>(
@@ -255,21 +255,21 @@ impl<'a, H: Wait + Clock, T: RunJob, C: Contexts<T>, R: Rng + Drop, G: Gate> Des
     #[inline(always)]
     fn rest(&mut self) -> Result<Rest, Halt> {
         if self.is_broken {
-            return Err(Halt::from(WorkerFault::Token));
+            return Err(Halt::Token);
         }
         let Some(InHand { held, has_lock }) = self.held.take() else {
-            return Err(Halt::from(WorkerFault::Token));
+            return Err(Halt::Token);
         };
         let Some(rest) = held.value.rest() else {
             self.held = Some(InHand { held, has_lock });
-            return Err(Halt::from(WorkerFault::Foreign));
+            return Err(Halt::Foreign);
         };
         let table = &self.machine.table;
         match table.put_back(self.rt, &mut self.seat, held, rest) {
             Ok(rested) => Ok(rests_so(rested, rest)),
             Err(held) => {
                 self.held = Some(InHand { held, has_lock });
-                Err(Halt::from(WorkerFault::Token))
+                Err(Halt::Token)
             }
         }
     }
@@ -277,10 +277,10 @@ impl<'a, H: Wait + Clock, T: RunJob, C: Contexts<T>, R: Rng + Drop, G: Gate> Des
     #[inline(always)]
     fn end(&mut self, before: OccWord) -> Result<Option<ThreadId>, Halt> {
         if self.is_broken {
-            return Err(Halt::from(WorkerFault::Token));
+            return Err(Halt::Token);
         }
         let Some(InHand { held, has_lock }) = self.held.take() else {
-            return Err(Halt::from(WorkerFault::Token));
+            return Err(Halt::Token);
         };
         let table = &self.machine.table;
         match table.finish(self.rt, &mut self.seat, held) {
@@ -301,7 +301,7 @@ impl<'a, H: Wait + Clock, T: RunJob, C: Contexts<T>, R: Rng + Drop, G: Gate> Des
             }
             Err(held) => {
                 self.held = Some(InHand { held, has_lock });
-                Err(Halt::from(WorkerFault::Token))
+                Err(Halt::Token)
             }
         }
     }
@@ -312,7 +312,7 @@ impl<'a, H: Wait + Clock, T: RunJob, C: Contexts<T>, R: Rng + Drop, G: Gate> Des
 
     fn give_one_back(&mut self) -> Result<bool, Halt> {
         if self.is_broken {
-            return Err(Halt::from(WorkerFault::Token));
+            return Err(Halt::Token);
         }
         let Some(claim) = self.kept.pop() else {
             return Ok(false);
@@ -383,7 +383,7 @@ impl<'a, H: Wait + Clock, T: RunJob, C: Contexts<T>, R: Rng + Drop, G: Gate> Des
 
     fn take_ticket(&mut self) -> Result<TicketResult, Halt> {
         if self.is_broken {
-            return Err(Halt::from(WorkerFault::Token));
+            return Err(Halt::Token);
         }
         let (rt, machine) = (self.rt, self.machine);
         let room = machine.shared.room();
