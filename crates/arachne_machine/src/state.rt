@@ -383,7 +383,7 @@ impl<'p> State<'p> {
     }
 
     /// Moves the value, the ledger sums and the report lines of a thread that has ended into `contents`. The earlier
-    /// sums and lines of `contents` are left in this state, so that the next thread reuses their memory.
+    /// sums and lines of `contents` are left in this state, so that the next thread reuses the memory of the lines.
     #[inline(always)]
     pub fn finish(&mut self, contents: &mut Contents)
         requires ended { pending_of self.old.control ≡ Some pause.Ended }
