@@ -27,58 +27,55 @@ extern "C" {
 enum {
     /* The call succeeded. */
     ARACHNE_DONE = 0,
-    /* The call was refused, and has changed nothing: the handle is empty, or is in use although it must be
-     * empty; or its seat (a thread's right to call the executor) may not make this call now; or there is no such
-     * block, lock or ledger. */
+    /* The call was refused, and has changed nothing. The comment of each call lists the possible reasons. */
     ARACHNE_REFUSED = 1,
     /* The allocator refused memory. Nothing has changed. */
     ARACHNE_NO_MEMORY = 2,
-    /* Another thread was in a call on the same lock. Nothing has changed: try again. */
+    /* Another thread was in a call on the same lock. Nothing has changed, and the call may be made again. */
     ARACHNE_CONTENDED = 3,
-    /* Another thread was first: it has claimed the slot, changed the job, or has the worker number. This call
-     * has changed nothing: try again, or register with another number. */
+    /* Another thread was first: it has claimed the slot, has changed the job's state, or has the worker number.
+     * The call has changed nothing, and may be made again, or with another worker number. */
     ARACHNE_LOST = 4,
-    /* `who` holds the lock now. */
+    /* The task `who` holds the lock now. */
     ARACHNE_GRANTED = 5,
-    /* `who` waits for the lock, and will hold it after all tasks before it in the queue have freed it or left
-     * the queue. */
+    /* The task `who` waits for the lock, and gets it after all tasks before it in the queue. */
     ARACHNE_QUEUED = 6,
-    /* `who` already holds the lock or waits for it. */
+    /* The task `who` already holds the lock or waits for it. */
     ARACHNE_ALREADY_IN = 7,
-    /* `who` has freed the lock, and nobody waited for it. */
+    /* The task `who` has freed the lock, and no task waited for it. */
     ARACHNE_FREED = 8,
-    /* `who` has freed the lock, and the task that had waited longest holds it now: wake that task. */
+    /* The task `who` has freed the lock, and the longest waiter holds it now. The caller must wake that task. */
     ARACHNE_HANDED_ON = 9,
-    /* `who` doesn't hold the lock. As the result of a withdrawal: `who` neither holds the lock nor waits for it. */
+    /* The task `who` doesn't hold the lock. If a task that wanted to leave the lock's queue gets this, it isn't
+     * in the queue. */
     ARACHNE_NOT_HOLDER = 10,
-    /* `who` has left the queue of the lock, and will not get the lock unless it asks again. */
+    /* The task `who` has left the queue of the lock, and will not get the lock unless it asks again. */
     ARACHNE_LEFT = 11,
     /* No slot of the block is free. */
     ARACHNE_FULL = 12,
-    /* The handle holds a job now: run it. */
+    /* The handle holds a job now, which the caller must run. */
     ARACHNE_RUN = 13,
-    /* The worker's idle bit is set, and after that no block of its shards was found that perhaps has a ready
-     * job: sleep until another thread unparks you. */
+    /* The worker must sleep until another thread unparks it. No ready job was found. */
     ARACHNE_PARK = 14,
-    /* The call took no job, or found a block that perhaps has a ready one: try again. */
+    /* The call took no job, or the worker must not sleep, since it may have a ready job. The caller may try
+     * again. */
     ARACHNE_AGAIN = 15,
-    /* The job is ready to be run. */
+    /* The job is ready, so that a thread can take and run it. */
     ARACHNE_READY = 16,
     /* The job is blocked until it is woken. */
     ARACHNE_BLOCKED = 17,
-    /* The job isn't blocked, so the wake is recorded. If the job is then taken or started, that clears the
-     * record. If not, then the next time it would block, it becomes ready instead. A wake is recorded in the
-     * same way if the name is the one that the next job of a free slot will have. */
+    /* The job isn't blocked, so the wake is recorded: the job becomes ready instead of blocked. A take or a
+     * start of the job clears the record. Also the result for the name that a free slot's next job will get. */
     ARACHNE_MARKED = 18,
-    /* An earlier wake of the job is still recorded. */
+    /* The wake changed nothing, since an earlier wake of the job is still recorded. */
     ARACHNE_ALREADY_MARKED = 19,
     /* No job has this name at present. */
     ARACHNE_GONE = 20,
-    /* The advice on a sample: keep the number of cores as it is. */
+    /* The advice on a sample of the load: keep the number of cores as it is. */
     ARACHNE_STAY = 21,
-    /* The advice on a sample: ask for one core more. */
+    /* The advice on a sample of the load: ask for one core more. */
     ARACHNE_ADD = 22,
-    /* The advice on a sample: give one core back. */
+    /* The advice on a sample of the load: give one core back. */
     ARACHNE_REMOVE = 23,
     /* The value of a result's field `unpark` if no worker must be unparked. */
     ARACHNE_NOBODY = 64,
@@ -93,43 +90,42 @@ typedef struct {
 } arachne_exec;
 #define ARACHNE_EXEC_NULL {0}
 
-/* The result of ending an executor: a code, and the number of jobs that had not ended. */
+/* The result of ending an executor: a code, and a count of unfinished jobs. */
 typedef struct {
-    /* The number of jobs that had not ended. Their numbers were written to the caller's array. */
+    /* The count of numbers that the call wrote to the caller's array: those of the unfinished jobs, except 0. */
     uint64_t count;
     uint32_t code;
 } arachne_exec_left;
 
 /* The result of a call on an executor: a code, the job, and the worker that the caller must unpark. */
 typedef struct {
-    /* The name of the job that was spawned, or that the handle holds: 20 bits for its slot, and 44 for the
-     * slot's generation (the number of jobs that had ended there when this job was spawned). */
+    /* The name of the job that was spawned, or that the handle holds. The low 20 bits are the job's slot, and
+     * the other 44 bits are the number of jobs that had ended there before. */
     uint64_t name;
-    /* The number of the job that the handle holds, as it was passed to the spawn. */
+    /* The number of the job that the handle holds, as its spawner passed it. */
     uint64_t job;
     uint32_t code;
     /* The worker whose thread the caller must unpark, or NOBODY. */
     uint32_t unpark;
 } arachne_exec_told;
 
-/* Creates an executor with `shards` shards of 4,096 job slots, and puts its first seat (a thread's right to call
- * it) into `exec`, which must be empty.
+/* Creates an executor with `shards` shards of 4,096 job slots. Puts the first seat (a thread's right to call the
+ * executor) into `exec`, which must be empty.
  *
- * Shard s has the blocks 64 s to 64 s + 63, each with 64 slots of one job each; worker s % 64 runs these jobs.
- * Returns DONE; REFUSED if the handle is in use, or if `shards` is greater than 256; NO_MEMORY if memory is
- * refused.
+ * Shard s has the blocks 64 s to 64 s + 63, each of 64 slots, and worker s % 64 runs the jobs in them. Returns
+ * DONE; REFUSED if the handle is in use, or if `shards` is greater than 256; NO_MEMORY if memory is refused.
  *
  * Threads: safe beside calls with other handles; two at once with `exec` are undefined behaviour. */
 uint32_t arachne_exec_new(arachne_exec *exec, size_t shards);
 
-/* Splits the seat of `exec` (a thread's right to call the executor) for another thread: puts a new seat, without
- * a job or a worker number, into `other`.
+/* Splits the seat of `exec` (a thread's right to call the executor), and puts a new seat for another thread into
+ * `other`. The new seat has no job and no worker number.
  *
  * Returns DONE; REFUSED if `exec` is empty or `other` is in use; NO_MEMORY if memory is refused or the reference
  * count can't grow.
  *
- * If each split halves a seat that the split before resulted in (such as that of `exec` each time), then after
- * more than 127 splits in a row further splits succeed, but the executor can't be ended any more.
+ * More than 127 splits one after another, each of a seat from the last split, still succeed, but then the
+ * executor can't be ended.
  *
  * Threads: safe beside calls with other handles; two at once with `exec` or `other` are undefined behaviour. */
 uint32_t arachne_exec_split(arachne_exec *exec, arachne_exec *other);
@@ -137,63 +133,60 @@ uint32_t arachne_exec_split(arachne_exec *exec, arachne_exec *other);
 /* Joins the seat of `other` (a thread's right to call the executor) into that of `exec`, and leaves `other`
  * empty.
  *
- * Returns DONE, or REFUSED if one of the handles is empty, or if `other` holds a job or has a worker number. The
- * caller must pass two handles of one executor; the library doesn't check this. If they are of two executors,
- * the executor of `other` can't be ended any more, and the end of the executor of `exec` perhaps returns too few
- * jobs.
+ * Returns DONE, or REFUSED if one of the handles is empty, or if `other` holds a job or has a worker number.
+ * Both handles must be of one executor, which the library doesn't check. If they are not, the executor of
+ * `other` can't be ended any more, and `arachne_exec_end` for `exec` may return too few jobs.
  *
  * Threads: safe beside calls with other handles; two at once with `exec` or `other` are undefined behaviour. */
 uint32_t arachne_exec_join(arachne_exec *exec, arachne_exec *other);
 
-/* Ends the executor, writes the numbers of the jobs that haven't ended to the beginning of `left`, and empties
- * the handle.
+/* Ends the executor, writes the numbers of the unfinished jobs to the beginning of `left`, and empties the
+ * handle.
  *
- * If several of these jobs have the same number, it is written once for each of them; the number 0 is never
- * written. Returns DONE with the count of numbers written; REFUSED if the handle is empty or holds a job, if not
- * all other handles were joined into this one, or if `left` has room for fewer than 4,096 numbers for each
- * shard; NO_MEMORY if memory is refused. Unless the code is DONE, the count is 0, and the executor and `left`
- * are unchanged.
+ * A number that several of these jobs have is written once for each of them, but the number 0 is never written.
+ * Returns DONE with the count of numbers written; REFUSED if the handle is empty or holds a job, if not all
+ * other handles were joined into this one, or if `left` has room for fewer than 4,096 numbers for each shard;
+ * NO_MEMORY if memory is refused. Unless the code is DONE, the count is 0, and the executor and `left` are
+ * unchanged.
  *
  * Threads: safe beside calls with other handles; two at once with `exec` are undefined behaviour. */
 arachne_exec_left arachne_exec_end(arachne_exec *exec, uint64_t *left, size_t left_room);
 
-/* Frees the seat of a handle (a thread's right to call an executor), if it has one. The last handle of an
- * executor frees the executor too.
+/* Empties a handle, and frees its seat (a thread's right to call an executor). The last handle also frees the
+ * executor.
  *
- * If the handle holds a job, that job can never be run again. If this handle had a seat, the executor can't be
- * ended any more after this call.
+ * A job that the handle holds never runs again. If the handle was not empty, its seat is lost, so that
+ * `arachne_exec_end` returns REFUSED for each other handle of the executor.
  *
  * Threads: safe beside calls with other handles; two at once with `exec` are undefined behaviour. */
 void arachne_exec_close(arachne_exec *exec);
 
-/* Makes the calling thread the worker with the number `worker`, from 0 to 63: the handle's seat (a thread's
- * right to call the executor) gets that number.
+/* Gives the handle the worker number `worker`, from 0 to 63. The handle's thread is then this worker.
  *
- * Returns DONE; LOST if another seat has that number; REFUSED if the handle is empty, if its seat already has a
- * worker number, or if `worker` is greater than 63.
+ * Returns DONE; LOST if another handle has that number; REFUSED if the handle is empty or already has a worker
+ * number, or if `worker` is greater than 63.
  *
  * Threads: safe beside calls with other handles; two at once with `exec` are undefined behaviour. */
 uint32_t arachne_exec_register(arachne_exec *exec, uint32_t worker);
 
-/* Gives the worker number of the handle's seat (a thread's right to call the executor) back, so that another
- * seat can get it.
+/* Gives the handle's worker number back, so that another handle can get this number.
  *
- * Returns DONE, or REFUSED if the handle is empty or its seat has no worker number.
+ * Returns DONE, or REFUSED if the handle is empty or has no worker number.
  *
  * Threads: safe beside calls with other handles; two at once with `exec` are undefined behaviour. */
 uint32_t arachne_exec_leave(arachne_exec *exec);
 
-/* Tries once to put `job` into a free one of the 64 slots of `block`, ready to be run by any thread.
+/* Tries once to put `job` into a free slot of `block` (64 slots), ready to be run by any thread.
  *
  * Returns READY with the job's name, and the worker to unpark; FULL if no slot of the block is free; LOST if
  * another thread claimed the slot first; REFUSED if the handle is empty or there is no such block. If `job` is
- * 0, `arachne_exec_end` doesn't write its number.
+ * 0, `arachne_exec_end` never writes its number.
  *
  * Threads: safe beside calls with other handles; two at once with `exec` are undefined behaviour. */
 arachne_exec_told arachne_exec_spawn(arachne_exec *exec, size_t block, uint64_t job);
 
-/* Tries once to put `job` into a free one of the 64 slots of `block`. The handle then holds the job, so no other
- * thread can take it.
+/* Tries once to put `job` into a free slot of `block` (64 slots). The handle then holds the job, so that no
+ * other thread can take it.
  *
  * Returns RUN with the job's name and number; FULL if no slot of the block is free; LOST if another thread
  * claimed the slot first; REFUSED if the handle is empty or holds a job, or if there is no such block.
@@ -201,73 +194,71 @@ arachne_exec_told arachne_exec_spawn(arachne_exec *exec, size_t block, uint64_t 
  * Threads: safe beside calls with other handles; two at once with `exec` are undefined behaviour. */
 arachne_exec_told arachne_exec_spawn_here(arachne_exec *exec, size_t block, uint64_t job);
 
-/* Returns a bit for each of the 64 blocks of `shard` that perhaps has ready jobs, by one load.
+/* Returns a bit for each of the 64 blocks of `shard`, which is set if the block may have ready jobs.
  *
- * A block whose bit is clear has no ready job, unless a call in progress has yet to set that bit, or to find
- * that another call has set it. Returns 0 also if the handle is empty or there is no such shard.
+ * A block whose bit is clear has no ready job, unless a call that makes a job ready there is still in progress.
+ * Returns 0 also if the handle is empty or there is no such shard.
  *
  * Threads: safe beside calls with other handles; two at once with `exec` are undefined behaviour. */
 uint64_t arachne_exec_shown(arachne_exec *exec, size_t shard);
 
-/* Returns a bit for each of the 64 slots of `block` that has a ready job, by one load.
+/* Returns a bit for each of the 64 slots of `block`, which is set if the slot has a ready job.
  *
  * Returns 0 also if the handle is empty or there is no such block.
  *
  * Threads: safe beside calls with other handles; two at once with `exec` are undefined behaviour. */
 uint64_t arachne_exec_ready(arachne_exec *exec, size_t block);
 
-/* Tries once to take a ready job from one of the 64 slots of `block`, so that the handle holds the job. The
- * block may be any worker's.
+/* Tries once to take a ready job of `block` (64 slots, of any worker), so that the handle holds the job.
  *
- * Returns RUN with the job's name and number; AGAIN if no job was taken; REFUSED if the handle is empty or holds
- * a job, or if there is no such block.
+ * Returns RUN with the job's name and number; AGAIN if the call took no job; REFUSED if the handle is empty or
+ * holds a job, or if there is no such block.
  *
  * Threads: safe beside calls with other handles; two at once with `exec` are undefined behaviour. */
 arachne_exec_told arachne_exec_take(arachne_exec *exec, size_t block);
 
-/* Takes up to `most` ready jobs of `block` in one atomic operation. The handle then holds them, so no other
- * thread can take them. If `most` is 0, takes up to one.
+/* Takes up to `most` ready jobs of `block` in one atomic operation. The handle then holds these jobs, so that no
+ * other thread can take them. A `most` of 0 counts as 1.
  *
- * Returns a bit for each of the block's 64 slots whose job was taken. The next calls concern the job in the
- * lowest of these slots; when that job rests (is made ready or blocked again) or ends, the next calls concern
- * the job in the next slot, and so on. `arachne_exec_start` returns the number and the name of that job. Returns
- * 0 if no job was taken, if the handle is empty or holds a job already, or if there is no such block.
+ * Returns a bit for each of the block's 64 slots whose job this call took. Calls on the handle's job, such as
+ * `arachne_exec_finish`, then concern the job in the lowest of these slots. After that job has ended or rests
+ * (is made ready or blocked again), they concern the job in the next of these slots. `arachne_exec_start`
+ * returns the number and the name of the current job. Returns 0 if the call took no job, if the handle is empty
+ * or holds a job already, or if there is no such block.
  *
  * Threads: safe beside calls with other handles; two at once with `exec` are undefined behaviour. */
 uint64_t arachne_exec_take_many(arachne_exec *exec, size_t block, uint32_t most);
 
-/* Prepares the next of the jobs that `arachne_exec_take_many` has taken, so that the caller can run it. If a
- * wake of that job is recorded, clears the record: the run answers that wake.
+/* Prepares the current job (the one in the lowest slot) of those that `arachne_exec_take_many` has taken, so
+ * that the caller can run it. Clears a recorded wake of the job, since the job runs after the wake.
  *
  * Returns RUN with the job's name and number, or REFUSED if the handle holds no job.
  *
  * Threads: safe beside calls with other handles; two at once with `exec` are undefined behaviour. */
 arachne_exec_told arachne_exec_start(arachne_exec *exec);
 
-/* Takes the next job that is ready in the blocks (64 job slots each) of the handle's worker, or says that the
- * worker must park.
+/* Takes the next ready job of the handle's worker, or says that the worker must park.
  *
  * Returns RUN with the job's name and number; PARK if the worker must sleep; AGAIN if the caller must call
- * again; REFUSED if the handle is empty or holds a job, or if its seat (a thread's right to call the executor)
- * has no worker number.
+ * again; REFUSED if the handle is empty, holds a job, or has no worker number.
  *
  * Threads: safe beside calls with other handles; two at once with `exec` are undefined behaviour. */
 arachne_exec_told arachne_exec_next(arachne_exec *exec);
 
-/* Sets the worker's idle bit, by which other threads know that they must unpark the worker; then looks for
- * blocks (64 job slots each) of the worker that perhaps have ready jobs. `arachne_exec_next` does the same if it
+/* Marks the worker as asleep, by which other threads know that they must unpark the worker. Then looks for
+ * blocks (64 job slots each) of the worker that may have ready jobs. `arachne_exec_next` does the same if it
  * finds no job.
  *
- * Returns PARK if there is no such block; AGAIN if there is one, after clearing the idle bit; REFUSED if the
- * handle is empty or its seat (a thread's right to call the executor) has no worker number.
+ * Returns PARK if there is no such block; AGAIN if there is one, and the worker is marked as awake again;
+ * REFUSED if the handle is empty or has no worker number.
  *
  * Threads: safe beside calls with other handles; two at once with `exec` are undefined behaviour. */
 uint32_t arachne_exec_may_park(arachne_exec *exec);
 
-/* Clears the worker's idle bit. The worker must call it when it stops sleeping without having been unparked.
+/* Marks the worker as awake, so that other threads don't unpark it. A worker must call this function when it
+ * wakes by itself.
  *
- * Returns DONE, or REFUSED if the handle is empty or its seat (a thread's right to call the executor) has no
- * worker number.
+ * Returns DONE, or REFUSED if the handle is empty or has no worker number.
  *
  * Threads: safe beside calls with other handles; two at once with `exec` are undefined behaviour. */
 uint32_t arachne_exec_wake_up(arachne_exec *exec);
@@ -279,7 +270,7 @@ uint32_t arachne_exec_wake_up(arachne_exec *exec);
  * Threads: safe beside calls with other handles; two at once with `exec` are undefined behaviour. */
 arachne_exec_told arachne_exec_rest_ready(arachne_exec *exec);
 
-/* Blocks the job that the handle holds until it is woken.
+/* Blocks the job that the handle holds, until the job is woken.
  *
  * Returns BLOCKED; READY with the worker to unpark, if the job was woken since it was taken or started, and so
  * is ready again; REFUSED if the handle holds no job.
@@ -297,14 +288,14 @@ uint32_t arachne_exec_finish(arachne_exec *exec);
 
 /* Tries once to wake the job with this name.
  *
- * Returns READY with the worker to unpark, if the job was blocked; MARKED if it wasn't, and this wake is
- * recorded; ALREADY_MARKED if an earlier wake is still recorded; GONE if no job has the name; LOST if another
- * thread changed the job's slot first; REFUSED if the handle is empty.
+ * Returns READY with the worker to unpark, if the job was blocked; MARKED if the job wasn't blocked, so that the
+ * wake is recorded; ALREADY_MARKED if an earlier wake is still recorded; GONE if no job has the name; LOST if
+ * another thread changed the job's slot first; REFUSED if the handle is empty.
  *
  * Threads: safe beside calls with other handles; two at once with `exec` are undefined behaviour. */
 arachne_exec_told arachne_exec_wake(arachne_exec *exec, uint64_t name);
 
-/* Tries once to wake the job with this name. If the job was blocked, the handle then holds it.
+/* Tries once to wake the job with this name. If the job was blocked, the handle then holds the job.
  *
  * Returns RUN with the job's name and number, if the job was blocked. MARKED, ALREADY_MARKED, GONE and LOST are
  * as in `arachne_exec_wake`; REFUSED if the handle is empty or holds a job.
@@ -321,18 +312,19 @@ typedef struct {
 } arachne_locks;
 #define ARACHNE_LOCKS_NULL {0}
 
-/* The result of a call on a lock. Each lock numbers its events (grants, asks, frees and leaves) from 0, modulo
+/* The result of a call on a lock. Each lock numbers its events (asks, grants, frees, withdrawals) from 0, modulo
  * 2^64. */
 typedef struct {
-    /* The number of the event that this call caused, or of an earlier grant if a check or a withdrawal found
-     * that `who` holds the lock. */
+    /* The number of the event that this call caused. If a check or withdrawal returns GRANTED, that of the grant
+     * to `who`. */
     uint64_t at;
-    /* The task that holds the lock now, if a free handed it on. The event number of that grant is `at` + 1. */
+    /* If a free has handed the lock on, the task that holds it now. The grant to this task has event number `at`
+     * + 1. */
     uint64_t next;
     uint32_t code;
 } arachne_lock_told;
 
-/* Creates `count` locks, and puts their first seat, a thread's right to use them, into `locks`, which must be
+/* Creates `count` locks. Puts the first seat (a thread's right to use the locks) into `locks`, which must be
  * empty.
  *
  * Returns DONE; REFUSED if the handle is in use; NO_MEMORY if memory is refused.
@@ -340,7 +332,8 @@ typedef struct {
  * Threads: safe beside calls with other handles; two at once with `locks` are undefined behaviour. */
 uint32_t arachne_locks_new(arachne_locks *locks, size_t count);
 
-/* Splits the seat of `locks` (a thread's right to use them) for another thread: puts a new seat into `other`.
+/* Splits the seat of `locks` (a thread's right to use the locks), and puts a new seat for another thread into
+ * `other`.
  *
  * Returns DONE; REFUSED if `locks` is empty or `other` is in use; NO_MEMORY if memory is refused or the
  * reference count can't grow.
@@ -350,49 +343,49 @@ uint32_t arachne_locks_split(arachne_locks *locks, arachne_locks *other);
 
 /* Joins the seat of `other` (a thread's right to use the locks) into that of `locks`, and leaves `other` empty.
  *
- * Returns DONE, or REFUSED if one of the handles is empty. The caller must pass two handles of one set of locks;
- * the library doesn't check this. If they are of two sets, the seat of `other` is only freed, as by
- * `arachne_locks_close`.
+ * Returns DONE, or REFUSED if one of the handles is empty. Both handles must be of one set of locks, which the
+ * library doesn't check. If they are not, the seat of `other` is only freed, as by `arachne_locks_close`.
  *
  * Threads: safe beside calls with other handles; two at once with `locks` or `other` are undefined behaviour. */
 uint32_t arachne_locks_join(arachne_locks *locks, arachne_locks *other);
 
-/* Frees the seat of a handle (a thread's right to use the locks), if it has one. The last handle of a set of
- * locks frees the locks too.
+/* Empties a handle, and frees its seat (a thread's right to use the locks). The last handle also frees the
+ * locks.
  *
  * Threads: safe beside calls with other handles; two at once with `locks` are undefined behaviour. */
 void arachne_locks_close(arachne_locks *locks);
 
 /* Tries once to ask for a lock for the task with the number `who`.
  *
- * Returns GRANTED if `who` holds the lock now; QUEUED if `who` now waits for it; ALREADY_IN if `who` already
- * held it or waited; NO_MEMORY if memory is refused, which happens only if `who` would have to wait; CONTENDED
- * if another thread was in a call on the lock; REFUSED if the handle is empty or there is no such lock.
+ * Returns GRANTED if `who` holds the lock now; QUEUED if `who` now waits for the lock; ALREADY_IN if `who`
+ * already held the lock or waited; NO_MEMORY if memory is refused, which happens only if `who` would have to
+ * wait; CONTENDED if another thread was in a call on the lock; REFUSED if the handle is empty or there is no
+ * such lock.
  *
  * Threads: safe beside calls with other handles; two at once with `locks` are undefined behaviour. */
 arachne_lock_told arachne_lock_ask(arachne_locks *locks, size_t lock, uint64_t who);
 
 /* Tries once to free the lock with index `lock`, which the task `who` holds.
  *
- * Returns FREED if nobody waited; HANDED_ON if the longest waiter, `next`, holds the lock now; NOT_HOLDER if
- * `who` didn't hold it; CONTENDED if another thread was in a call on the lock; REFUSED if the handle is empty or
- * there is no such lock.
+ * Returns FREED if nobody waited; HANDED_ON if the longest waiter (field `next`) holds the lock now; NOT_HOLDER
+ * if `who` didn't hold the lock; CONTENDED if another thread was in a call on the lock; REFUSED if the handle is
+ * empty or there is no such lock.
  *
  * Threads: safe beside calls with other handles; two at once with `locks` are undefined behaviour. */
 arachne_lock_told arachne_lock_free(arachne_locks *locks, size_t lock, uint64_t who);
 
 /* Tries once to take `who` out of the queue of a lock, for example because the future of `who` is dropped.
  *
- * Returns LEFT if `who` waits no longer; GRANTED if `who` was granted the lock meanwhile, so that the caller
- * must free it; NOT_HOLDER if `who` neither waited nor held it; CONTENDED if another thread was in a call on the
- * lock; REFUSED if the handle is empty or there is no such lock.
+ * Returns LEFT if `who` waits no longer; GRANTED if `who` already holds the lock, so that the caller must free
+ * it; NOT_HOLDER if `who` neither waited for the lock nor held it; CONTENDED if another thread was in a call on
+ * the lock; REFUSED if the handle is empty or there is no such lock.
  *
  * Threads: safe beside calls with other handles; two at once with `locks` are undefined behaviour. */
 arachne_lock_told arachne_lock_withdraw(arachne_locks *locks, size_t lock, uint64_t who);
 
-/* Tries once to find out if the task `who` holds the lock with index `lock`.
+/* Tries once to find out whether the task `who` holds the lock with index `lock`.
  *
- * Returns GRANTED, with the event number of the grant, if `who` holds it; NOT_HOLDER if not; CONTENDED if
+ * Returns GRANTED, with the event number of the grant, if `who` holds the lock; NOT_HOLDER if not; CONTENDED if
  * another thread was in a call on the lock; REFUSED if the handle is empty or there is no such lock.
  *
  * Threads: safe beside calls with other handles; two at once with `locks` are undefined behaviour. */
@@ -407,11 +400,10 @@ typedef struct {
 } arachne_adder;
 #define ARACHNE_ADDER_NULL {0}
 
-/* Creates `count` ledgers (counters), each of total 0, and puts their first share into `adder`, which must be
- * empty.
+/* Creates `count` ledgers (counters), each of total 0. Puts the first share (a thread's right to add to the
+ * ledgers) into `adder`, which must be empty.
  *
- * A share is one thread's right to add to the ledgers. Returns DONE; REFUSED if the handle is in use; NO_MEMORY
- * if memory is refused.
+ * Returns DONE; REFUSED if the handle is in use; NO_MEMORY if memory is refused.
  *
  * Threads: safe beside calls with other handles; two at once with `adder` are undefined behaviour. */
 uint32_t arachne_ledgers_new(arachne_adder *adder, size_t count);
@@ -423,8 +415,8 @@ uint32_t arachne_ledgers_new(arachne_adder *adder, size_t count);
  * Threads: safe beside calls with other handles; two at once with `adder` are undefined behaviour. */
 bool arachne_ledger_add(arachne_adder *adder, size_t ledger, uint64_t amount);
 
-/* Writes the sum of all amounts added to a ledger, modulo 2^64, to `total`. The caller must first have joined
- * all other handles into this one.
+/* Writes the sum of all amounts added to a ledger, modulo 2^64, to `total`. All other handles must have been
+ * joined into this one.
  *
  * Returns false, and changes nothing, if another handle was not joined into this one, if the handle is empty, or
  * if there is no such ledger.
@@ -432,40 +424,37 @@ bool arachne_ledger_add(arachne_adder *adder, size_t ledger, uint64_t amount);
  * Threads: safe beside calls with other handles; two at once with `adder` are undefined behaviour. */
 bool arachne_ledger_total(arachne_adder *adder, size_t ledger, uint64_t *total);
 
-/* Splits the share of `adder` (a thread's right to add) for another thread: puts a new share into `other`, by
- * which nothing was added yet.
+/* Splits the share of `adder` (a thread's right to add), and puts a new share for another thread into `other`.
  *
  * Returns DONE; REFUSED if `adder` is empty or `other` is in use; NO_MEMORY if memory is refused or the
  * reference count can't grow.
  *
- * If each split halves a share that the split before resulted in (such as that of `adder` each time), then after
- * more than 127 splits in a row further splits succeed, but no total can be read any more.
+ * More than 127 splits one after another, each of a share from the last split, still succeed, but then no total
+ * can be read.
  *
  * Threads: safe beside calls with other handles; two at once with `adder` or `other` are undefined behaviour. */
 uint32_t arachne_ledger_split(arachne_adder *adder, arachne_adder *other);
 
 /* Joins the share of `other` (a thread's right to add) into that of `adder`, and leaves `other` empty.
  *
- * Returns false, and changes nothing, if one of the handles is empty. The caller must pass two handles of one
- * set of ledgers; the library doesn't check this. If they are of two sets, the totals of `adder`'s ledgers can
- * perhaps be read before all of their handles were joined, and the totals of `other`'s ledgers can't be read any
- * more.
+ * Returns false, and changes nothing, if one of the handles is empty. Both handles must be of one set of
+ * ledgers, which the library doesn't check. If they are not, totals of `adder`'s ledgers may be read before all
+ * of their handles were joined, and totals of `other`'s ledgers can never be read.
  *
  * Threads: safe beside calls with other handles; two at once with `adder` or `other` are undefined behaviour. */
 bool arachne_ledger_join(arachne_adder *adder, arachne_adder *other);
 
-/* Frees the share of a handle (a thread's right to add), if it has one. The last handle of a set of ledgers
- * frees the ledgers too.
+/* Empties a handle, and frees its share (a thread's right to add). The last handle also frees the ledgers.
  *
- * If this handle had a share, no other handle can read a total after this call.
+ * If the handle was not empty, its share is lost, so that no other handle can ever read a total.
  *
  * Threads: safe beside calls with other handles; two at once with `adder` are undefined behaviour. */
 void arachne_ledger_close(arachne_adder *adder);
 
 /* ---- The core policy */
 
-/* An estimator in C's layout: its settings, and for each number of cores from 1 on, the utilisation below which
- * one of these cores can be given back. */
+/* An estimator: its settings, and for each number of cores a threshold. If the utilisation (average number of
+ * busy cores) is below the threshold by more than `hysteresis`, the advice is to give one core back. */
 typedef struct {
     uint64_t up;
     uint64_t hysteresis;
@@ -473,7 +462,7 @@ typedef struct {
     uint64_t thresholds[64];
 } arachne_estimator;
 
-/* The measurements by a host (the program that uses cores) of its load in one period, on all cores together. */
+/* The measured load of a host (the program that uses the cores) in one period, on all its cores together. */
 typedef struct {
     uint64_t cores;
     uint64_t runnable;
@@ -482,13 +471,14 @@ typedef struct {
     uint64_t elapsed;
 } arachne_sample;
 
-/* Sets `estimator` to one that has judged no sample yet. Returns false, and changes nothing, if `max` is greater
- * than 64.
+/* Prepares `estimator` for its first sample. Returns false, and changes nothing, if `max`, the greatest number
+ * of cores, is above 64. The advice is ADD if scans of cores see more than `up` / 1000 runnable threads on
+ * average. `hysteresis` is in thousandths of a core.
  *
  * Threads: safe beside calls with other memory; two at once with `estimator` are undefined behaviour. */
 bool arachne_estimator_new(uint64_t up, uint64_t hysteresis, uint64_t max, arachne_estimator *estimator);
 
-/* Judges `sample`, and returns STAY, ADD or REMOVE.
+/* Returns the advice on `sample`: STAY, ADD or REMOVE.
  *
  * Returns REFUSED, and changes nothing, if `sample` has values that no measurement can have, or if the
  * estimator's `max` is greater than 64.

@@ -26,8 +26,7 @@ extern "C" {
 enum {
     /* The call succeeded. */
     ARACHNE_GRANTS_DONE = 0,
-    /* The call was refused, and has changed nothing: the handle is empty, or is in use although it must be
-     * empty, or this call is not allowed now. */
+    /* The call was refused, and has changed nothing. The comment of each call lists the possible reasons. */
     ARACHNE_GRANTS_REFUSED = 1,
     /* The allocator refused memory. Nothing has changed. */
     ARACHNE_GRANTS_NO_MEMORY = 2,
@@ -37,9 +36,9 @@ enum {
     ARACHNE_GRANTS_JOIN = 4,
     /* The message by which a thread gives its core back, if it has one, and waits for another core. */
     ARACHNE_GRANTS_WAIT = 5,
-    /* The message by which a client asks for a number of cores. */
+    /* The message by which a client asks for a number of cores in all. */
     ARACHNE_GRANTS_ASK = 6,
-    /* The bytes are fewer than a message has. */
+    /* There are fewer bytes than a message has, which is 16. */
     ARACHNE_GRANTS_SHORT = 7,
     /* The message is of an unknown kind. */
     ARACHNE_GRANTS_KIND = 8,
@@ -47,17 +46,18 @@ enum {
     ARACHNE_GRANTS_VERSION = 9,
     /* The priority is out of range. */
     ARACHNE_GRANTS_PRIORITY = 10,
-    /* The thread's number, `place`, is out of range. */
+    /* The thread's number within its client, `place`, is greater than 63. */
     ARACHNE_GRANTS_PLACE = 11,
-    /* A field that this kind of message does not use is not 0. */
+    /* A field that this kind of message does not use is greater than 0. */
     ARACHNE_GRANTS_UNUSED = 12,
-    /* There is nothing to do. */
+    /* No core was taken or given. */
     ARACHNE_GRANTS_NOTHING = 13,
-    /* The core was taken from the thread: move the thread away from the core. */
+    /* The core was taken from the thread, which the caller must move away from the core. */
     ARACHNE_GRANTS_TAKEN = 14,
-    /* The core was given to the thread, which floats (never waits for a core): move the thread to the core. */
+    /* The core was given to a thread that floats (never waits for a core). The caller must move the thread to
+     * the core. */
     ARACHNE_GRANTS_PLACED = 15,
-    /* The core was given to the thread, which waited for one: move the thread to the core, and notify the
+    /* The core was given to a thread that waited. The caller must move the thread to the core, and notify the
      * thread. */
     ARACHNE_GRANTS_GRANTED = 16,
 };
@@ -66,7 +66,7 @@ enum {
 
 /* A message from a client. Fields that this kind of message does not use are 0. */
 typedef struct {
-    /* HELLO, JOIN, WAIT or ASK if the bytes begin with such a message; otherwise the code of the fault. */
+    /* HELLO, JOIN, WAIT or ASK if the bytes begin with such a message, and otherwise the code of the fault. */
     uint32_t code;
     uint32_t priority;
     uint32_t reserved;
@@ -94,16 +94,16 @@ typedef struct {
 } arachne_arbiter;
 #define ARACHNE_ARBITER_NULL {0}
 
-/* The action that the caller must take on a thread of a client. Fields that this action does not use are 0. */
+/* The action that the caller must take on a client's thread. Fields that this action does not use are 0. */
 typedef struct {
-    /* TAKEN, PLACED, GRANTED or NOTHING, or REFUSED if the handle is empty. */
+    /* TAKEN, PLACED, GRANTED or NOTHING, or REFUSED if the handle has no arbiter. */
     uint32_t code;
     uint32_t core;
     size_t client;
     size_t place;
 } arachne_action;
 
-/* The number of cores that a client may have, and the number that its threads have. */
+/* The numbers of a client's cores. */
 typedef struct {
     /* The number of cores that the client may have. */
     uint32_t allowed;
@@ -111,91 +111,94 @@ typedef struct {
     uint32_t held;
 } arachne_share;
 
-/* Creates an arbiter (a daemon's state) of the cores 0 to `cores` - 1, without clients, in `arbiter`, which must
- * be empty.
+/* Creates an arbiter (the state of a daemon that grants cores) of the cores 0 to `cores` - 1, without clients.
+ * Puts the arbiter into the handle `arbiter`, which must have none.
  *
- * Returns DONE; REFUSED if the handle is in use, or if `cores` is greater than 1,024; NO_MEMORY if memory is
- * refused.
+ * Returns DONE; REFUSED if the handle already has an arbiter, or if `cores` is greater than 1,024; NO_MEMORY if
+ * memory is refused.
  *
  * Threads: safe beside calls with other handles; two at once with `arbiter` are undefined behaviour. */
 uint32_t arachne_arbiter_new(arachne_arbiter *arbiter, uint32_t cores);
 
-/* Frees the arbiter of a handle, if it has one, and leaves the handle empty.
+/* Empties a handle, and frees its arbiter, if it has one.
  *
  * Threads: safe beside calls with other handles; two at once with `arbiter` are undefined behaviour. */
 void arachne_arbiter_close(arachne_arbiter *arbiter);
 
-/* Adds a client (a program) with its priority (0 is the highest), the number of cores that it reserves, and the
- * greatest number of cores that it may ask for.
+/* Adds a client (a program) with its priority, of which 0 is the highest. The client gets `reserved` cores
+ * before others get more than they have reserved, and may ask for at most `most` cores.
  *
- * Returns DONE, or REFUSED if the handle is empty, or if the client's number `client` is greater than 63 or in
- * use. The caller must check that the client is entitled to this priority and these cores.
+ * Returns DONE, or REFUSED if the handle has no arbiter, or if the client's number `client` is greater than 63
+ * or in use. The caller must check that the client is entitled to this priority and these cores.
  *
  * Threads: safe beside calls with other handles; two at once with `arbiter` are undefined behaviour. */
 uint32_t arachne_arbiter_hello(arachne_arbiter *arbiter, size_t client, uint8_t priority, uint32_t reserved, uint32_t most);
 
-/* Sets the number of cores for which a client asks.
+/* Sets the number of cores for which a client asks in all, in place of its last request.
  *
- * Returns DONE, or REFUSED if the handle is empty or there is no such client.
+ * Returns DONE, or REFUSED if the handle has no arbiter or there is no such client.
  *
  * Threads: safe beside calls with other handles; two at once with `arbiter` are undefined behaviour. */
 uint32_t arachne_arbiter_ask(arachne_arbiter *arbiter, size_t client, uint32_t cores);
 
 /* Removes a client, with all of its threads.
  *
- * Returns DONE, or REFUSED if the handle is empty or the client's number is greater than 63.
+ * Returns DONE, or REFUSED if the handle has no arbiter or the client's number is greater than 63.
  *
  * Threads: safe beside calls with other handles; two at once with `arbiter` are undefined behaviour. */
 uint32_t arachne_arbiter_leave(arachne_arbiter *arbiter, size_t client);
 
-/* Adds a thread to a client. `place`, the thread's number, must be from 0 to 63 and not in use. If `floats` is
- * true, the thread never waits for a core.
+/* Adds a thread with the number `place` to a client. If `floats` is true, the thread never waits for a core.
  *
- * Returns DONE or REFUSED.
+ * Returns DONE, or REFUSED if the handle has no arbiter, if there is no such client, or if `place` is in use or
+ * greater than 63.
  *
  * Threads: safe beside calls with other handles; two at once with `arbiter` are undefined behaviour. */
 uint32_t arachne_arbiter_join(arachne_arbiter *arbiter, size_t client, size_t place, bool floats);
 
 /* Takes the core from a thread, if it has one, and makes the thread wait until a core is granted to it.
  *
- * Returns DONE, or REFUSED if the thread floats (never waits for a core), already waits, or does not exist.
+ * Returns DONE, or REFUSED if the handle has no arbiter, or if the thread floats (never waits for a core),
+ * already waits, or does not exist.
  *
  * Threads: safe beside calls with other handles; two at once with `arbiter` are undefined behaviour. */
 uint32_t arachne_arbiter_wait(arachne_arbiter *arbiter, size_t client, size_t place);
 
 /* Removes a thread of a client, because the thread has ended.
  *
- * Returns DONE, or REFUSED if the handle is empty or the number of the client or of the thread is greater than
- * 63.
+ * Returns DONE, or REFUSED if the handle has no arbiter or the number of the client or of the thread is greater
+ * than 63.
  *
  * Threads: safe beside calls with other handles; two at once with `arbiter` are undefined behaviour. */
 uint32_t arachne_arbiter_end(arachne_arbiter *arbiter, size_t client, size_t place);
 
-/* Computes anew how many cores each client may have, from the numbers of cores for which all clients ask now.
+/* Computes how many cores each client may have, from the numbers of cores for which all clients ask now.
  *
- * Returns DONE, or REFUSED if the handle is empty.
+ * Returns DONE, or REFUSED if the handle has no arbiter.
  *
  * Threads: safe beside calls with other handles; two at once with `arbiter` are undefined behaviour. */
 uint32_t arachne_arbiter_decide(arachne_arbiter *arbiter);
 
-/* Takes a core from the client `client`, if it has more cores than it may have: that of its last thread that has
- * a core.
+/* Takes a core from a client that has more cores than it may have. Of the client's threads with a core, the one
+ * with the greatest number loses its core.
  *
- * If that thread floats (never waits for a core), takes its core at once; otherwise only if `late` is true,
- * which means that the client hasn't given a core back in time. Returns TAKEN or NOTHING.
+ * If that thread floats (never waits for a core), takes the core at once. Otherwise takes the core only if
+ * `late` is true, which means that the client hasn't given a core back in time. Returns TAKEN; NOTHING if no
+ * core was taken; REFUSED if the handle has no arbiter.
  *
  * Threads: safe beside calls with other handles; two at once with `arbiter` are undefined behaviour. */
 arachne_action arachne_arbiter_take_back(arachne_arbiter *arbiter, size_t client, bool late);
 
 /* Gives a free core to a thread that can take one, of a client that has fewer cores than it may have.
  *
- * A client of higher priority goes first. Returns GRANTED if the thread waited for a core; PLACED if it floats,
- * which means that it never waits for one; NOTHING if no core was given.
+ * Clients of higher priority go first. Returns GRANTED if the thread waited for a core; PLACED if the thread
+ * floats (never waits for a core); NOTHING if no core was given; REFUSED if the handle has no arbiter.
  *
  * Threads: safe beside calls with other handles; two at once with `arbiter` are undefined behaviour. */
 arachne_action arachne_arbiter_give(arachne_arbiter *arbiter);
 
-/* Returns how many cores a client may have, and how many its threads have. Both are 0 if the handle is empty.
+/* Returns how many cores a client may have, and how many its threads have now. Both are 0 if the handle has no
+ * arbiter.
  *
  * Threads: safe beside calls with other handles; two at once with `arbiter` are undefined behaviour. */
 arachne_share arachne_arbiter_share(arachne_arbiter *arbiter, size_t client);

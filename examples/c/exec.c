@@ -1,6 +1,6 @@
-/* THREADS kernel threads, each a worker of one executor, run the jobs 1 to JOBS, an even number: exec THREADS JOBS. An odd
- * job waits until the next one has released it, as a future waits for another. Prints how many jobs ended, and the sum of
- * their numbers. */
+/* Runs jobs on kernel threads, each a worker of one executor: exec THREADS JOBS. The jobs have the numbers 1 to JOBS,
+ * an even number. An odd job waits until the next job has released it. Prints the number of jobs that ended, and the
+ * sum of their numbers. */
 #include "arachne_exec.h"
 #include <inttypes.h>
 #include <pthread.h>
@@ -18,7 +18,6 @@ typedef struct {
     uint64_t sum;
 } runner;
 
-/* What a job's future would have: its name, by which it is woken, and whether it has been released. */
 typedef struct {
     _Atomic uint64_t name;
     _Atomic bool released;
@@ -33,7 +32,7 @@ static void unpark(uint32_t worker) {
     if (worker != ARACHNE_NOBODY) sem_post(&sleeper[worker]);
 }
 
-/* Nothing has come of so many tries in turn: after each 64th a short sleep. */
+/* Sleeps for a short time after each 64th failed try. */
 static void stand_by(unsigned tries) {
     if (tries % 64 == 0) nanosleep(&(struct timespec){0, 50000}, NULL);
 }
@@ -46,7 +45,7 @@ static bool wake(arachne_exec *exec, uint64_t name) {
     return told.code != ARACHNE_REFUSED;
 }
 
-/* Runs the job in hand: an even one releases the one before it, and an odd one waits until it is released. */
+/* Runs the job that the seat holds. An even job releases the job before it, an odd one waits until it is released. */
 static bool poll_job(runner *r, uint64_t job) {
     if (job % 2 == 1 && !atomic_load(&futures[job].released)) {
         arachne_exec_told told = arachne_exec_rest_blocked(&r->exec);
@@ -78,7 +77,7 @@ static void *work(void *at) {
     return arachne_exec_leave(&r->exec) == ARACHNE_DONE ? NULL : r;
 }
 
-/* Spawns each job in a block of one of the workers, once there is a place for it. */
+/* Spawns all jobs. The workers' blocks get them in turn. Tries again while a block has no free slot. */
 static bool spawn_all(arachne_exec *exec, int threads) {
     for (uint64_t job = 1; job <= jobs; job++) {
         size_t block = 64 * (job % threads) + job / threads % 64;
@@ -92,7 +91,7 @@ static bool spawn_all(arachne_exec *exec, int threads) {
     return true;
 }
 
-/* Gives each kernel thread a seat of its own, and joins it when the thread has ended. */
+/* Gives each kernel thread a seat (right to call), and joins the seat when the thread has ended. */
 static bool run(arachne_exec *exec, int threads, uint64_t *sum) {
     pthread_t thread[MOST];
     runner runners[MOST];
@@ -114,7 +113,7 @@ static bool run(arachne_exec *exec, int threads, uint64_t *sum) {
     return well;
 }
 
-/* Takes both jobs of block 1 at once, and makes each ready again, the one with the lower place first. */
+/* Takes both jobs of block 1 at once, and makes each ready again, the one in the lower slot first. */
 static bool takes_both(arachne_exec *exec) {
     bool well = arachne_exec_take_many(exec, 1, 64) == 3;
     well = well && arachne_exec_start(exec).job == 8 && arachne_exec_rest_ready(exec).code == ARACHNE_READY;
@@ -122,7 +121,7 @@ static bool takes_both(arachne_exec *exec) {
     return well && arachne_exec_start(exec).code == ARACHNE_REFUSED;
 }
 
-/* Spawns three jobs more, one into the hand, which waits then, and two that stay ready: the end hands all back. */
+/* Spawns three more jobs, of which one waits and two stay ready, and checks that the end returns all three. */
 static bool hands_back(arachne_exec *exec, size_t places) {
     uint64_t *left = calloc(places, sizeof *left);
     bool well = left && arachne_exec_spawn_here(exec, 0, 7).code == ARACHNE_RUN;

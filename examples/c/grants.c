@@ -1,6 +1,6 @@
-/* Two programs share four cores: a batch of the lowest priority has all of them, until a server of the highest asks
- * for two. Their messages are read, and their threads' cores decided, by the proved library; who may connect, sockets,
- * and moving a thread to its core are a daemon's. It prints what such a daemon has to do. */
+/* Two clients share four cores. A batch program of the lowest priority has all of them, until a server of the highest
+ * priority asks for two. The library reads the messages and decides. A daemon would have the sockets, and move threads
+ * to cores: this program prints what such a daemon has to do. */
 #include "arachne_grants.h"
 #include <stdio.h>
 
@@ -8,7 +8,7 @@ enum { CLIENTS = 2, BATCH = 0, SERVER = 1, HELLO = 1, JOIN, WAIT, ASK };
 
 static arachne_arbiter arbiter = ARACHNE_ARBITER_NULL;
 
-/* Hears a message of four numbers on a connection of a client, or of its thread at a place. */
+/* Reads a message of four numbers from a client, or from its thread with the number place. */
 static void hear(size_t client, size_t place, uint32_t kind, uint32_t first, uint32_t second, uint32_t third) {
     uint32_t numbers[4] = {kind, first, second, third}, code;
     uint8_t bytes[16];
@@ -36,7 +36,7 @@ static void hear(size_t client, size_t place, uint32_t kind, uint32_t first, uin
         printf("refused: %u\n", message.code);
 }
 
-/* A client begins, with threads of which the first floats and the others wait for a core. */
+/* Adds a client. Its first thread floats (never waits for a core), and the others wait for one. */
 static void begin(size_t client, uint32_t priority, uint32_t threads) {
     hear(client, 0, HELLO, 1, priority, threads);
     for (uint32_t place = 0; place < threads; place++) {
@@ -47,7 +47,7 @@ static void begin(size_t client, uint32_t priority, uint32_t threads) {
     hear(client, 0, ASK, threads, 0, 0);
 }
 
-/* Decides, takes back what is too much, and gives what is free. */
+/* Decides, takes back the cores that clients have too many of, and gives the free ones. */
 static void settle(size_t late) {
     arachne_action action;
     arachne_arbiter_decide(&arbiter);

@@ -1,5 +1,5 @@
-/* THREADS threads add the numbers up to COUNT to two ledgers: ledger THREADS COUNT. Prints both totals. Thread k
- * adds k+1, k+1+THREADS and so on, each number to ledger 0 and 1 to ledger 1. */
+/* Adds the numbers up to COUNT to two ledgers on several threads, and prints both totals: ledger THREADS COUNT.
+ * Thread k adds k+1, k+1+THREADS and so on: each number to ledger 0, and 1 to ledger 1. */
 #include "arachne_exec.h"
 #include <inttypes.h>
 #include <pthread.h>
@@ -20,7 +20,7 @@ static void *add_all(void *at) {
     return NULL;
 }
 
-/* Gives each thread a handle of its own, and joins it when the thread has ended. */
+/* Gives each thread a share (right to add), and joins the share when the thread has ended. */
 static int run(arachne_adder *adder, int threads, uint64_t count) {
     pthread_t thread[MOST];
     job jobs[MOST];

@@ -1,7 +1,6 @@
-/* THREADS kernel threads take turns at one lock: lock THREADS ROUNDS. Each asks ROUNDS times, waits where it is queued
- * until the lock is handed on to it, counts while it holds it, and frees it. Each eighth time it doesn't wait, and
- * withdraws, as where a future is dropped. Prints how many turns there were, held or withdrawn. The status is 1 where the
- * count, of which a plain addition is enough, is not that of the holds. */
+/* Kernel threads take turns at one lock: lock THREADS ROUNDS. Each thread asks ROUNDS times, and waits until it has the
+ * lock. While it holds the lock, it increments a counter. Every eighth time it doesn't wait but withdraws. Prints the
+ * number of turns, held or withdrawn. The status is 1 if the counter isn't the number of turns that held the lock. */
 #include "arachne_exec.h"
 #include <inttypes.h>
 #include <pthread.h>
@@ -17,20 +16,20 @@ typedef struct {
     uint64_t who, rounds, held, left;
 } job;
 
-static uint64_t counted; /* only the holder touches it */
+static uint64_t counted; /* only the holder of the lock touches it */
 
-/* Each thread's turn: who frees the lock posts that of the next holder. */
+/* For each thread, a semaphore. The thread that frees the lock posts that of the next holder. */
 static sem_t turn[MOST];
 
-/* Nothing has come of so many tries in turn: after each 64th a short sleep. A yield would give a whole turn of the
- * processor away where others have work, and more tries would take it from who is waited for. */
+/* Sleeps for a short time after each 64th failed try. A yield would give away a whole turn of the processor, and more
+ * tries would keep it from the thread that has to go on. */
 static void stand_by(unsigned tries) {
     if (tries % 64 == 0) nanosleep(&(struct timespec){0, 50000}, NULL);
 }
 
 typedef arachne_lock_told call(arachne_locks *locks, size_t lock, uint64_t who);
 
-/* Calls until the lock is not contended. */
+/* Repeats a call until the lock is not contended. */
 static arachne_lock_told until(call *made, job *j) {
     arachne_lock_told told;
     unsigned tries = 0;
@@ -43,7 +42,7 @@ static void wait_for_turn(job *j) {
     }
 }
 
-/* Asks, and waits or withdraws. GRANTED, or LEFT. */
+/* Asks for the lock, and waits or withdraws. Returns GRANTED or LEFT. */
 static uint32_t enter(job *j, uint64_t round) {
     uint32_t code = until(arachne_lock_ask, j).code;
     if (code != ARACHNE_QUEUED) return code;
@@ -70,7 +69,7 @@ static void *take_turns(void *at) {
     return NULL;
 }
 
-/* Gives each kernel thread a seat of its own, and joins it when the thread has ended. */
+/* Gives each kernel thread a seat (right to call), and joins the seat when the thread has ended. */
 static int run(arachne_locks *locks, int threads, uint64_t rounds, uint64_t *held, uint64_t *left) {
     pthread_t thread[MOST];
     job jobs[MOST];

@@ -1,5 +1,5 @@
-/* Judges the samples on its input by the proved policy, one a line, and prints what `arachne policy` prints of them; that
- * prints no advice where a later sample is bad. */
+/* Judges the samples on its input, one a line, by the proved policy, and prints the advice on each. `arachne policy`
+ * prints the same, but no advice at all if a sample is bad. */
 #include "arachne_exec.h"
 #include <inttypes.h>
 #include <stdio.h>

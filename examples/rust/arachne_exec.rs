@@ -1,9 +1,8 @@
 //! Safe Rust over the static library `arachne_exec_c`: an executor, locks, ledgers and the core policy.
 //!
-//! The executor has *shards* of 64 *blocks* of 64 *slots*, and each job lies in a slot. A *seat* is one thread's right
-//! to call the executor or the locks. A *ledger* is a counter to which threads add, and a *share* of it one thread's
-//! right to add. The declarations, `arachne_exec/declared.rs`, are made from the library's source by
-//! `scripts/declarations`.
+//! The executor is a table of job *slots*: a *shard* has 64 *blocks* of 64 slots. A *seat* is one thread's right to
+//! call the executor or the locks. A *ledger* is a counter to which threads add, and a *share* one thread's right to
+//! add. `scripts/declarations` makes `arachne_exec/declared.rs` from the library's source.
 #![allow(dead_code)]
 
 mod declared;
@@ -29,14 +28,14 @@ unsafe impl Send for c::ArachneAdder {}
 
 // ---- the executor
 
-/// A job that a seat holds: its name, by which it is woken, and the number that it was spawned with.
+/// A job that a seat holds: the name by which it is woken, and the number with which it was spawned.
 #[derive(Clone, Copy, PartialEq, Eq, Debug)]
 pub struct Job {
     pub name: u64,
     pub number: u64,
 }
 
-/// The result of a spawn. If a spawn is `Lost`, another call changed the slot meanwhile: try again.
+/// The result of a spawn. `Lost` means that another call changed the slot at the same time: try again.
 #[derive(Clone, Copy, PartialEq, Eq, Debug)]
 pub enum Spawned {
     Ready { name: u64, unpark: Option<u32> },
@@ -60,7 +59,7 @@ pub enum Woken {
     Lost,
 }
 
-/// A seat at an executor. If it is dropped, the executor can't be ended any more.
+/// A seat (one thread's right to call) of an executor. If it is dropped, the executor can't be ended any more.
 pub struct Exec {
     handle: c::ArachneExec,
     family: u64,
@@ -96,14 +95,14 @@ impl Exec {
         (code == c::DONE).then_some(()).ok_or(other)
     }
 
-    /// Makes this seat the worker `worker`, whose jobs are those of the shards `worker`, `worker` + 64 and so on.
+    /// Makes this seat the worker `worker`, which runs the jobs of the shards `worker`, `worker` + 64 and so on.
     ///
     /// Returns false if another seat is that worker, or if this seat is a worker already.
     pub fn register(&mut self, worker: u32) -> bool {
         unsafe { c::arachne_exec_register(&mut self.handle, worker) == c::DONE }
     }
 
-    /// Ends the seat's work as a worker. Returns false if it is none, or if it holds a job.
+    /// Ends the seat's work as a worker. Returns false if the seat is no worker, or holds a job.
     pub fn leave(&mut self) -> bool {
         unsafe { c::arachne_exec_leave(&mut self.handle) == c::DONE }
     }
@@ -119,10 +118,10 @@ impl Exec {
         }
     }
 
-    /// Puts a job into a free slot of a block, and has this seat hold it.
+    /// Puts a job into a free slot of a block. This seat then holds the job.
     ///
-    /// Returns `None` if another call changed the slot meanwhile, no slot is free, there is no such block, or the seat
-    /// holds a job.
+    /// Returns `None` if another call changed the slot at the same time, no slot is free, there is no such block, or
+    /// the seat holds a job.
     pub fn spawn_here(&mut self, block: usize, number: u64) -> Option<Job> {
         let told = unsafe { c::arachne_exec_spawn_here(&mut self.handle, block, number) };
         (told.code == c::RUN).then_some(Job { name: told.name, number: told.job })
@@ -140,20 +139,20 @@ impl Exec {
 
     /// Takes up to `most` of the ready jobs of a block in one step. Returns their slots, a bit for each.
     ///
-    /// The job of the lowest bit is the one that `start` returns first.
+    /// `start` first returns the job of the lowest bit.
     pub fn take_many(&mut self, block: usize, most: u32) -> u64 {
         unsafe { c::arachne_exec_take_many(&mut self.handle, block, most) }
     }
 
-    /// Returns the newest job that this handle holds, which is about to run, or `None` if it holds none.
+    /// Returns the newest job that this seat holds, which is about to run. Returns `None` if the seat holds none.
     pub fn start(&mut self) -> Option<Job> {
         let told = unsafe { c::arachne_exec_start(&mut self.handle) };
         (told.code == c::RUN).then_some(Job { name: told.name, number: told.job })
     }
 
-    /// Makes the job that this handle holds ready again.
+    /// Makes the job that this seat holds ready again.
     ///
-    /// Returns the number of the worker to unpark, if there is one, or `None` if the handle holds no job.
+    /// Returns the number of the worker to unpark, if there is one. Returns `None` if the seat holds no job.
     pub fn rest_ready(&mut self) -> Option<Option<u32>> {
         let told = unsafe { c::arachne_exec_rest_ready(&mut self.handle) };
         (told.code == c::READY).then(|| whom(&told))
@@ -161,7 +160,7 @@ impl Exec {
 
     /// Ends the executor. Returns the jobs that were spawned and haven't ended.
     ///
-    /// Returns the handle if another one wasn't joined, if this one holds a job, or if memory is refused.
+    /// Returns the seat if another seat wasn't joined, if this one holds a job, or if memory is refused.
     pub fn end(mut self) -> Result<Vec<u64>, Exec> {
         let mut left = vec![0; 4096 * self.shards];
         let told = unsafe { c::arachne_exec_end(&mut self.handle, left.as_mut_ptr(), left.len()) };
@@ -185,20 +184,20 @@ impl Exec {
         }
     }
 
-    /// Has the job that this seat holds wait for a wake, or be ready again if it was woken meanwhile.
+    /// Lets the job that this seat holds wait for a wake. If the job was woken while it ran, makes it ready again.
     ///
-    /// Returns the number of the worker to unpark, if there is one, or `None` if the seat holds no job.
+    /// Returns the number of the worker to unpark, if there is one. Returns `None` if the seat holds no job.
     pub fn rest_blocked(&mut self) -> Option<Option<u32>> {
         let told = unsafe { c::arachne_exec_rest_blocked(&mut self.handle) };
         (told.code != c::REFUSED).then(|| whom(&told))
     }
 
-    /// Ends the job that this seat holds. Returns false if it holds none.
+    /// Ends the job that this seat holds. Returns false if the seat holds none.
     pub fn finish(&mut self) -> bool {
         unsafe { c::arachne_exec_finish(&mut self.handle) == c::DONE }
     }
 
-    /// Wakes the job with this name. If the result is `Lost`, another call changed the job's slot meanwhile: try again.
+    /// Wakes the job with this name. `Lost` means that another call changed the job's slot at the same time: try again.
     pub fn wake(&mut self, name: u64) -> Woken {
         let told = unsafe { c::arachne_exec_wake(&mut self.handle, name) };
         match told.code {
@@ -219,7 +218,7 @@ impl Drop for Exec {
 
 // ---- locks
 
-/// The answer of a lock, with the number of the event in the lock's history.
+/// The answer of a lock. The first number is that of the event in the lock's history.
 #[derive(Clone, Copy, PartialEq, Eq, Debug)]
 pub enum LockTold {
     Contended,
@@ -228,19 +227,18 @@ pub enum LockTold {
     Queued(u64),
     AlreadyIn,
     Freed(u64),
-    /// The lock was handed on: the number of the event, and the next holder, which must be woken.
+    /// The second number is the lock's next holder, which must be woken.
     HandedOn(u64, u64),
     NotHolder,
     Left(u64),
 }
 
-/// A seat at a set of locks.
+/// A seat (one thread's right to call) of a set of locks.
 pub struct Locks {
     handle: c::ArachneLocks,
     family: u64,
 }
 
-/// Returns the answer that the C function has returned, or `None` if there is no such lock.
 fn lock_told(told: c::ArachneLockTold) -> Option<LockTold> {
     match told.code {
         c::CONTENDED => Some(LockTold::Contended),
@@ -269,7 +267,7 @@ impl Locks {
         (unsafe { c::arachne_locks_split(&mut self.handle, &mut other.handle) } == c::DONE).then_some(other)
     }
 
-    /// Joins another seat of the same locks with this one. Returns `other` if it is of other locks.
+    /// Joins another seat with this one. Returns `other` if it is of other locks.
     pub fn join(&mut self, mut other: Locks) -> Result<(), Locks> {
         if other.family != self.family {
             return Err(other);
@@ -288,7 +286,7 @@ impl Locks {
         lock_told(unsafe { c::arachne_lock_free(&mut self.handle, lock, who) })
     }
 
-    /// Withdraws an ask that waits. The answer is `Left`, `Granted` if `who` holds the lock by now, `NotHolder` or
+    /// Withdraws an ask that waits. The answer is `Left`, `Granted` if `who` has the lock now, `NotHolder` or
     /// `Contended`.
     pub fn withdraw(&mut self, lock: usize, who: u64) -> Option<LockTold> {
         lock_told(unsafe { c::arachne_lock_withdraw(&mut self.handle, lock, who) })
@@ -308,7 +306,7 @@ impl Drop for Locks {
 
 // ---- ledgers
 
-/// A share of some ledgers. If it is dropped, no total can be read any more.
+/// A share (one thread's right to add) of some ledgers. If it is dropped, no total can be read any more.
 pub struct Adder {
     handle: c::ArachneAdder,
     family: u64,
@@ -326,7 +324,7 @@ impl Adder {
         unsafe { c::arachne_ledger_add(&mut self.handle, ledger, amount) }
     }
 
-    /// Returns the sum of all that was added to a ledger, modulo 2^64, or `None` if another share wasn't joined.
+    /// Returns the sum of all that was added to a ledger, modulo 2^64. Returns `None` if another share wasn't joined.
     pub fn total(&mut self, ledger: usize) -> Option<u64> {
         let mut total = 0;
         unsafe { c::arachne_ledger_total(&mut self.handle, ledger, &mut total) }.then_some(total)
@@ -338,7 +336,7 @@ impl Adder {
         (unsafe { c::arachne_ledger_split(&mut self.handle, &mut other.handle) } == c::DONE).then_some(other)
     }
 
-    /// Joins another share of the same ledgers with this one. Returns `other` if it is of other ledgers.
+    /// Joins another share with this one. Returns `other` if it is of other ledgers.
     pub fn join(&mut self, mut other: Adder) -> Result<(), Adder> {
         if other.family != self.family {
             return Err(other);
@@ -364,7 +362,7 @@ pub enum Advice {
     Remove,
 }
 
-/// Judges samples of the load one after another.
+/// Gives advice on the number of cores from samples of the load, one after another.
 #[derive(Clone)]
 pub struct Estimator(c::ArachneEstimator);
 
@@ -375,9 +373,9 @@ impl Estimator {
         unsafe { c::arachne_estimator_new(up, hysteresis, max, &mut estimator) }.then_some(Estimator(estimator))
     }
 
-    /// Returns the advice on a sample after those before it.
+    /// Returns the advice on a sample, which depends on the samples before it.
     ///
-    /// Returns `None`, and changes nothing, if the sample can't have been measured.
+    /// Returns `None`, and changes nothing, if no load can have this sample.
     pub fn judge(&mut self, sample: Sample) -> Option<Advice> {
         match unsafe { c::arachne_estimator_judge(&mut self.0, &sample) } {
             c::STAY => Some(Advice::Stay),

@@ -1,7 +1,7 @@
 //! Runs jobs on kernel threads, each a worker of one executor: `exec THREADS JOBS`.
 //!
-//! The jobs are numbered from 1 to JOBS, an even number. An odd job waits until the next one has released it, as a
-//! future waits for another. Prints the number of jobs that ended, and the sum of their numbers.
+//! The jobs have the numbers 1 to JOBS, an even number. An odd job waits until the next job has released it. Prints the
+//! number of jobs that ended, and the sum of their numbers.
 mod arachne_exec;
 
 use arachne_exec::{Exec, Next, Spawned, Woken};
@@ -12,7 +12,7 @@ use std::sync::{Condvar, Mutex};
 use std::time::Duration;
 use std::{env, hint, thread};
 
-/// A place for a worker to sleep. An unpark before the sleep isn't lost.
+/// A worker sleeps here. An unpark before the sleep isn't lost.
 #[derive(Default)]
 struct Sleeper {
     unparked: Mutex<bool>,
@@ -34,7 +34,6 @@ impl Sleeper {
     }
 }
 
-/// The part of a job's future that this example needs: the name by which the job is woken, and if it is released.
 #[derive(Default)]
 struct Future {
     name: AtomicU64,
@@ -69,7 +68,7 @@ impl Host {
         }
     }
 
-    /// Runs the job `job`, which `exec` holds. Returns if the job has ended.
+    /// Runs the job `job`, which `exec` holds. Returns true if the job has ended.
     ///
     /// An even job releases the job before it, and an odd one waits until it is released.
     fn poll(&self, exec: &mut Exec, job: usize) -> Option<bool> {
@@ -109,7 +108,7 @@ impl Host {
         exec.leave().then_some((exec, sum))
     }
 
-    /// Spawns all jobs, in turn in the blocks of each worker. Tries again while a block has no free slot.
+    /// Spawns all jobs. The workers' blocks get them in turn. Tries again while a block has no free slot.
     fn spawn_all(&self, exec: &mut Exec) -> Option<()> {
         let threads = self.sleepers.len();
         for job in 1..=self.jobs {
@@ -129,7 +128,6 @@ impl Host {
     }
 }
 
-/// Waits after the failed try number `tries`: a short sleep after each 64th, else a moment.
 fn stand_by(tries: u64) {
     if tries % 64 == 0 {
         thread::sleep(Duration::from_micros(50));

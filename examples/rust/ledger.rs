@@ -7,7 +7,6 @@ use arachne_exec::Adder;
 use std::process::ExitCode;
 use std::{env, thread};
 
-/// Adds each of a thread's numbers, and returns the share.
 fn add_all(mut adder: Adder, numbers: impl Iterator<Item = u64>) -> Option<Adder> {
     for number in numbers {
         if !adder.add(0, number) || !adder.add(1, 1) {

@@ -1,9 +1,8 @@
 //! Kernel threads take turns at one lock: `lock THREADS ROUNDS`.
 //!
-//! Each thread asks ROUNDS times. If it is queued, it waits until the lock is handed on to it. It raises a counter
-//! while it holds the lock, and then frees the lock. Each eighth time it doesn't wait but withdraws, as if a future
-//! were dropped. Prints the number of turns, held or withdrawn. The status is 1 if the counter isn't the number of
-//! turns that held the lock.
+//! Each thread asks ROUNDS times, and waits until it has the lock. While it holds the lock, it increments a counter.
+//! Every eighth time it doesn't wait but withdraws. Prints the number of turns, held or withdrawn. The status is 1 if
+//! the counter isn't the number of turns that held the lock.
 mod arachne_exec;
 
 use arachne_exec::{LockTold, Locks};
@@ -13,7 +12,7 @@ use std::sync::{Arc, Condvar, Mutex};
 use std::time::Duration;
 use std::{env, hint, thread};
 
-/// The number of times that the lock was handed on to a thread and the thread hasn't seen it yet.
+/// The number of times that a thread got the lock from the last holder and hasn't noticed it yet.
 #[derive(Default)]
 struct Turn {
     come: Mutex<u64>,
@@ -36,15 +35,13 @@ impl Turn {
 }
 
 struct Shared {
-    /// The counter, which only the holder of the lock changes, by a load and a store.
     counted: AtomicU64,
     turns: Vec<Turn>,
 }
 
 /// Waits after the failed try number `tries`: a short sleep after each 64th, else a moment.
 ///
-/// A yield would give away a whole turn of the processor if others have work, and more tries would keep the processor
-/// from the thread that has to go on.
+/// A yield would give away a whole turn of the processor. More tries would keep it from the thread that has to go on.
 fn stand_by(tries: u64) {
     if tries % 64 == 0 {
         thread::sleep(Duration::from_micros(50));
@@ -53,7 +50,6 @@ fn stand_by(tries: u64) {
     }
 }
 
-/// Repeats a call until the lock is not contended.
 fn until(mut call: impl FnMut() -> Option<LockTold>) -> Option<LockTold> {
     let mut tries = 0;
     loop {
@@ -66,7 +62,6 @@ fn until(mut call: impl FnMut() -> Option<LockTold>) -> Option<LockTold> {
     }
 }
 
-/// Asks for the lock, and waits or withdraws. Returns `Granted` or `Left`.
 fn enter(locks: &mut Locks, who: u64, round: u64, shared: &Shared) -> Option<LockTold> {
     match until(|| locks.ask(0, who))? {
         LockTold::Queued(_) => {}

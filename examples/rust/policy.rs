@@ -7,7 +7,6 @@ use arachne_exec::{Advice, Estimator, Sample};
 use std::io;
 use std::process::ExitCode;
 
-/// Returns the sample of a line, which has five numbers.
 fn sample(line: &str) -> Option<Sample> {
     let numbers: Vec<u64> = line.split(' ').map_while(|word| word.parse().ok()).collect();
     match numbers[..] {

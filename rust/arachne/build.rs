@@ -1,7 +1,5 @@
-//! Links the proved library, libarachne_exec_c.a with the kit's liblibc_c.a, from the folder that ARACHNE_LIBS names.
-//!
-//! If ARACHNE_LIBS is not set, the libraries are taken from the folder above the crate, where `scripts/release` puts
-//! them.
+//! Links the proved library (`libarachne_exec_c.a`, with the kit's `liblibc_c.a`) from the folder that `ARACHNE_LIBS`
+//! names or, by default, from the folder above the crate, where `scripts/release` puts it.
 use std::path::{Path, PathBuf};
 
 fn main() {
@@ -13,7 +11,10 @@ fn main() {
     let folder = match std::env::var_os("ARACHNE_LIBS") {
         Some(folder) => PathBuf::from(folder),
         None if above.join("libarachne_exec_c.a").exists() => above,
-        None => fail("ARACHNE_LIBS has to name the folder of libarachne_exec_c.a and liblibc_c.a; or use `model`"),
+        None => fail(
+            "ARACHNE_LIBS has to name the folder of libarachne_exec_c.a and liblibc_c.a; \
+             or use the feature `model`, which isn't proved",
+        ),
     };
     println!("cargo:rustc-link-search=native={}", folder.display());
     for library in ["arachne_exec_c", "libc_c"] {
@@ -26,7 +27,6 @@ fn main() {
     }
 }
 
-/// Ends the build with a message, without a panic's backtrace.
 fn fail(message: &str) -> ! {
     eprintln!("arachne: {message}");
     std::process::exit(1)

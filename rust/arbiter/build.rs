@@ -1,4 +1,4 @@
-//! Links the proved library: ARACHNE_LIBS names the folder that has libarachne_grants_c.a and the kit's liblibc_c.a.
+//! Links the proved library. ARACHNE_LIBS names the folder of libarachne_grants_c.a and of the kit's liblibc_c.a.
 use std::path::Path;
 
 fn main() {

@@ -1,26 +1,26 @@
-//! Explores interleavings of threads: runs real threads, but only one at a time, in an order that a seed determines.
+//! Explores the interleavings of threads. It runs real threads, one at a time, in an order that a seed determines.
 //!
-//! Each step of an atomic, a lock, a condition variable, an epoll, a clock or a thread is a *point*, at which the
-//! explorer may switch to another thread. Each thread has a random priority, and of the threads that can run, the one
-//! with the highest priority runs. At a few random points of a run, the running thread gets the lowest priority. The
-//! running thread may also lose its processor for up to 16 ms, unless the load is marked as *exact*. Locks and
-//! condition variables are implemented by the explorer, so it knows which threads wait.
+//! Each step of an atomic, a lock, a condition variable, an epoll, a clock or a thread is a *point*, at which another
+//! thread may run instead. Each thread has a random priority. Of the threads that can run, the one with the highest
+//! priority runs. At a few random points, the running thread gets the lowest priority, or stands still for up to 16 ms.
+//! In *exact* loads, no thread stands still at random.
 //!
-//! Time is virtual. A point takes some nanoseconds. If no thread can run, time jumps to the moment at which the first
-//! sleeping thread wakes. If no thread sleeps with a time limit either, the run is a *hang*; so is a run that takes
-//! more than `LONGEST`. A run of more than `STEPS` points is a *livelock*. Freed memory is filled with a pattern until
-//! the end of the run. If an atomic or a lock has the pattern, or the pattern of a block has changed, memory was used
-//! after it was freed. If a run hasn't freed all memory that it has allocated, that is a *leak*.
+//! Time is virtual: a point takes some nanoseconds, and if no thread can run, time jumps to the end of the first
+//! thread's sleep. A run fails in each of these cases:
 //!
-//! At a hang, a livelock, a leak, a use of freed memory, a failed assertion or a fault, the explorer prints the last
-//! points (more of them with `TRACE=1000`), and the point at which each thread waits. It also prints the name of the
-//! load and the seed, by which the run can be repeated. The script `explore/run` builds and runs the explorer.
+//! - It hangs: all threads wait without a time limit, or it takes more than `LONGEST` of virtual time.
+//! - It is a livelock: it takes more than `STEPS` points.
+//! - It uses freed memory, which the explorer has filled with a pattern: an atomic or a lock contains the pattern, or
+//!   the pattern has changed.
+//! - It leaks memory.
+//! - An assertion fails, or the processor reports a fault.
 //!
-//! The crate, and the model of its core, use atomics, locks and threads only through `sync.rs`. So the model's steps
-//! are points too, and nothing is assumed about the model; the proved library is not tested here. Each point is
-//! sequentially consistent, so the explorer doesn't find a missing barrier or an order that is too weak. Nor does it
-//! find data races on other data between two points, or errors that need a condition variable's spurious wakes or
-//! another order of Linux's calls.
+//! The explorer then prints the last 40 points (or as many as `TRACE` says), and the last point of each thread. It also
+//! prints the load and the seed, which repeat the run. The script `explore/run` builds and runs the explorer.
+//!
+//! The crate is explored with its model of the proved core, and not with the proved library. All steps are sequentially
+//! consistent, so the explorer finds no missing barrier. The explorer also finds no data race on other data between two
+//! points, and no error that needs a spurious wake of a condition variable or another order of Linux's calls.
 
 use std::alloc::{GlobalAlloc, Layout, System};
 use std::cell::{Cell, UnsafeCell};
@@ -32,14 +32,12 @@ use std::sync::atomic::{AtomicBool, AtomicPtr, Ordering::*};
 mod types;
 pub use types::*;
 
-/// The four limits of a run: its threads, its points, the points that are kept for the trace, and its length in
-/// nanoseconds.
+/// The limits of a run: its threads, its points (steps), the points in the trace, and its nanoseconds of virtual time.
 const MOST: usize = 16;
 const STEPS: u64 = 300_000;
 const KEPT: usize = 1 << 12;
 const LONGEST: u64 = 10_000_000_000;
-/// After this many points (steps at which threads may switch) a thread always gets the lowest priority, because it may
-/// be waiting in a loop for another thread.
+/// After this many points (steps), a thread gets the lowest priority, because it may be waiting in a loop.
 const PATIENCE: u64 = 3000;
 const START: u64 = 1_000_000_000;
 const NEVER: u64 = u64::MAX;
@@ -57,8 +55,8 @@ type Job = Box<dyn FnOnce() + Send>;
 
 struct Thread {
     state: Cell<State>,
-    /// This and the next three fields say how the thread waits: for which object, until which time, in which epoll, and
-    /// if it was woken.
+    /// The thread's wait, in four fields: the address of what it is for, the time limit, the epoll, and true once
+    /// woken.
     on: Cell<usize>,
     until: Cell<u64>,
     epoll: Cell<i32>,
@@ -83,7 +81,7 @@ struct Event {
 }
 const NO_EVENT: Event = Event { thread: 0, what: "", at: None, value: NEVER, now: START };
 
-/// The scheduler's state, which all threads share. Only the running thread accesses it.
+/// The scheduler's state. Only the running thread accesses it.
 struct World {
     threads: [Thread; MOST],
     count: Cell<usize>,
@@ -96,16 +94,15 @@ struct World {
     switches: Cell<u64>,
     now: Cell<u64>,
     tick: Cell<u64>,
-    /// This and the next two fields are about changes of priority, in numbers of points (steps): the point of the next
-    /// change, the mean number of points between two changes, and the point at which another thread last took over.
+    /// Three fields, counted in points (steps): the next change of a priority, the mean distance of two changes, and
+    /// the point at which the running thread began to run.
     change: Cell<u64>,
     gap: Cell<u64>,
     began: Cell<u64>,
     lowest: Cell<u64>,
-    /// Which thread will lose its processor, at which point (the number of a step), and for how many nanoseconds.
+    /// The thread that will stand still, the point (step) at which it will, and for how many nanoseconds.
     loss: Cell<(usize, u64, u64)>,
-    /// The point (the number of a step) at which the scheduler next chooses which thread runs; the next field is the
-    /// time for this. The scheduler also chooses when a thread is woken.
+    /// Two fields: the point (step) and the time at which the scheduler next chooses a thread, if none is woken before.
     alarm: Cell<u64>,
     timer: Cell<u64>,
     stirred: Cell<bool>,
@@ -185,7 +182,7 @@ impl World {
             self.change.set(steps + 1 + self.random() % (2 * self.gap.get()));
             let until = self.now.get() + (1 << (10 + self.random() % 15));
             match if self.exact.get() { 0 } else { self.random() % 4 } {
-                // In case 3 no thread has a processor until then; in case 2 only this thread has none.
+                // In case 3 all threads stand still, in case 2 only this thread.
                 3 => self.now.set(until),
                 2 => {
                     self.wait(me, 0, until, -1);
@@ -206,7 +203,7 @@ impl World {
         self.began.set(self.steps.get());
     }
 
-    /// Lets the thread with the highest priority run, of those that can. Returns when the calling thread may run again.
+    /// Of the threads that can run, runs the one with the highest priority.
     fn go_on(&self, me: usize) {
         let next = loop {
             self.stirred.set(false);
@@ -247,8 +244,7 @@ impl World {
         }
     }
 
-    /// Advances the virtual time, because no thread can run. Wakes the thread whose sleep ends first, unless an epoll
-    /// has an event of which no thread was notified.
+    /// If no epoll has an event, sets the virtual time to the end of the first sleep.
     fn pass_time(&self, timer: u64) {
         for thread in self.all().filter(|thread| thread.state.get() == State::Waits && thread.epoll.get() >= 0) {
             let mut what = [thread.epoll.get(), 1];
@@ -265,8 +261,7 @@ impl World {
         self.now.set(timer);
     }
 
-    /// Blocks the calling thread until another thread wakes it, or until the virtual time `until`. Returns true if it
-    /// was woken before that time.
+    /// Blocks the calling thread until it is woken, or until the virtual time `until`. Returns true if it was woken.
     fn wait(&self, me: usize, on: usize, until: u64, epoll: i32) -> bool {
         let thread = &self.threads[me];
         (thread.on.set(on), thread.until.set(until), thread.epoll.set(epoll), thread.told.set(false));
@@ -275,7 +270,7 @@ impl World {
         thread.told.get()
     }
 
-    /// Wakes the threads that wait for the object `on`. If `one` is true, wakes only one of them, chosen at random.
+    /// Wakes the threads that wait for the object `on` or, if `one` is true, a random one of them.
     fn tell(&self, on: usize, one: bool) {
         let waits = |thread: &&Thread| thread.state.get() == State::Waits && thread.on.get() == on;
         let count = self.all().filter(waits).count();
@@ -288,7 +283,6 @@ impl World {
         }
     }
 
-    /// Runs `job` on an idle kernel thread or, if there is none, on a new one.
     fn begin(&'static self, name: &str, job: Job) {
         let tracks = HELD.tracks.replace(false);
         let idle = (1..self.count.get()).find(|&at| self.threads[at].state.get() == State::Idle);
@@ -334,8 +328,7 @@ impl World {
     }
 }
 
-/// Marks a step of the calling thread. Before the step, the scheduler may let another thread run. Outside of a run,
-/// does nothing.
+/// Marks a step of the calling thread, before which another thread may run. Does nothing outside of a run.
 #[inline]
 fn point(what: &'static str, at: &'static Location<'static>) {
     let me = me();
@@ -344,7 +337,6 @@ fn point(what: &'static str, at: &'static Location<'static>) {
     }
 }
 
-/// Adds to the trace the value that the calling thread has read in its last step.
 #[inline]
 fn seen(value: u64) {
     let world = world();
@@ -354,7 +346,7 @@ fn seen(value: u64) {
 
 // ------------------------------------------------------------------------------------------- a run
 
-/// Prints the last points, the point at which each thread waits, and the seed; then ends the process.
+/// Prints the last points, the last point of each thread, and the seed.
 pub fn fail(what: &str) -> ! {
     let world = world();
     HELD.tracks.set(false);
@@ -385,9 +377,8 @@ pub fn fail(what: &str) -> ! {
     unsafe { _exit(1) }
 }
 
-/// Prepares the process for the first run. All threads are kept on one processor, so that one thread wakes another
-/// cheaply. A panic on any thread ends the process, and so does a fault. `clean` must free what the crate has cached
-/// for the calling kernel thread.
+/// Prepares the process for its runs: keeps it on one processor, so that one thread wakes another cheaply. From now on
+/// a panic or a fault ends the process. `clean` must free what the crate has cached for the calling kernel thread.
 pub fn prepare(clean: fn()) {
     extern "C" fn fault(_: i32) {
         fail("a fault: something was used after it was freed, most likely");
@@ -441,9 +432,8 @@ pub fn prepare(clean: fn()) {
     std::panic::set_hook(Box::new(|panic| fail(&panic.to_string())));
 }
 
-/// Runs a load once, in the order that `seed` determines. Returns how many points there were, and how often the
-/// explorer switched between threads. All threads that the load starts must end. The load and `end` must free all
-/// memory that the load has allocated.
+/// Returns the number of points and of switches between threads. All threads of the load must end, and the load and
+/// `end` must free all memory that the load has allocated.
 pub fn run(name: &'static str, load: fn(), exact: bool, seed: u64, end: fn()) -> (u64, u64) {
     let world = world();
     (world.load.set(name), world.seed.set(seed), world.exact.set(exact));
@@ -470,7 +460,7 @@ pub fn run(name: &'static str, load: fn(), exact: bool, seed: u64, end: fn()) ->
     (world.steps.get(), world.switches.get())
 }
 
-/// After `points` more points, the calling thread loses its processor for `time`.
+/// Makes the calling thread stand still for `time` of virtual time, after `points` more points (steps).
 pub fn lose_processor(points: usize, time: std::time::Duration) {
     let world = world();
     let from = world.steps.get() + points as u64;
@@ -478,7 +468,6 @@ pub fn lose_processor(points: usize, time: std::time::Duration) {
     world.alarm.set(world.alarm.get().min(from));
 }
 
-/// Returns a number below `count`, which the seed determines.
 pub fn choose(count: usize) -> usize {
     world().random() as usize % count
 }
@@ -487,8 +476,7 @@ pub fn choose(count: usize) -> usize {
 
 const PATTERN: u8 = 0xdb;
 
-/// The blocks of memory that a run has freed, and the number of blocks that it has allocated and not freed. Nothing is
-/// counted while `tracks` is false.
+/// The memory blocks that a run has freed, and the number of those not freed yet. Counted only while `tracks` is true.
 struct Held {
     tracks: Cell<bool>,
     live: Cell<isize>,
@@ -522,7 +510,7 @@ impl Held {
     }
 }
 
-/// The allocator that a program must use to be explored; it detects the use of freed memory.
+/// The allocator of an explored program, which detects the use of freed memory.
 pub struct Memory;
 
 // SAFETY: each call goes to the system's allocator, which gets each block back once.

@@ -1,4 +1,4 @@
-//! The loads that the explorer runs. Each has about three kernel threads.
+//! Programs of about three threads (*loads*), which the explorer, a test, runs in many orders of the threads' steps.
 
 use arachne::net::Async;
 use arachne::{
@@ -19,12 +19,11 @@ static MEMORY: explorer::Memory = explorer::Memory;
 const MS: Duration = Duration::from_millis(1);
 const LONG: Duration = Duration::from_millis(500);
 
-/// Returns a runtime with so few task slots that a task may find none free.
+/// Returns a runtime with few task slots, so that a task may have to wait for one.
 fn runtime(workers: usize) -> Runtime {
     Builder::new(workers).places(4 * workers).slices(None).build().unwrap()
 }
 
-/// A number, with a condition variable on which a thread waits until the number is large enough.
 #[derive(Default)]
 struct Count(Mutex<usize>, Condvar);
 
@@ -41,7 +40,7 @@ impl Count {
     }
 }
 
-/// A thread that is no worker spawns tasks while the workers fall asleep: each task must run once.
+/// A thread that is no worker spawns tasks while the workers fall asleep. Each task must run once.
 fn sleepers() {
     let (runtime, ran) = (runtime(2), Arc::new(Count::default()));
     for round in 0..3 {
@@ -57,7 +56,7 @@ fn sleepers() {
     }
 }
 
-/// If workers sleep, a task that is spawned or woken must run at once: before any virtual time passes.
+/// If workers sleep, a task that is spawned or woken must run at once.
 fn prompt() {
     let (runtime, gate) = (runtime(2 + choose(2)), Arc::new(Semaphore::new(0)));
     for _ in 0..3 {
@@ -76,8 +75,7 @@ fn prompt() {
     }
 }
 
-/// There are as many tasks as workers. Each task blocks its worker until all have begun, so each needs a worker for
-/// itself.
+/// There are as many tasks as workers, and each blocks its worker until all have begun. So each worker must run one.
 fn hands() {
     let (runtime, begun) = (runtime(2), Arc::new(Count::default()));
     for round in 1..3 {
@@ -101,7 +99,6 @@ impl Wake for Count {
     }
 }
 
-/// Polls `future` once. The waker counts its wakes in `woken`.
 fn poll<F: Future + Unpin>(future: &mut F, woken: &Arc<Count>) -> Poll<F::Output> {
     Pin::new(future).poll(&mut Context::from_waker(&woken.clone().into()))
 }
@@ -113,7 +110,7 @@ impl Drop for OnDrop {
     }
 }
 
-/// Abort handles are made, cloned and dropped while their task ends: the task's contents are dropped exactly once.
+/// While a task ends, its abort handles are made, cloned and dropped. The task's contents must be dropped exactly once.
 fn aborts() {
     let (runtime, dropped) = (runtime(2), Arc::new(Count::default()));
     let within = OnDrop(dropped.clone());
@@ -142,8 +139,7 @@ fn aborts() {
     dropped.is(1);
 }
 
-/// Tasks of a set end on workers while another thread joins, aborts and detaches tasks. The end of each task is
-/// returned exactly once.
+/// The tasks of a set end while another thread joins, aborts and detaches tasks. Each task's end must be returned once.
 fn sets() {
     let runtime = runtime(2);
     let waits = runtime.spawn(async {
@@ -172,7 +168,7 @@ fn sets() {
     runtime.block_on(waits).unwrap();
 }
 
-/// A semaphore is closed while tasks wait and permits are added: each task gets an error, and no permit is lost.
+/// A semaphore is closed while tasks wait and permits are added. No permit may be lost.
 fn closing() {
     let (runtime, permits) = (runtime(2), Arc::new(Semaphore::new(choose(2))));
     let tasks: Vec<_> = (0..3).map(|_| runtime.spawn(permits.clone().acquire_owned())).collect();
@@ -186,8 +182,7 @@ fn closing() {
     assert_eq!(permits.available_permits(), free + count);
 }
 
-/// Handles spawn tasks while their runtime ends, and while another runtime begins and reuses its state. Each task ends
-/// or never begins, and none runs in the other runtime.
+/// Handles spawn tasks while their runtime ends, and another one begins. None of the tasks may run in the new runtime.
 fn door() {
     let (first, dropped) = (runtime(2), Arc::new(Count::default()));
     let (handle, within) = (first.handle(), dropped.clone());
@@ -210,8 +205,7 @@ fn door() {
     }
 }
 
-/// A thread resets a sleep while a task waits for it. The task must be woken soon after the time that was set last, and
-/// not before it.
+/// A thread resets a sleep while a task waits for it. The task must be woken soon after the new time, not before.
 fn resets() {
     let runtime = runtime(2);
     let nap = Arc::new(Mutex::new((sleep(LONG), false)));
@@ -239,12 +233,11 @@ fn resets() {
     assert!(now() + 100_000 >= until && now() < until + SOON, "{} us", (now() as i64 - until as i64) / 1000);
 }
 
-/// A ready task must begin within this many nanoseconds of virtual time, which doesn't depend on the load of the
-/// machine.
+/// A ready task must begin within this many nanoseconds of virtual time.
 const SOON: u64 = 5_000_000;
 
-/// A poll takes 200 ms. The ready tasks behind it must begin soon: those in its worker's local queue, the one to run
-/// next, and those that the poll makes ready.
+/// A poll takes 200 ms. Other workers must soon run the ready tasks behind it, which are in its worker's local queue,
+/// would run next there, or are made ready by the poll.
 fn behind() {
     let (runtime, begun) = (runtime(2 + choose(2)), Arc::new(Count::default()));
     let each = begun.clone();
@@ -273,8 +266,8 @@ fn behind() {
     begun.is(8);
 }
 
-/// A worker has one task in its local queue, makes another ready in its task slot, and begins a long poll. A free
-/// worker must run one of the two at once.
+/// A worker has two ready tasks, one in its local queue and one in a task slot, and begins a long poll. A free worker
+/// must run one of the two at once.
 fn apart() {
     let (runtime, begun) = (runtime(2), Arc::new(Mutex::new(Vec::new())));
     thread::sleep(choose(12) as u32 * MS);
@@ -293,13 +286,14 @@ fn apart() {
     assert!(late < 300_000, "after {} us", late / 1000);
 }
 
-/// A worker loses its processor as it ends a poll, or a little later. All its ready tasks must begin soon, except for
-/// one that it has already taken to run.
+/// A worker loses its processor in or after a poll. Of its ready tasks at most one, which it had already taken to run,
+/// may begin late.
 fn stands() {
     stands_on(runtime(2 + choose(2)));
 }
 
-/// As in `stands`, but only this worker has a core; a worker without a core must run its tasks.
+/// The only active worker (the one that may run tasks) loses its processor in or after a poll. An inactive worker must
+/// then run the first one's ready tasks.
 fn covered() {
     let runtime = runtime(2 + choose(2));
     arachne::set_active(&runtime, 1);
@@ -334,8 +328,7 @@ fn stands_on(runtime: Runtime) {
     assert!(late <= 1, "{late} begin late");
 }
 
-/// Long polls spawn and wake tasks. Meanwhile another worker makes the jobs in the local queues of the workers in these
-/// polls ready.
+/// While long polls spawn and wake tasks, other workers must run the tasks in the local queues behind these polls.
 fn relief() {
     let (runtime, ran, gate) = (runtime(2), Arc::new(Count::default()), Arc::new(Semaphore::new(0)));
     let task = |waits: u32| {
@@ -364,8 +357,8 @@ fn relief() {
     ran.is(4);
 }
 
-/// A worker is in a poll that waits for one of its own ready tasks. Another worker, which wakes each millisecond for a
-/// task of its own, must take those tasks over.
+/// If a worker's poll waits for the worker's own ready tasks, another worker, which wakes each millisecond, must run
+/// them.
 fn ticks() {
     let (runtime, ran) = (runtime(2), Arc::new(Count::default()));
     let ticking = runtime.spawn(async {
@@ -390,8 +383,8 @@ fn ticks() {
     assert!(runtime.block_on(ticking).unwrap_err().is_cancelled());
 }
 
-/// A worker wakes for a timer that was removed, just as a task becomes ready in one of its task slots. That task spawns
-/// another one and waits for it.
+/// A worker wakes for a timer that was removed. Just then a task becomes ready, and blocks until a task that it spawns
+/// has run. Another worker must run the spawned task.
 fn stale() {
     let (runtime, mut waits, due) = (runtime(2 + choose(2)), sleep(40 * MS), now() + 40_000_000);
     let _ = runtime.enter(|| poll(&mut waits, &Arc::default()));
@@ -407,8 +400,8 @@ fn stale() {
     runtime.block_on(task).unwrap();
 }
 
-/// One worker is in a long poll. Another, whose tasks take some 50 us each and yield, must soon run the task that was
-/// to run next on the first. It must also keep running its own tasks in turn, however many tasks the poll makes ready.
+/// One worker is in a long poll. A busy worker, whose polls are short, must soon run the task that was to run next on
+/// the first worker.
 fn phases() {
     let runtime = Builder::new(2).places(512).slices(None).build().unwrap();
     let (begun, ended) = (Arc::new(Count::default()), Arc::new(Count::default()));
@@ -448,7 +441,7 @@ fn phases() {
     spins.into_iter().for_each(|spin| runtime.block_on(spin).unwrap());
 }
 
-/// The only worker is in a poll that waits for a ready task: the watcher runs that task.
+/// While the only worker's poll waits for ready tasks, the watcher (a kernel thread) must run them.
 fn watcher() {
     let runtime = Builder::new(1).places(8).slices(None).watch_polls(10 * MS, false).build().unwrap();
     let ran = Arc::new(Count::default());
@@ -472,7 +465,8 @@ fn watcher() {
     ran.is(3);
 }
 
-/// While a task ends, its handle is polled with two wakers, and then awaited, aborted or dropped.
+/// While a task ends, its handle is polled with two wakers, and then awaited, aborted or dropped. The waker of the last
+/// poll must be woken, and the task's value be dropped once.
 fn handles() {
     let (runtime, dropped) = (runtime(1), Arc::new(Count::default()));
     for round in 1..3 {
@@ -509,7 +503,6 @@ fn handles() {
     }
 }
 
-/// A value that increments a count when it is dropped.
 struct Counted(Arc<Count>);
 impl Drop for Counted {
     fn drop(&mut self) {
@@ -517,8 +510,8 @@ impl Drop for Counted {
     }
 }
 
-/// When the runtime begins to end, all tasks that wait for this are woken, even a task that begins to wait, or changes
-/// its waker, at that moment. The tasks that these then spawn still run.
+/// When the runtime begins to end, all tasks that wait for the end must be woken, even if they begin to wait just then.
+/// The tasks that the woken tasks spawn must still run.
 fn drain() {
     let (runtime, ended) = (runtime(2), Arc::new(Count::default()));
     for yields in 0..2 {
@@ -537,8 +530,7 @@ fn drain() {
     ended.is(2);
 }
 
-/// The runtime ends without waiting for its tasks. Each task has run or is dropped, exactly once, and its handle tells
-/// which.
+/// The runtime ends without waiting for its tasks, each of which must be dropped exactly once.
 fn shutdown() {
     let (runtime, dropped, gate) = (runtime(2), Arc::new(Count::default()), Arc::new(Semaphore::new(0)));
     let task = |kind: usize| {
@@ -567,7 +559,7 @@ fn shutdown() {
     }
 }
 
-/// A runtime is dropped by one of its own tasks.
+/// If a runtime is dropped by one of its own tasks, all its tasks must be dropped.
 fn own() {
     let (runtime, dropped) = (Arc::new(runtime(2)), Arc::new(Count::default()));
     let (kept, ends, waits) = (runtime.clone(), Counted(dropped.clone()), Counted(dropped.clone()));
@@ -588,8 +580,7 @@ fn own() {
     dropped.await_all(2);
 }
 
-/// There are more tasks than task slots. All tasks with a slot wait for a task without one, which gets a slot only when
-/// another task ends.
+/// Tasks wait for one that has no slot yet, and that gets a slot only when another task ends. All tasks must end.
 fn room() {
     let (runtime, gate) = (runtime(2), Arc::new(Semaphore::new(0)));
     let mut tasks: Vec<JoinHandle<()>> = Vec::new();
@@ -604,8 +595,8 @@ fn room() {
     }
 }
 
-/// Three senders share a full channel of one value. No value is lost, and the values of each sender stay in order. If a
-/// sender is woken and finds the channel full again, it is the next to be woken.
+/// Senders share a full channel of one value. No value may be lost, and the values of each sender must stay in order.
+/// If a sender is woken and the channel is full again, this sender must be the next to be woken.
 fn channels() {
     let (sender, receiver) = channel(1);
     sender.try_send(0).unwrap();
@@ -640,7 +631,7 @@ fn channels() {
     senders.into_iter().for_each(|task| runtime.block_on(task).unwrap());
 }
 
-/// Waiters of a semaphore and of a channel stop waiting at a deadline. No permit and no value is lost.
+/// Tasks stop waiting for a semaphore and a channel at a deadline. No permit and no value may be lost.
 fn leaving() {
     let (runtime, gate, (sender, receiver)) = (runtime(2), Arc::new(Semaphore::new(1)), channel(1));
     let tasks: Vec<_> = (0..3)
@@ -666,7 +657,6 @@ fn leaving() {
     runtime.block_on(gate.acquire()).unwrap().forget();
 }
 
-/// Timers of a worker, and of another thread: no timer fires early, or more than a millisecond late.
 fn timers() {
     let runtime = runtime(2);
     let sleeps = |millis: u32| async move {
@@ -684,7 +674,7 @@ fn timers() {
     }
 }
 
-/// One worker has given its core back. The worker that takes over its jobs must run its ready tasks at once.
+/// If the policy makes a worker inactive, another worker must run its ready tasks at once.
 fn cores() {
     let policy = Policy { every: MS, ..Policy::default() };
     let runtime = Builder::new(4).places(16).slices(None).policy(policy).build().unwrap();
@@ -706,8 +696,8 @@ fn cores() {
     assert!(now() - since < 300_000, "after {} us", (now() - since) / 1000);
 }
 
-/// A worker's core is taken back while the worker is in a poll, which waits for the jobs in the worker's own local
-/// queues.
+/// A worker becomes inactive during a poll that waits for tasks of the worker's own local queue. Another worker must
+/// run them.
 fn returned() {
     let policy = Policy { every: MS, min_cores: 2, ..Policy::default() };
     let runtime = Builder::new(3).places(12).slices(None).policy(policy).build().unwrap();
@@ -731,7 +721,7 @@ fn returned() {
     }
 }
 
-/// Cores are granted and taken back at any time, as an arbiter does it. Ready tasks must still run at once.
+/// Workers become active and inactive at any time. Each ready task must still run without delay.
 fn granted() {
     let runtime = Builder::new(3).places(12).slices(None).build().unwrap();
     for _ in 0..3 {
@@ -755,8 +745,7 @@ fn granted() {
     }
 }
 
-/// Sockets are opened and closed. The event of a closed socket must not reach the next socket with the same number,
-/// whose task would then read in vain.
+/// The event of a closed socket must not wake the task of a later socket with the same descriptor number.
 fn sockets() {
     let runtime = runtime(2);
     for round in 0..2 {
@@ -794,7 +783,7 @@ fn sockets() {
     }
 }
 
-/// Three tasks wait for one socket, and one of them may stop waiting. Each of the others must read a byte.
+/// Even if one of three tasks that wait for a socket stops waiting, the others must each read a byte.
 fn crowd() {
     let (runtime, (mut near, far)) = (runtime(2), UnixStream::pair().unwrap());
     let (far, leaves) = (Arc::new(Async::new(far).unwrap()), choose(2) == 0);
@@ -815,7 +804,8 @@ fn crowd() {
     assert!(read == 3 || leaves && read == 2);
 }
 
-/// Three tasks want a lock, and one of them may stop waiting. At the same time, the blocking pool has work.
+/// Three tasks want a lock, and one of them may stop waiting, while the blocking pool has work. Only one task at a time
+/// may hold the lock.
 fn locks() {
     let (runtime, lock, inside) = (runtime(2), Arc::new(Lock::new(0)), Arc::new(Mutex::new(false)));
     let tasks: Vec<_> = (0..3)
@@ -847,7 +837,7 @@ impl Drop for Leaves {
     }
 }
 
-/// A load's name, its function, and whether its time is *exact* (no thread loses its processor).
+/// A load's name, its function, and true if it is *exact* (no thread stands still at random).
 type Load = (&'static str, fn(), bool);
 const LOADS: [Load; 31] = [
     ("sleepers", sleepers, false),

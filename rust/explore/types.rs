@@ -1,4 +1,4 @@
-//! The standard library's atomics, locks and threads for the explorer, which may switch threads at each of their steps.
+//! The standard library's atomics, locks and threads, with a point (step at which threads may switch) at each call.
 
 use super::*;
 use std::ops::{Deref, DerefMut};
@@ -116,7 +116,7 @@ unsafe impl<T: ?Sized + Send> Sync for Mutex<T> {}
 
 pub struct MutexGuard<'a, T: ?Sized>(&'a Mutex<T>);
 
-/// Returns the address of `of`. The scheduler uses it as the name of the object for which a thread waits.
+/// Returns the address of `of`, by which the scheduler knows what a thread waits for.
 fn id<T: ?Sized>(of: &T) -> usize {
     of as *const T as *const u8 as usize
 }
@@ -260,7 +260,6 @@ impl Condvar {
 
 // ------------------------------------------------------------------------------------------- time, epoll, threads
 
-/// Returns the nanoseconds of virtual time.
 pub fn now() -> u64 {
     world().now.get()
 }
@@ -297,7 +296,6 @@ impl std::ops::Add<Duration> for Instant {
     }
 }
 
-/// For a thread that waits for an epoll, the scheduler stores this number instead of an object's address.
 const TOLD: usize = 1;
 
 #[track_caller]
@@ -314,7 +312,6 @@ pub fn wait(epoll: i32, timeout: i32, mut look: impl FnMut(i32) -> usize) -> usi
     }
 }
 
-/// Wakes the threads that wait for an epoll, because an epoll may have an event.
 pub fn told() {
     world().tell(TOLD, false);
 }

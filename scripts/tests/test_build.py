@@ -7,6 +7,7 @@ import tempfile
 import time
 import unittest
 from pathlib import Path
+from typing import Any
 from unittest import mock
 
 from loading import TOP, load, run_on_terminal
@@ -188,6 +189,27 @@ class Builds(unittest.TestCase):
                 self.assertEqual(ran.wait(), 130)
                 self.assertTrue(self.has_ended(process))
                 self.assertFalse((self.top / "crates/arachne/out/.built").exists())
+
+    def test_an_interrupt_while_the_proofs_are_started_ends_them(self) -> None:
+        begin = subprocess.Popen
+
+        def is_interrupted(*words: str, **how: Any) -> subprocess.Popen[str]:
+            gate = begin(*words, **how)
+            os.kill(os.getpid(), signal.SIGINT)
+            return gate
+
+        made = build.Build(str(self.top), "lower", build.Estimate({}, {}, 1, (1, 1)))
+        self.addCleanup(signal.signal, signal.SIGINT, signal.signal(signal.SIGINT, signal.default_int_handler))
+        with (
+            mock.patch.dict(os.environ, self.place(WAITS=f"{self.top}/waits")),
+            mock.patch.object(build.subprocess, "run"),
+            mock.patch.object(build.subprocess, "Popen", is_interrupted),
+            self.assertRaises(KeyboardInterrupt),
+        ):
+            made.start()
+        self.assertTrue(made.gate)
+        made.stop()
+        self.assertEqual(made.gate.returncode, -signal.SIGTERM)
 
     def test_the_end_of_the_caller_ends_all_that_was_started(self) -> None:
         ran, process = self.begun("sh", "-c", "scripts/build & wait")

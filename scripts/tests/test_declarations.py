@@ -39,7 +39,7 @@ class Declarations(unittest.TestCase):
         self.assertEqual(self.check(), "")
 
     def test_another_comment_needs_no_version(self) -> None:
-        told = self.changed("exec.rt", "/// Takes the next job", "/// Fetches the next job")
+        told = self.changed("exec.rt", "/// Creates an executor with", "/// Makes an executor with")
         self.assertEqual(told, "differs: examples/c/arachne_exec.h\ndiffers: examples/rust/arachne_exec/declared.rs\n")
 
     def test_another_code_type_or_call_needs_a_version(self) -> None:

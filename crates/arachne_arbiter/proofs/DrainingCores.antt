@@ -1,10 +1,7 @@
 -- The cores that must be drained, as orders are applied.
 use Rattle.std.proofs.Common.{◌≡◌, ℕ, ◌+◌, Bool, true, false, cond, eqb, List, refl, arith, ◌∙◌, add-one}
-use Rattle.std.proofs.Math.ListN.{set}
-use Rattle.std.proofs.lemmas.List.{length-set}
-use Rattle.std.proofs.lemmas.Grind.{common_steps}
-use Rattle.arachne_policy.specs.declared.orders.CoreOrder.{CoreOrder}
-use Rattle.arachne_policy.specs.Orders.{is_release}
+use Rattle.std.proofs.{Math.ListN.set, lemmas.{List.length-set, Grind.common_steps}}
+use Rattle.arachne_policy.specs.{declared.orders.CoreOrder.CoreOrder, Orders.is_release}
 use Rattle.arachne_arbiter.specs.declared.orders.Effect.TheVariants.{Closes, Opens}
 use Rattle.arachne_arbiter.specs.Orders.{Progress, is_closed_after, effect_of, next_order, next_effect, with_next, AreDraining}
 

@@ -1,8 +1,6 @@
 -- The cores among which a new thread's place is chosen.
-use Rattle.std.proofs.Common.{◌≡◌, ℕ, zero, suc, ◌+◌, ◌<◌, Bool, true, false, cond, List, [], ◌∷◌, ◌++◌, length, get_or, take, All, Any, refl, arith, ap, sym, ◌∙◌, add-one}
-use Rattle.std.proofs.Math.ListN.{set}
-use Rattle.std.proofs.lemmas.List.{append-nil, take_more_set}
-use Rattle.std.proofs.lemmas.List.Elements.{All-push}
+use Rattle.std.proofs.Common.{◌≡◌, ℕ, zero, suc, ◌+◌, ◌<◌, Bool, true, false, cond, List, [], ◌∷◌, ◌++◌, length, get_or, take, All, Any, refl, arith, ap, sym, ◌∙◌, add-one, append-nil}
+use Rattle.std.proofs.{Math.ListN.set, lemmas.List.{take_more_set, Elements.All-push}}
 use Rattle.arachne_core.specs.Occupancy.{Occupancy, count_of, vacant}
 use Rattle.arachne_policy.specs.declared.choices.CoreLoad.{CoreLoad}
 use Rattle.arachne_arbiter.specs.Choice.{is_candidate_at, loads_of, load_of}

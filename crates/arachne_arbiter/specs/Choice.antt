@@ -1,9 +1,8 @@
--- The core that a new thread is offered first.
+-- The core at which a new thread's place is sought first.
 use Rattle.std.specs.Prelude.{◌≡◌, ℕ, zero, suc, List, [], ◌∷◌, ◌++◌, Bool, false, not, ◌||◌, if◌then◌else◌, slice_index_or, Option, Some, None}
 use Rattle.arachne_core.specs.Occupancy.{Occupancy, count_of, vacant}
 use Rattle.arachne_contexts.specs.Words.{HasNoPlace}
-use Rattle.arachne_policy.specs.declared.choices.CoreLoad.{CoreLoad}
-use Rattle.arachne_policy.specs.Choice.{chosen_core}
+use Rattle.arachne_policy.specs.{declared.choices.CoreLoad.CoreLoad, Choice.chosen_core}
 
 -- the core is open, and no thread has it exclusively
 abbrev pub is_candidate_at : Occupancy → Bool

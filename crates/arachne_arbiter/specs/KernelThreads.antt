@@ -1,7 +1,6 @@
 -- The number of cores for which there are counts and parkers.
 use Rattle.std.specs.Prelude.{ℕ, vec_len}
-use Rattle.arachne_arbiter.specs.declared.slices.SliceCounts.{SliceCounts}
-use Rattle.arachne_arbiter.specs.declared.parking.Parking.{Parking}
+use Rattle.arachne_arbiter.specs.declared.{slices.SliceCounts.SliceCounts, parking.Parking.Parking}
 
 abbrev pub counted_cores : SliceCounts → ℕ
 counted_cores counts = vec_len counts.counts

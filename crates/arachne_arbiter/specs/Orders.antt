@@ -1,9 +1,7 @@
 -- The orders of a run that were applied, and what they have done to its cores.
 use Rattle.std.specs.Prelude.{◌≡◌, ℕ, zero, suc, ◌+◌, ◌<◌, ◌≤◌, Bool, true, false, ◌==◌, if◌then◌else◌, List, length, slice_index_or, All}
-use Rattle.arachne_policy.specs.declared.orders.CoreOrder.{CoreOrder}
-use Rattle.arachne_policy.specs.Orders.{order_at, is_release}
-use Rattle.arachne_arbiter.specs.declared.orders.Effect.{Effect}
-use Rattle.arachne_arbiter.specs.declared.orders.Effect.TheVariants.{Closes, Opens, Nothing}
+use Rattle.arachne_policy.specs.{declared.orders.CoreOrder.CoreOrder, Orders.{order_at, is_release}}
+use Rattle.arachne_arbiter.specs.declared.orders.Effect.{Effect, TheVariants.{Closes, Opens, Nothing}}
 
 -- the orders, the number of cores, and the number of orders that were applied
 pub record Progress : Type 0 where
@@ -11,7 +9,7 @@ pub record Progress : Type 0 where
   pub cores : ℕ
   pub applied : ℕ
 
--- the last of the first n orders that names the core is a release
+-- of the first n orders, the last one that names the core is a release
 abbrev pub is_closed_after : List CoreOrder → ℕ → ℕ → Bool
 is_closed_after list zero core = false
 is_closed_after list (suc n) core =
@@ -32,11 +30,11 @@ IsWithin cores Nothing = Unit {0}
 abbrev pub next_order : Progress → CoreOrder
 next_order p = order_at p.list p.applied
 
--- an order is left, and is due once `ended` slices have ended
+-- there is a next order, and it is due after `ended` slices
 abbrev pub IsDue : Progress → ℕ → Type 0
 IsDue p ended = (p.applied < length p.list) × ((next_order p).after ≤ ended)
 
--- no order is left, or the next one is not due yet
+-- there is no next order, or it is not due after `ended` slices
 abbrev pub IsNoneDue : Progress → ℕ → Type 0
 IsNoneDue p ended = p.applied < length p.list → ended < (next_order p).after
 
@@ -48,14 +46,14 @@ with_next p = record p { applied = p.applied + 1 }
 abbrev pub next_effect : Progress → Effect
 next_effect p = effect_of (next_order p) (is_closed_after p.list p.applied (next_order p).core)
 
--- each order that is due once `ended` slices have ended is applied, and no other
+-- each order that is due after `ended` slices was applied, and no other
 pub record HasAppliedDue (old new : Progress) (ended : ℕ) : Type 0 where
   pub kept : new ≡ record old { applied = new.applied }
   pub rises : old.applied ≤ new.applied
   pub due : (place : ℕ) → old.applied ≤ place → place < new.applied → (order_at old.list place).after ≤ ended
   pub rest : IsNoneDue new ended
 
--- `closed` has, for each core, whether the orders that were applied have left it closed
+-- `closed` is true for each core that the orders applied so far have left closed, and for no other
 pub record AreKept (list : List CoreOrder) (applied : ℕ) (closed : List Bool) : Type 0 where
   pub within : applied ≤ length list
   pub few : length closed < 256

@@ -1,5 +1,5 @@
 //! The arbiter of a run. Core 0's kernel thread uses it to close cores and open them again, as orders say.
-ghost use Rattle.std.specs.Prelude.{◌≡◌, ℕ, ◌<◌, ◌≤◌, length, if◌then◌else◌, IfOk, MatchBool};
+ghost use Rattle.std.specs.Prelude.{◌≡◌, ℕ, ◌<◌, ◌≤◌, ◌==◌, ◌↔◌, length, if◌then◌else◌, IfOk, IsTrue, MatchBool, None, Some};
 ghost use Rattle.arachne_core.specs.declared.layout.TheConstants.{CORES};
 ghost use Rattle.arachne_policy.specs.Orders.{AreInOrder};
 ghost use Rattle.arachne_contexts.specs.Out.{KeepsOut};
@@ -18,9 +18,7 @@ use std::sync::Wait;
 
 /// Closes and opens cores of a table as orders say, and moves threads away from the cores that it has closed.
 ///
-/// Only one kernel thread has the arbiter. As long as the arbiter exists, nobody else may close or open cores.
-///
-/// Contracts describe an arbiter by its orders, the number of cores, and the number of orders that it has carried out.
+/// Only the kernel thread of core 0 has the arbiter. While it exists, nothing else may close or open these cores.
 #[derive(Debug, Drop)]
 pub struct Arbiter {
     orders: Orders,
@@ -40,9 +38,7 @@ impl Model for Arbiter {
 impl Arbiter {
     ghost use Rattle.arachne_arbiter.specs.Orders.{with_next, IsDue, IsNoneDue, HasAppliedDue};
 
-    /// Creates an arbiter for `cores` cores, all of them open, with the orders that it must carry out.
-    ///
-    /// Returns `Err` if memory is refused.
+    /// Creates an arbiter with `orders` to close or open cores, for a table of `cores` cores, all of which are open.
     pub fn new(alloc: Global, orders: Vec<CoreOrder>, cores: u8) -> Result<Arbiter, AllocError>
         requires orders { AreInOrder cores orders.items }
         requires cores { cores ≤ CORES }
@@ -53,26 +49,45 @@ impl Arbiter {
         Ok(Arbiter { orders, draining })
     }
 
-    /// Returns the number of orders that the arbiter has carried out.
+    /// Returns the number of orders (to close or open a core) that the arbiter has carried out.
     pub fn applied(&self) -> usize
         ensures applied { result ≡ self.now.applied }
         ensures within { result ≤ length self.now.list }
     {
-        self.orders.applied()
+        self.orders.applied
+    }
+
+    /// Returns whether the arbiter was given any orders, carried out or not.
+    #[inline(always)]
+    pub fn has_any(&self) -> bool
+        ensures { IsTrue result ↔ (0 < length self.now.list) }
+    {
+        self.orders.has_any()
+    }
+
+    /// Returns whether all orders were carried out.
+    pub fn are_over(&self) -> bool
+        ensures { IsTrue result ↔ (self.now.applied ≡ length self.now.list) }
+    {
+        self.orders.are_over()
     }
 
     /// Carries out the orders to close or open a core that are due now, and moves threads away from one closed core.
     ///
-    /// Returns a bit for each core to which threads were moved. Core 0's kernel thread must call this before each slice
-    /// (some steps of one thread), and again and again while it finds nothing to run. Reads `slices`, the counts of
-    /// ended slices, only if an order is left to carry out.
+    /// Returns the number of all orders carried out so far, if this call has carried out any, and a bit for each core
+    /// to which threads were moved. Successive calls go round the closed cores. A thread that nobody runs goes to the
+    /// first other core that has room. A thread stays if it is running, is not yet in its slot, or has its core for
+    /// itself.
+    ///
+    /// Core 0's kernel thread must call this before each slice (some steps of one thread), and repeatedly while it
+    /// finds no thread to run. `slices` counts the slices that have ended.
     pub fn tend<H: Wait, T: Tagged, C: Contexts<T>>(
         &mut self,
         cores: &Cores<'_, H, T, C>,
         seat: &mut C::Seat,
         parking: &Parking,
         slices: &SliceCounts,
-    ) -> u64
+    ) -> (Option<usize>, u64)
         requires seat { C.sits cores.now.table.now seat.old }
         requires cores { self.old.cores ≡ cores.now.count }
         requires parking { parked_cores parking.now ≡ cores.now.count }
@@ -80,16 +95,25 @@ impl Arbiter {
         ensures weight { C.weight seat.new ≡ C.weight seat.old }
         ensures out { KeepsOut (C.has cores.now.table.now) seat.old seat.new }
         ensures progress { (ended : ℕ) × HasAppliedDue self.old self.new ended }
+        ensures news { result.0 ≡ (if self.new.applied == self.old.applied then None else Some self.new.applied) }
     {
+        let before = self.applied();
         if !self.orders.are_over() {
             self.apply_due(cores, seat, parking, slices.total());
         }
-        self.drain(cores, seat)
+        let mut receivers = 0;
+        self.draining.round(cores, seat, &mut receivers);
+        let after = self.applied();
+        if after == before {
+            (None, receivers)
+        } else {
+            (Some(after), receivers)
+        }
     }
 
     /// Carries out each order to close or open a core that is due after `ended` slices (some steps of one thread each).
     ///
-    /// A release closes its core; a grant opens its core and unparks that core's kernel thread. A release of a closed
+    /// A release closes its core. A grant opens its core and unparks that core's kernel thread. A release of a closed
     /// core, or a grant of an open one, is counted as carried out, and changes nothing.
     pub fn apply_due<H: Wait, T: Tagged, C: Contexts<T>>(
         &mut self,
@@ -109,8 +133,7 @@ impl Arbiter {
         while self.apply_next(cores, seat, parking, ended) {}
     }
 
-    /// Carries out the next order to close or open a core, if it is due after `ended` slices (some steps of one thread
-    /// each). Returns whether it was due.
+    /// Carries out the next order, if it is due after `ended` slices, and returns true if so.
     fn apply_next<H: Wait, T: Tagged, C: Contexts<T>>(
         &mut self,
         cores: &Cores<'_, H, T, C>,
@@ -145,28 +168,5 @@ impl Arbiter {
             Effect::Nothing => {}
         }
         true
-    }
-
-    /// Moves threads away from one closed core, and at the next call from the next closed core.
-    ///
-    /// Returns a bit for each core to which threads were moved. A thread that no worker holds goes to the first other
-    /// core, in ascending order, that has room. A thread stays if a worker holds it, if it is not yet in the slot that
-    /// was claimed for it, or if it has its core for itself. If no closed core has a thread left, the call reads no
-    /// core's occupancy.
-    pub fn drain<H: Wait, T: Tagged, C: Contexts<T>>(
-        &mut self,
-        cores: &Cores<'_, H, T, C>,
-        seat: &mut C::Seat,
-    ) -> u64
-        requires seat { C.sits cores.now.table.now seat.old }
-        requires cores { self.old.cores ≡ cores.now.count }
-        ensures seat { C.sits cores.now.table.now seat.new }
-        ensures weight { C.weight seat.new ≡ C.weight seat.old }
-        ensures out { KeepsOut (C.has cores.now.table.now) seat.old seat.new }
-        ensures progress { self.new ≡ self.old }
-    {
-        let mut receivers = 0;
-        self.draining.round(cores, seat, &mut receivers);
-        receivers
     }
 }

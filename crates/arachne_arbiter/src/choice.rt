@@ -5,16 +5,13 @@ ghost use Rattle.arachne_arbiter.specs.Choice.{core_chosen, HasPlace, is_candida
 use arachne_core::{CORES, OccWord, SLOTS};
 use arachne_policy::{CoreLoad, two_choices};
 
-/// Returns whether threads may share a core: no order has closed it, and no thread has it for itself.
 fn is_candidate(occupancy: OccWord) -> bool
     ensures { result ≡ is_candidate_at occupancy }
 {
     !occupancy.is_closed() && !occupancy.is_exclusive()
 }
 
-/// Returns whether a core with `slots` thread slots has a free one for a thread that shares the core.
-///
-/// This is so if the core is open, no thread has it for itself, and one of its slots is free.
+/// Returns whether a core with `slots` thread slots has a free one, is open, and is not exclusive to one thread.
 pub fn has_place(occupancy: OccWord, slots: u8) -> bool
     requires { slots ≤ SLOTS }
     ensures { IsTrue result ↔ HasPlace slots occupancy }
@@ -22,10 +19,10 @@ pub fn has_place(occupancy: OccWord, slots: u8) -> bool
     is_candidate(occupancy) && occupancy.lowest_free_below(slots).is_some()
 }
 
-/// Draws two cores by the random `word` from those that threads may share, and returns the one with fewer threads.
+/// Draws two cores by the random `word`, and returns the one with fewer threads.
 ///
-/// `occupancies` has the occupancy word (a bit for each occupied thread slot) of each core, in the order of the cores.
-/// Threads may share a core if it is open and no thread has it for itself. Returns `None` if there is no such core.
+/// Draws only from cores that are open and not exclusive to one thread, and returns `None` if there are no such cores.
+/// `occupancies` has the occupancy word (a bit for each occupied thread slot) of each core.
 pub fn first_core(word: u64, occupancies: &[OccWord]) -> Option<u8>
     requires { length occupancies.now ≤ CORES }
     ensures chosen { result ≡ core_chosen word (loads_of occupancies.now (length occupancies.now)) }

@@ -13,9 +13,7 @@ use std::sync::Wait;
 pub struct Cores<'a, H, T, C: Seats> {
     pub rt: &'a H,
     pub table: &'a C,
-    /// The number of the table's cores, from 1 to 64.
     pub count: u8,
-    /// The number of thread slots of each core, from 1 to 56.
     pub slots: u8,
     /// The type of the threads' values in the table.
     pub of: PhantomData<T>,
@@ -26,8 +24,6 @@ pub struct Cores<'a, H, T, C: Seats> {
 }
 
 impl<'a, H: Wait, T: Tagged, C: Contexts<T>> Cores<'a, H, T, C> {
-    /// Returns the occupancy word of a core: its occupied thread slots, and if it is closed or one thread has it for
-    /// itself.
     pub(crate) fn look(&self, seat: &mut C::Seat, core: u8) -> OccWord
         requires seat { C.sits self.now.table.now seat.old }
         requires core { core < self.now.count }

@@ -9,7 +9,7 @@ use arachne_core::Place;
 use std::alloc::{AllocError, Global};
 use std::sync::Wait;
 
-/// The closed cores that perhaps still have threads. `last` is the core from which threads were moved last.
+/// The closed cores that may still have threads. `last` is the closed core that `round` has visited last.
 #[derive(Debug, Drop)]
 pub(crate) struct Draining {
     waiting: Vec<bool>,
@@ -20,7 +20,6 @@ pub(crate) struct Draining {
 }
 
 impl Draining {
-    /// Creates the record for `cores` cores, all of them open. Returns `Err` if memory is refused.
     pub(crate) fn new(alloc: Global, cores: u8) -> Result<Draining, AllocError>
         ensures { IfOk result (λ draining. draining.waiting.items ≡ replicate cores false) }
     {
@@ -32,7 +31,6 @@ impl Draining {
         })
     }
 
-    /// Adds a core that was closed, and whose threads must be moved to other cores.
     pub(crate) fn start(&mut self, core: u8)
         requires { core < vec_len self.old.waiting }
         ensures { self.new.waiting.items ≡ slice_set self.old.waiting.items core true }
@@ -41,7 +39,6 @@ impl Draining {
         self.settled = false;
     }
 
-    /// Removes a core that was opened, or that has no thread any more.
     pub(crate) fn stop(&mut self, core: u8)
         requires { core < vec_len self.old.waiting }
         ensures { self.new.waiting.items ≡ slice_set self.old.waiting.items core false }
@@ -49,11 +46,10 @@ impl Draining {
         self.waiting[usize::from(core)] = false;
     }
 
-    /// Moves threads away from one closed core that has not been found empty, and at the next call from the next such
-    /// core.
+    /// Moves threads away from one closed core, the next at each call.
     ///
-    /// Adds to `receivers` a bit for each core to which threads were moved. If there is no such core, reads no core's
-    /// occupancy.
+    /// Adds to `receivers` a bit for each core that has got threads. Reads no core if earlier calls have found all
+    /// closed cores empty.
     pub(crate) fn round<H: Wait, T: Tagged, C: Contexts<T>>(
         &mut self,
         cores: &Cores<'_, H, T, C>,
@@ -80,7 +76,6 @@ impl Draining {
         }
     }
 
-    /// Returns the core from which threads are to be moved next, or `None` if each closed core is known to be empty.
     fn next_core(&mut self, cores: u8) -> Option<u8>
         requires { vec_len self.old.waiting ≡ cores }
         ensures next { IfSome result (λ core. (core < cores) × (slice_index_or self.old.waiting.items core false ≡ true)) }
@@ -101,12 +96,10 @@ impl Draining {
 }
 
 impl<'a, H: Wait, T: Tagged, C: Contexts<T>> Cores<'a, H, T, C> {
-    /// Moves the threads that no worker holds from the closed core `core` to other cores. Returns whether the core was
-    /// empty.
+    /// Returns true if `core` was empty before the call.
     ///
-    /// A thread goes to the first other core, in ascending order, that has room; the bit of that core is set in
-    /// `receivers`. A thread stays on `core`, for a later call, if a worker holds it, if it is not yet in the slot that
-    /// was claimed for it, if another call changed the slot meanwhile, or if no core has room.
+    /// A thread goes to the first other core that has room, and that core's bit is set in `receivers`. A thread stays
+    /// for a later call if it is running, was not posted yet, was just changed by another call, or finds no room.
     pub(crate) fn move_away(&self, seat: &mut C::Seat, core: u8, receivers: &mut u64) -> bool
         requires seat { C.sits self.now.table.now seat.old }
         requires core { core < self.now.count }
@@ -133,10 +126,9 @@ impl<'a, H: Wait, T: Tagged, C: Contexts<T>> Cores<'a, H, T, C> {
         false
     }
 
-    /// Moves the thread at `place` to the first other core, in ascending order from core `from` on, that has room.
+    /// Moves the thread at `place` to the first other core, from core `from` on, that has room.
     ///
-    /// Sets that core's bit in `receivers`. Returns the core with which to begin for the next thread, since the cores
-    /// before it have no room.
+    /// Returns the first core that may have room for the next thread to be moved.
     fn move_from(&self, seat: &mut C::Seat, place: Place, from: u8, receivers: &mut u64) -> u8
         requires seat { C.sits self.now.table.now seat.old }
         requires core { place.core < self.now.count }

@@ -1,8 +1,8 @@
-//! Closes and opens cores of a context table while its threads run, and finds slots for new threads.
+//! Closes and opens cores of a table of user threads while the threads run, and finds slots for new threads.
 //!
-//! An *order* closes or opens one core after a given number of slices have ended; a slice is some steps of one thread.
-//! The crate carries out orders, moves the threads of closed cores to other cores, parks the kernel thread of a closed
-//! core until the core is opened again, and chooses the core of a new thread.
+//! An *order* closes or opens one core after a given number of *slices* (some steps of one thread each) have ended. The
+//! crate carries out orders, and moves the threads of closed cores to other cores. The kernel thread of a closed core
+//! is parked until the core is opened again. The crate also chooses the core of each new thread.
 #![tactic(auto)]
 
 mod arbiter;
@@ -18,7 +18,6 @@ mod slices;
 pub use arbiter::Arbiter;
 pub use choice::first_core;
 pub use cores::Cores;
-pub use orders::{Effect, Orders};
 pub use pace::Pace;
 pub use parking::{Parking, Unparked};
 pub use slices::SliceCounts;

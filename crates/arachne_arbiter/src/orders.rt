@@ -1,5 +1,5 @@
 //! Orders to close a core or to open it again, which are carried out one after another.
-ghost use Rattle.std.specs.Prelude.{◌≡◌, ◌+◌, ◌<◌, ◌≤◌, ◌↔◌, length, IsTrue, IfOk, IfSome, MatchOption};
+ghost use Rattle.std.specs.Prelude.{◌≡◌, ◌<◌, ◌≤◌, ◌↔◌, length, IsTrue, IfOk, IfSome, MatchOption};
 ghost use Rattle.arachne_core.specs.declared.layout.TheConstants.{CORES};
 ghost use Rattle.arachne_policy.specs.Orders.{AreInOrder};
 
@@ -7,24 +7,20 @@ use arachne_policy::{CoreOrder, OrderKind};
 use std::alloc::{AllocError, Global};
 use std::marker::Model;
 
-/// The effect of an order: it closes a core, opens a core, or changes nothing.
+/// The effect of an order to close or open a core.
 #[derive(Clone, Copy, Debug, PartialEq, Eq)]
 pub enum Effect {
-    /// The order closes this core.
     Closes(u8),
-    /// The order opens this core.
     Opens(u8),
-    /// The order changes nothing: it releases a core that is closed, or grants one that is open.
+    /// The core is closed already, or open already.
     Nothing,
 }
 
 /// A list of orders to open or close cores, how many of them were carried out, and which cores are closed now.
-///
-/// Contracts describe it by the list, the number of cores, and the number of orders that were carried out.
 #[derive(Debug, Drop)]
 pub struct Orders {
     list: Vec<CoreOrder>,
-    applied: usize,
+    pub(crate) applied: usize,
     closed: Vec<bool>,
 }
 
@@ -40,12 +36,9 @@ impl Model for Orders {
 }
 
 impl Orders {
-    ghost use Rattle.arachne_arbiter.specs.Orders.{is_closed_after, next_effect, with_next, IsDue, IsNoneDue, IsWithin};
+    ghost use Rattle.arachne_arbiter.specs.Orders.{next_effect, with_next, IsDue, IsNoneDue, IsWithin};
 
-    /// Creates the record of the orders in `list`, of which none was carried out yet, for `cores` cores, all of them
-    /// open.
-    ///
-    /// Returns `Err` if memory is refused.
+    /// Creates the record of the orders in `list`, to close or open cores. There are `cores` cores, all of them open.
     pub fn new(alloc: Global, list: Vec<CoreOrder>, cores: u8) -> Result<Orders, AllocError>
         requires orders { AreInOrder cores list.items }
         requires cores { cores ≤ CORES }
@@ -59,33 +52,20 @@ impl Orders {
         })
     }
 
-    /// Returns the number of orders that were carried out.
-    pub fn applied(&self) -> usize
-        ensures applied { result ≡ self.now.applied }
-        ensures within { result ≤ length self.now.list }
+    pub fn has_any(&self) -> bool
+        ensures { IsTrue result ↔ (0 < length self.now.list) }
     {
-        self.applied
+        !self.list.is_empty()
     }
 
-    /// Returns whether all orders were carried out.
     pub fn are_over(&self) -> bool
         ensures { IsTrue result ↔ (self.now.applied ≡ length self.now.list) }
     {
         self.applied == self.list.len()
     }
 
-    /// Returns whether core `core` is closed by the orders that were carried out so far.
-    pub fn has_closed(&self, core: u8) -> bool
-        requires { core < self.now.cores }
-        ensures { result ≡ is_closed_after self.now.list self.now.applied core }
-    {
-        self.closed[usize::from(core)]
-    }
-
-    /// If the next order is due after `ended` slices (some steps of one thread each), counts that order as carried out,
-    /// and returns its effect.
-    ///
-    /// Otherwise, or if no order is left, returns `None`, and changes nothing.
+    /// Returns the effect of the next order (to close or open a core) if it is due after `ended` slices (some steps of
+    /// one thread each), and counts the order as carried out. Otherwise returns `None`, and changes nothing.
     pub fn next_due(&mut self, ended: u64) -> Option<Effect>
         ensures due { MatchOption result (IsNoneDue self.old ended) (λ _. IsDue self.old ended) }
         ensures effect { IfSome result (λ effect. (effect ≡ next_effect self.old) × IsWithin self.old.cores effect) }

@@ -1,10 +1,7 @@
 //! Puts the kernel thread of a closed core to sleep until the core is opened again.
 ghost use Rattle.std.specs.Prelude.{◌≡◌, ◌<◌, IfOk};
-ghost use Rattle.arachne_contexts.specs.Out.{KeepsOut};
 ghost use Rattle.arachne_arbiter.specs.KernelThreads.{parked_cores};
 
-use crate::cores::Cores;
-use arachne_contexts::{Contexts, Tagged};
 use crossbeam_utils::CachePadded;
 use std::alloc::{AllocError, Global};
 use std::sync::Wait;
@@ -12,22 +9,20 @@ use std::thread::Parker;
 
 /// One parker for each core, on which the core's kernel thread sleeps.
 ///
-/// If an unpark comes before the park, the park returns immediately. So a kernel thread that first checks if it must
-/// park, and then parks, misses no unpark between the two.
+/// A park after an unpark returns at once. So a kernel thread that first checks if it must park, and then parks, misses
+/// no unpark between the two.
 #[derive(Drop)]
 pub struct Parking {
     parkers: Vec<CachePadded<Parker>>,
 }
 
-/// A proof, without data, that the kernel threads of all cores were unparked. Only [`Parking::unpark_all`] returns a
-/// value of this type.
+/// A proof, without data, that the kernel threads of all cores were unparked at least once.
 #[derive(Drop)]
 pub struct Unparked {
     all: (),
 }
 
 impl Parking {
-    /// Creates parkers for `cores` cores. Returns `Err` if memory is refused.
     pub fn new(alloc: Global, cores: u8) -> Result<Parking, AllocError>
         ensures { IfOk result (λ parking. parked_cores parking ≡ cores) }
     {
@@ -45,39 +40,18 @@ impl Parking {
         self.parkers[usize::from(core)].park(rt);
     }
 
-    /// Wakes the kernel thread of `core`, or makes its next park return immediately.
+    /// Wakes the kernel thread of `core`, or makes its next park return at once.
     pub fn unpark(&self, core: u8)
         requires { core < parked_cores self.now }
     {
         self.parkers[usize::from(core)].unpark();
     }
 
-    /// Unparks the kernel threads of all cores, for example at the end of a run.
+    /// Unparks the kernel threads of all cores.
     pub fn unpark_all(&self) -> Unparked {
         for parker in &self.parkers {
             parker.unpark();
         }
         Unparked { all: () }
-    }
-}
-
-impl<'a, H: Wait, T: Tagged, C: Contexts<T>> Cores<'a, H, T, C> {
-    /// Parks the kernel thread of `core` if the core is closed and empty. Returns whether it parked.
-    ///
-    /// If the result is true, another thread has unparked the kernel thread since, and it must look for work again.
-    /// Only the kernel thread of `core` may call `park_if_drained`.
-    pub fn park_if_drained(&self, seat: &mut C::Seat, parking: &Parking, core: u8) -> bool
-        requires seat { C.sits self.now.table.now seat.old }
-        requires core { core < self.now.count }
-        requires parking { parked_cores parking.now ≡ self.now.count }
-        ensures seat { C.sits self.now.table.now seat.new }
-        ensures weight { C.weight seat.new ≡ C.weight seat.old }
-        ensures out { KeepsOut (C.has self.now.table.now) seat.old seat.new }
-    {
-        let drained = self.table.is_drained(self.rt, seat, core);
-        if drained {
-            parking.park(self.rt, core);
-        }
-        drained
     }
 }

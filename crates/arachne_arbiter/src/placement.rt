@@ -1,4 +1,4 @@
-//! Claims room for a new thread: one thread slot of a core with few threads, or a whole empty core.
+//! Claims room for a new thread: a thread slot of a core, or a whole empty core.
 ghost use Rattle.std.specs.Prelude.{◌≡◌, ◌≢◌, ◌<◌, ◌≤◌};
 ghost use Rattle.rand_core.specs.Stream.{next_u64};
 ghost use Rattle.arachne_contexts.specs.Out.{KeepsOut};
@@ -13,11 +13,10 @@ use std::alloc::AllocError;
 use std::sync::Wait;
 
 impl<'a, H: Wait, T: Tagged, C: Contexts<T>> Cores<'a, H, T, C> {
-    /// Claims a thread slot for a thread that shares its core with others.
+    /// Claims a thread slot for a thread that shares its core with others. Returns `None` if no core has a free slot.
     ///
-    /// Of two cores drawn at random, takes a slot of the one with fewer threads; if that core has no free slot, takes a
-    /// slot of the first other core that has one. Returns `None` if no core has a free slot. Returns `Err` if memory
-    /// for the thread is refused. Draws exactly one word from `chooser` (a random generator), whatever the result.
+    /// Takes a slot of the emptier of two random cores, or of the first other core that has one. Returns `Err` if
+    /// memory for the thread is refused. Always draws exactly one word from the random generator `chooser`.
     pub fn claim_normal<R: Rng>(
         &self,
         seat: &mut C::Seat,
@@ -34,15 +33,13 @@ impl<'a, H: Wait, T: Tagged, C: Contexts<T>> Cores<'a, H, T, C> {
         if self.count == 1 {
             return self.claim_on(seat, 0);
         }
-        // For most forks of a large program, no core has a free slot. So this check must be cheap; it writes nothing.
+        // For most forks of a large program, no core has a free slot. So this check must be cheap, and writes nothing.
         if !self.is_any_free() {
             return Ok(None);
         }
         self.claim_on_chosen(seat, word)
     }
 
-    /// Draws two cores by `word`, and claims a thread slot of the one with fewer threads. If that core has no free
-    /// slot, claims one of the first other core that has one.
     fn claim_on_chosen(&self, seat: &mut C::Seat, word: u64) -> Result<Option<C::Claim>, AllocError>
         requires { C.sits self.now.table.now seat.old }
         ensures seat { C.sits self.now.table.now seat.new }
@@ -61,9 +58,9 @@ impl<'a, H: Wait, T: Tagged, C: Contexts<T>> Cores<'a, H, T, C> {
         }
     }
 
-    /// Claims the first open and empty core for a thread that needs a core for itself.
+    /// Claims the first open and empty core, if there is one, for a thread that needs a core for itself.
     ///
-    /// Returns `None` if there is no such core. Returns `Err` if memory for the thread is refused.
+    /// Returns `Err` if memory for the thread is refused.
     pub fn claim_exclusive(&self, seat: &mut C::Seat) -> Result<Option<C::Claim>, AllocError>
         requires { C.sits self.now.table.now seat.old }
         ensures seat { C.sits self.now.table.now seat.new }
@@ -79,10 +76,7 @@ impl<'a, H: Wait, T: Tagged, C: Contexts<T>> Cores<'a, H, T, C> {
         Ok(None)
     }
 
-    /// Returns whether some core seems to have a free slot for a thread that shares the core.
-    ///
-    /// Reads the cores' occupancy words without a seat (a right to call the table), and stops at the first core that
-    /// has a free slot. The result is only a hint: only a claim decides.
+    /// Returns true if some core seemed to have a free slot, which others may claim at any time. Writes no memory.
     pub(crate) fn is_any_free(&self) -> bool {
         for core in 0..self.count {
             let seen = OccWord::from_word(self.table.glance(self.rt, core));
@@ -95,8 +89,6 @@ impl<'a, H: Wait, T: Tagged, C: Contexts<T>> Cores<'a, H, T, C> {
         false
     }
 
-    /// Writes the occupancy word of each core (a bit for each occupied slot, and the closed and exclusive bits) into
-    /// `occupancies`.
     fn look_at_all(&self, seat: &mut C::Seat, occupancies: &mut [OccWord; CORES as usize])
         requires { C.sits self.now.table.now seat.old }
         ensures seat { C.sits self.now.table.now seat.new }
@@ -108,9 +100,7 @@ impl<'a, H: Wait, T: Tagged, C: Contexts<T>> Cores<'a, H, T, C> {
         }
     }
 
-    /// Claims a thread slot of the first core other than `tried` that has a free one.
-    ///
-    /// A core that has no free slot by `occupancies` is skipped.
+    /// Claims a slot of the first core except `tried` that had one free in `occupancies`, and still has one.
     fn claim_on_another(
         &self,
         seat: &mut C::Seat,
@@ -154,9 +144,7 @@ impl<'a, H: Wait, T: Tagged, C: Contexts<T>> Cores<'a, H, T, C> {
         unreachable!()
     }
 
-    /// Claims the whole core `core`. Returns `None` if the core is not both open and empty.
-    ///
-    /// If the core's occupancy word changed in the meantime, tries again.
+    /// Claims a whole core, or returns `None` if it is not open and empty.
     fn claim_whole(&self, seat: &mut C::Seat, core: u8) -> Result<Option<C::Claim>, AllocError>
         requires seat { C.sits self.now.table.now seat.old }
         requires core { core < self.now.count }

@@ -7,15 +7,13 @@ use crossbeam_utils::CachePadded;
 use std::alloc::{AllocError, Global};
 use std::sync::atomic::{AtomicU64, Ordering};
 
-/// A count of ended slices (some steps of one thread each) for each core, on a cache line of its own. Only the core's
-/// kernel thread writes it.
+/// For each core, the number of slices (some steps of one thread each) that have ended there.
 #[derive(Drop)]
 pub struct SliceCounts {
     counts: Vec<CachePadded<AtomicU64>>,
 }
 
 impl SliceCounts {
-    /// Creates a count of 0 for each of `cores` cores. Returns `Err` if memory is refused.
     pub fn new(alloc: Global, cores: u8) -> Result<SliceCounts, AllocError>
         ensures { IfOk result (λ counts. counted_cores counts ≡ cores) }
     {
@@ -26,9 +24,9 @@ impl SliceCounts {
         Ok(SliceCounts { counts })
     }
 
-    /// Adds one to the count of `core`. A count of 2^64 - 1 stays as it is.
+    /// Adds one to the count of `core`, up to 2^64 - 1.
     ///
-    /// Only the kernel thread of `core` may call `count`: of two calls at the same time, perhaps only one is counted.
+    /// Only the kernel thread of `core` may call this. If two calls overlap, one of them can be lost.
     pub fn count(&self, core: u8)
         requires { core < counted_cores self.now }
     {

@@ -1,8 +1,6 @@
 -- Memory may be refused whatever the words ask for.
-use Rattle.std.proofs.Common.{ℕ, List, Option, Some, None, refl}
-use Rattle.std.specs.Prelude.{IfSome}
-use Rattle.arachne_cli.specs.declared.command_line.SerialRequest.{SerialRequest}
-use Rattle.arachne_cli.specs.declared.fault.Fault.TheVariants.{Memory}
+use Rattle.std.proofs.Common.{ℕ, List, Option, Some, None, refl, IfSome}
+use Rattle.arachne_cli.specs.declared.{command_line.SerialRequest.SerialRequest, fault.Fault.TheVariants.Memory}
 use Rattle.arachne_cli.specs.Ends.{IsCauseFor}
 
 -- refused memory is a cause for any request, and for none

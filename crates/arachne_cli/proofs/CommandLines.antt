@@ -1,20 +1,13 @@
 -- The request that the words make, from the result of parsing the command line.
-use Rattle.std.proofs.Common.{◌≡◌, ◌⊎◌, ℕ, List, true, false, refl, ap, sym, ◌∙◌, subst, inl, inr, Option, Some, None}
-use Rattle.std.specs.Option.{IsSome}
-use Rattle.std.specs.Prelude.{codes}
-use Rattle.std.specs.Str.{bytes_eq}
-use Rattle.std.specs.Option.{option_map_or}
+use Rattle.std.proofs.Common.{◌≡◌, ◌⊎◌, ℕ, List, true, false, refl, ap, sym, ◌∙◌, subst, inl, inr, Option, Some, None, codes}
+use Rattle.std.specs.{Option.{IsSome, option_map_or}, Str.bytes_eq}
 use Rattle.clap.specs.Words.{Text, HasMatchesOf, app_of, first_value, is_simple, kind_of, rows_of, subcommand_of, subcommand_rows_of, takes}
-use Rattle.clap.specs.declared.builder.command.Command.{Command}
-use Rattle.clap.specs.declared.parser.matches.ArgMatches.{ArgMatches}
-use Rattle.clap.specs.declared.parser.matches.Found.{Found}
-use Rattle.clap.specs.declared.error.Error.{Error}
-use Rattle.clap.specs.declared.error.kind.ErrorKind.TheVariants.{OutOfMemory}
+use Rattle.clap.specs.declared.{builder.command.Command.Command, parser.matches.{ArgMatches.ArgMatches, Found.Found}}
+use Rattle.clap.specs.declared.error.{Error.Error, kind.ErrorKind.TheVariants.OutOfMemory}
 use Rattle.clap.proofs.WalkLemmas.{first_value-rows}
-use Rattle.arachne_cli.specs.declared.command_line.Request.{Request}
-use Rattle.arachne_cli.specs.declared.command_line.NotAsked.{NotAsked}
+use Rattle.arachne_cli.specs.declared.command_line.{Request.Request, NotAsked.NotAsked}
 use Rattle.arachne_cli.specs.declared.command_line.NotAsked.TheVariants.{NoOrder, Refused}
-use Rattle.arachne_cli.specs.CommandLine.{IsNoOrderMet, IsUnasked, IsWantOfMemory, asked_by, check_command, eval_command, is_set, is_taken, no_order_in, no_order_met, machine_command, policy_command, program, request_met, run_alone, run_command, task_commands}
+use Rattle.arachne_cli.specs.CommandLine.{IsNoOrderMet, IsUnasked, asked_by, check_command, eval_command, is_set, is_taken, no_order_in, no_order_met, machine_command, policy_command, program, request_met, run_alone, run_command, task_commands}
 
 -- a flag by its text, and by the want of one
 pub flag_by_text : (found : Found) (flag text : List ℕ) → Some text ≡ first_value found flag → is_set flag (rows_of found) ≡ bytes_eq text (codes "true")
@@ -49,10 +42,6 @@ no_order_is_met : (command : Command) (words : List Text) (m : ArgMatches) → a
 unfolding no_order_in
 no_order_is_met command words m is_program matches =
     ap no_order_met ((matches (ap is_simple is_program ∙ program_is_simple)).1 ∙ ap (λ app. subcommand_of app words) is_program)
-
-pub wanting_memory : (words : List Text) (fault : NotAsked) → IsWantOfMemory fault → IsUnasked words fault
-wanting_memory words (NoOrder index) want = absurd want
-wanting_memory words (Refused error) want = λ taken asks. want
 
 pub refused_by_parser : (command : Command) (words : List Text) (error : Error) → app_of command ≡ program → (takes (app_of command) words ≡ true → kind_of error ≡ OutOfMemory)
     → IsUnasked words (Refused error)

@@ -1,9 +1,7 @@
 -- A number and a word at the front of bytes: the result of reading them, and the bytes that have this result.
-use Rattle.std.proofs.Common.{◌≡◌, ℕ, ◌+◌, ◌-◌, ◌*◌, ◌<◌, ◌≤◌, List, [], ◌∷◌, ◌++◌, Some, Ok, Err, refl, sym, ap, ◌∙◌, append_assoc, arith}
-use Rattle.std.specs.Prelude.{◌==◌, ◌&&◌, nat_le, nat_lt, if◌then◌else◌, Bool, true, false}
-use Rattle.std.proofs.lemmas.Bool.{eqb-true, eqb-false, eq-eqb, leb-true, le-leb, ltb-true, lt-ltb, and_parts}
-use Rattle.arachne_lang.specs.Spelling.{numeral}
-use Rattle.arachne_lang.specs.Reading.{Departs, Overflows, Reading, word_at, digits_at, figures_at}
+use Rattle.std.proofs.Common.{◌≡◌, ℕ, ◌+◌, ◌-◌, ◌*◌, ◌<◌, ◌≤◌, List, [], ◌∷◌, ◌++◌, Some, Ok, Err, refl, sym, ap, ◌∙◌, append_assoc, arith, ◌==◌, ◌&&◌, nat_le, nat_lt, if◌then◌else◌, Bool, true, false}
+use Rattle.std.proofs.lemmas.Bool.{eqb-true, eqb-false, leb-true, le-leb, ltb-true, lt-ltb, and_parts}
+use Rattle.arachne_lang.specs.{Spelling.numeral, Reading.{Departs, Overflows, Reading, word_at, digits_at, figures_at}}
 use Rattle.arachne_lang.proofs.Numerals.{IsDigit, AreDigits, NoDigit, numeral-digit, numeral-more, numeral-AreDigits, numeral-not_empty, worth, worth-grows, worth-numeral, zero_first}
 use Rattle.arachne_lang.proofs.Languages.{first}
 
@@ -19,11 +17,6 @@ pub word_taken : (word bytes rest : List ℕ) → word_at word bytes ≡ Ok rest
 word_taken [] bytes rest e = cc
 word_taken (letter ∷ word) [] rest e = absurd (cc)
 word_taken (letter ∷ word) (byte ∷ bytes) rest e = letter_taken byte letter word bytes rest (word_taken word bytes rest) (byte == letter) refl e
-
--- a word that stands there is taken
-pub word_again : (word rest : List ℕ) → word_at word (word ++ rest) ≡ Ok rest
-word_again [] rest = refl
-word_again (letter ∷ word) rest = rw (eq-eqb letter letter refl) (word_again word rest)
 
 -- ---- the digits as a test
 

@@ -1,14 +1,9 @@
 -- How the lines of advice grow with the samples that are judged.
-use Rattle.std.proofs.Common.{◌≡◌, ℕ, suc, ◌+◌, ◌<◌, List, [], ◌∷◌, ◌++◌, length, take, drop, reverse, get_or, true, false, sym, ap, ◌∙◌, arith}
-use Rattle.std.specs.List.{flat_map}
-use Rattle.std.proofs.Math.Seq.{drop-cons}
-use Rattle.std.proofs.lemmas.Grind.{flat_map-append}
-use Rattle.std.proofs.lemmas.List.{append-nil, take_more, length-take-le, take-append-drop}
-use Rattle.arachne_policy.specs.declared.samples.Sample.{Sample}
-use Rattle.arachne_policy.specs.declared.samples.Advice.{Advice}
-use Rattle.arachne_policy.specs.Sample.{is_good}
-use Rattle.arachne_policy.specs.Advice.{advice, advice_text}
-use Rattle.arachne_policy.specs.State.{State, after, StandsFor, HasJudged}
+use Rattle.std.proofs.Common.{◌≡◌, ℕ, suc, ◌+◌, ◌<◌, List, [], ◌∷◌, ◌++◌, length, take, drop, reverse, get_or, true, false, sym, ap, ◌∙◌, arith, append-nil}
+use Rattle.std.{specs.List.flat_map, proofs.{Math.Seq.drop-cons, lemmas.Grind.flat_map-append}}
+use Rattle.std.proofs.lemmas.List.{take_more, length-take-le, take-append-drop}
+use Rattle.arachne_policy.specs.{declared.samples.{Sample.Sample, Advice.Advice}, Sample.is_good}
+use Rattle.arachne_policy.specs.{Advice.{advice, advice_text}, State.{State, after, StandsFor, HasJudged}}
 use Rattle.arachne_policy.proofs.InTurn.{HasJudged-push}
 use Rattle.arachne_cli.specs.declared.judging.Settings.{Settings}
 use Rattle.arachne_cli.specs.Judging.{bounds_of, advice_line, AreGood, IsFirstBadLine}

@@ -1,12 +1,7 @@
 -- The effect of writes and reads, one after another, on known bytes.
-use Rattle.std.proofs.Common.{◌≡◌, refl, ℕ, ◌+◌, ◌-◌, ◌≤◌, List, ◌++◌, length, length-append, take, drop, ap, sym, ◌∙◌, append_assoc, Option, None, Some, arith}
-use Rattle.std.proofs.lemmas.List.{length-drop, length-take}
-use Rattle.std.proofs.Math.Seq.{take-add, take-length}
-use Rattle.std.specs.Prelude.{Result, Ok, Err, OnOk, OnErr}
-use Rattle.std.proofs.lemmas.List.{append-nil}
-use Rattle.arachne_cli.specs.declared.fault.Fault.{Fault}
-use Rattle.arachne_cli.specs.Ends.{AppendsFront}
-use Rattle.std.specs.Io.KnownBytes.{Appends, Consumes, Keeps}
+use Rattle.std.proofs.Common.{◌≡◌, refl, ℕ, ◌+◌, ◌-◌, ◌≤◌, List, ◌++◌, length, length-append, take, drop, ap, sym, ◌∙◌, append_assoc, Option, None, Some, arith, length-drop, length-take, Result, Ok, Err, OnOk, OnErr}
+use Rattle.std.{proofs.Math.Seq.{take-add, take-length}, specs.Io.KnownBytes.{Appends, Consumes, Keeps}}
+use Rattle.arachne_cli.specs.{declared.fault.Fault.Fault, Ends.AppendsFront}
 
 pub appends_both : (a b c : Option (List ℕ)) (xs ys : List ℕ) → Appends a b xs → Appends b c ys → Appends a c (xs ++ ys)
 appends_both None b c xs ys p q = tt
@@ -38,12 +33,6 @@ front_either (Ok _) None new bytes p q = tt
 front_either (Ok _) (Some old) None bytes p q = absurd p
 front_either (Ok _) (Some old) (Some new) bytes p q = (length bytes, ap (λ all. Some all) (p ∙ ap (λ all. old ++ all) (sym (take-length bytes))))
 front_either (Err _) old new bytes p q = q
-
--- known bytes that stay as they were have grown by no front
-pub keeps_front : (old new : Option (List ℕ)) (bytes : List ℕ) → Keeps old new → AppendsFront old new bytes
-keeps_front None new bytes p = tt
-keeps_front (Some old) None bytes p = absurd p
-keeps_front (Some old) (Some new) bytes p = (0, ap (λ all. Some all) (p ∙ sym (append-nil old)))
 
 -- bytes that were appended and then kept are a front of themselves
 pub front_kept : (a b c : Option (List ℕ)) (bytes : List ℕ) → Appends a b bytes → Keeps b c → AppendsFront a c bytes

@@ -1,6 +1,5 @@
 -- The growth of lines with the things that they list.
-use Rattle.std.proofs.Common.{◌≡◌, ℕ, ◌+◌, ◌<◌, List, [], ◌∷◌, ◌++◌, length, take, get_or, refl, ap, sym, ◌∙◌, append_assoc, arith, map}
-use Rattle.std.specs.Prelude.{codes, decimal}
+use Rattle.std.proofs.Common.{◌≡◌, ℕ, ◌+◌, ◌<◌, List, [], ◌∷◌, ◌++◌, length, take, get_or, refl, ap, sym, ◌∙◌, append_assoc, arith, map, codes, decimal}
 use Rattle.std.proofs.lemmas.List.{append-nil, take_more, length-take-le, map-append}
 use Rattle.arachne_lang.specs.Spelling.{after_spaces}
 use Rattle.arachne_cli.specs.Output.{line_of, ledger_lines}

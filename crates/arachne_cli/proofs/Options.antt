@@ -1,12 +1,8 @@
 -- The number of an option, from what the parser of command lines found.
-use Rattle.std.proofs.Common.{◌≡◌, ℕ, ◌^◌, ◌<◌, List, [], ◌∷◌, Bool, true, false, Option, Some, None, refl, ap, ◌∙◌, arith}
-use Rattle.std.specs.Prelude.{◌==◌, ◌&&◌, not, nat_lt, length, codes, option_and_then, option_map, unwrap_or, if◌then◌else◌}
-use Rattle.std.specs.List.{list_all}
-use Rattle.std.specs.Char.{is_digit, digit_value}
-use Rattle.std.specs.Str.Parse.{AllDigits, IsNumeral, digits_value, without_leading_plus}
-use Rattle.std.proofs.lemmas.Bool.{and_parts, lt-ltb, ltb-true, ne_eqb}
-use Rattle.clap.specs.Words.{first_value, matched_of, raw_values, rows_of}
-use Rattle.clap.specs.declared.parser.matches.Found.{Found}
+use Rattle.std.proofs.Common.{◌≡◌, ℕ, ◌^◌, ◌<◌, List, [], ◌∷◌, Bool, true, false, Option, Some, None, refl, ap, ◌∙◌, arith, ◌==◌, ◌&&◌, not, nat_lt, length, codes, option_and_then, option_map, unwrap_or, if◌then◌else◌}
+use Rattle.std.{proofs.lemmas.Bool.{and_parts, lt-ltb, ltb-true, ne_eqb}, specs.Char.{is_digit, digit_value}}
+use Rattle.std.specs.{List.list_all, Str.Parse.{AllDigits, IsNumeral, digits_value, without_leading_plus}}
+use Rattle.clap.specs.{Words.{first_value, matched_of, raw_values, rows_of}, declared.parser.matches.Found.Found}
 use Rattle.clap.proofs.WalkLemmas.{first_value-rows, raw_values-rows}
 use Rattle.arachne_cli.specs.CommandLine.{number_of, number_under, order_words}
 

@@ -1,14 +1,9 @@
 -- The words that spell an order, by the result of each part of the reader.
-use Rattle.std.proofs.Common.{◌≡◌, ℕ, ◌^◌, ◌<◌, List, [], ◌∷◌, ◌++◌, Option, Some, None, Result, Ok, Err, refl, sym, ap, subst, ◌∙◌, append_assoc, arith, lit<}
-use Rattle.std.proofs.lemmas.List.{append-nil}
-use Rattle.std.specs.Prelude.{codes, ◌↔◌, ◌==◌, length, true, false}
-use Rattle.std.proofs.lemmas.Bool.{eqb-true}
-use Rattle.arachne_lang.specs.Spelling.{numeral}
-use Rattle.arachne_lang.specs.Reading.{Halt, Reading, ◌>>=◌, word_at, figures_at, number_at}
-use Rattle.arachne_lang.proofs.Languages.{first}
-use Rattle.arachne_lang.proofs.Numerals.{NoDigit}
-use Rattle.arachne_policy.specs.declared.orders.CoreOrder.{CoreOrder}
-use Rattle.arachne_policy.specs.declared.orders.OrderKind.{OrderKind}
+use Rattle.std.proofs.Common.{◌≡◌, ℕ, ◌^◌, ◌<◌, List, [], ◌∷◌, ◌++◌, Option, Some, None, Result, Ok, Err, refl, sym, ap, subst, ◌∙◌, append_assoc, arith, lit<, append-nil, codes, ◌↔◌, ◌==◌, length, true, false, eqb-true}
+use Rattle.arachne_lang.specs.{Spelling.numeral, declared.reading.stop.Stop.Stop, Reading.{Halt, Departs, Overflows, Fails, IsAtByte, Reading, ◌>>=◌, word_at, figures_at, number_at}}
+use Rattle.arachne_lang.specs.declared.reading.stop.Stop.TheVariants as stop
+use Rattle.arachne_lang.proofs.{Languages.first, Numerals.NoDigit}
+use Rattle.arachne_policy.specs.declared.orders.{CoreOrder.CoreOrder, OrderKind.OrderKind}
 use Rattle.arachne_policy.specs.declared.orders.OrderKind.TheVariants.{Grant, Release}
 use Rattle.arachne_cli.specs.Orders.{FitsWords, kind_word, order_word, grant_or, kind_at, release_at, with_after, with_core, with_kind, order_of}
 use Rattle.arachne_cli.proofs.Figures.{word_taken, figures_read, figures_again}
@@ -60,6 +55,13 @@ needs_core bytes order spells =
 
 -- ---- if a part is missing
 
+-- where the code stops at a byte, reading halts
+pub halted : {B : Type 0} (why : Stop) (read : Result B Halt) → IsAtByte why → Fails why read → (halt : Halt) × (read ≡ Err halt)
+halted stop.Memory read at e = absurd at
+halted (stop.Departs rest) read at e = (Departs rest.now, e)
+halted (stop.Overflows rest) read at e = (Overflows rest.now, e)
+halted (stop.TooDeep rest) read at e = absurd at
+
 refuses : (bytes : List ℕ) (order : CoreOrder) → (Spells bytes order → ⊥) → (None ≡ Some order) ↔ Spells bytes order
 refuses bytes order none = (λ e. absurd (cc), λ spells. absurd (none spells))
 
@@ -91,15 +93,13 @@ no_core bytes rest left after kind found e is f none order = refuses bytes order
     let same = same_core bytes rest left after kind e is order spells in
     none order.core (sym f ∙ ap (figures_at (2 ^ 64)) same.1 ∙ needs_core bytes order spells))
 
-not_nil : (byte : ℕ) (rest : List ℕ) → byte ∷ rest ≡ [] → ⊥
-not_nil byte rest e = cc
-
 -- the number of the core ends the word, or something is left behind it
 pub some_left : (found core : ℕ) (rest : List ℕ) → false ≡ (length rest == 0) → Same (Ok (found, rest)) (Ok (core, [])) → ⊥
 some_left found core [] e same = absurd (cc)
 some_left found core (byte ∷ rest) e same =
     let parts : (found, byte ∷ rest) ≡ (core, []) = cc in
-    not_nil byte rest (ap (λ (p : ℕ × List ℕ). p.1) parts)
+    let none : byte ∷ rest ≡ [] = ap (λ (p : ℕ × List ℕ). p.1) parts in
+    cc
 
 pub none_left : (core : ℕ) (rest : List ℕ) → true ≡ (length rest == 0) → Same (Ok (core, rest)) (Ok (core, []))
 none_left core [] e = refl
@@ -184,7 +184,8 @@ kind_is bytes kind rest = (grants bytes (word_at (codes "grant:") bytes) refl ki
 more_left : (found core byte : ℕ) (rest : List ℕ) → Same (Ok (found, byte ∷ rest)) (Ok (core, [])) → ⊥
 more_left found core byte rest e =
     let parts : (found, byte ∷ rest) ≡ (core, []) = cc in
-    not_nil byte rest (ap (λ (p : ℕ × List ℕ). p.1) parts)
+    let none : byte ∷ rest ≡ [] = ap (λ (p : ℕ × List ℕ). p.1) parts in
+    cc
 
 -- the function gives an order exactly for the words that spell one
 pub order_of_spells : (word : List ℕ) (order : CoreOrder) → (order_of word ≡ Some order) ↔ Spells word order

@@ -1,20 +1,13 @@
 -- Facts about words that are refused with status 2.
-use Rattle.std.proofs.Common.{◌≡◌, ℕ, List, Bool, true, false, Option, Some, None, Result, Ok, Err, refl, sym, ◌∙◌, subst, inl, inr}
-use Rattle.std.specs.Prelude.{codes, option_and_then}
-use Rattle.std.specs.Str.{bytes_eq}
-use Rattle.std.specs.Result.{result_err, result_ok}
-use Rattle.std.specs.Option.{IsSome}
-use Rattle.clap.specs.Words.{Row, Text}
+use Rattle.std.proofs.Common.{◌≡◌, ℕ, List, Bool, true, false, Option, Some, None, Result, Ok, Err, refl, sym, ◌∙◌, subst, inl, inr, codes, option_and_then}
+use Rattle.std.specs.{Str.bytes_eq, Result.{result_err, result_ok}, Option.IsSome}
+use Rattle.clap.specs.Words.{Row, Text, subcommand_of}
 use Rattle.arachne_policy.specs.declared.orders.CoreOrder.{CoreOrder}
-use Rattle.arachne_cli.specs.declared.command_line.Request.{Request}
-use Rattle.arachne_cli.specs.declared.command_line.NotAsked.{NotAsked}
+use Rattle.arachne_cli.specs.declared.command_line.{Request.Request, NotAsked.NotAsked}
 use Rattle.arachne_cli.specs.declared.command_line.NotAsked.TheVariants.{NoOrder, Refused}
-use Rattle.arachne_cli.specs.declared.fault.Fault.TheVariants as fault
-use Rattle.clap.specs.Words.{subcommand_of}
 use Rattle.arachne_cli.specs.CommandLine.{IsUnasked, asked_by, is_taken, no_order_in, no_order_met, no_order_under, order_words, program, request_met, request_of, with_orders}
-use Rattle.arachne_cli.specs.Orders.{orders_of}
-use Rattle.arachne_cli.specs.Fault.{fault_line}
-use Rattle.arachne_cli.specs.Ends.{AppendsFront, IsTold}
+use Rattle.arachne_cli.specs.{Orders.orders_of, Fault.fault_line, Ends.{AppendsFront, IsTold}}
+use Rattle.arachne_cli.specs.declared.fault.Fault.TheVariants as fault
 
 -- a run with a word that is no order is no request
 no_run : (rows : List Row) (found : Result (List CoreOrder) ℕ) (index : ℕ) → orders_of (order_words rows) ≡ found → result_err found ≡ Some index

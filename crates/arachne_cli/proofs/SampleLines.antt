@@ -1,15 +1,11 @@
 -- A line of a text of samples is read exactly.
-use Rattle.std.proofs.Common.{◌≡◌, ℕ, ◌^◌, List, [], ◌∷◌, ◌++◌, Ok, refl, sym, ap, subst, ◌∙◌, append_assoc, arith, lit<}
-use Rattle.std.proofs.lemmas.List.{append-nil, append_cancel_left}
-use Rattle.std.specs.Prelude.{codes}
-use Rattle.arachne_lang.specs.Spelling.{numeral, after_spaces}
-use Rattle.arachne_lang.specs.Reading.{Reading, ◌>>=◌, number_at}
-use Rattle.arachne_lang.proofs.Numerals.{NoDigit, numeral-not_empty}
+use Rattle.std.proofs.Common.{◌≡◌, ℕ, ◌^◌, List, [], ◌∷◌, ◌++◌, Ok, refl, sym, ap, subst, ◌∙◌, append_assoc, arith, lit<, codes, append-nil}
+use Rattle.std.proofs.lemmas.List.{append_cancel_left}
+use Rattle.arachne_lang.specs.{Spelling.{numeral, after_spaces}, Reading.{Reading, ◌>>=◌, number_at}}
+use Rattle.arachne_lang.proofs.{Numerals.{NoDigit, numeral-not_empty}, ExactNumber.{number_before, exact_number}}
 use Rattle.arachne_lang.proofs.Languages.{Language, Exact, sequence, exact_sequence, nothing_more, exact_nothing_more}
-use Rattle.arachne_lang.proofs.ExactNumber.{number_before, exact_number}
 use Rattle.arachne_policy.specs.declared.samples.Sample.{Sample}
-use Rattle.arachne_cli.specs.Samples.{FitsWords, sample_line}
-use Rattle.arachne_cli.specs.Reading.{sample_at}
+use Rattle.arachne_cli.specs.{Samples.{FitsWords, sample_line}, Reading.sample_at}
 
 -- ---- the language of lines
 

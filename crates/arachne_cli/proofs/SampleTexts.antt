@@ -1,19 +1,15 @@
 -- The reading of samples stops at the first fault of the text.
-use Rattle.std.proofs.Common.{◌≡◌, ℕ, zero, suc, ◌+◌, ◌-◌, ◌<◌, ◌≤◌, List, [], ◌∷◌, ◌++◌, length, take, drop, None, Result, Ok, Err, refl, sym, ap, subst, ◌∙◌, append_assoc, arith, inl, inr, length-append}
-use Rattle.std.specs.Prelude.{◌⊎◌, ◌==◌, true, false}
-use Rattle.std.proofs.Math.Seq.{take-append_seam, take-append-add}
-use Rattle.std.proofs.lemmas.Bool.{cases_lt, cases_order, eqb-true}
-use Rattle.std.proofs.lemmas.List.{append-nil, take-append-drop, take-append-le}
-use Rattle.arachne_lang.specs.declared.text_fault.TextFault.{TextFault}
-use Rattle.arachne_lang.specs.declared.text_fault.TextFault.TheVariants as fault
-use Rattle.arachne_lang.specs.Reading.{Halt}
-use Rattle.arachne_lang.specs.Text.{byte_of}
+use Rattle.std.proofs.Common.{◌≡◌, ℕ, zero, suc, ◌+◌, ◌-◌, ◌<◌, ◌≤◌, List, [], ◌∷◌, ◌++◌, length, take, drop, None, Result, Ok, Err, refl, sym, ap, subst, ◌∙◌, append_assoc, arith, inl, inr, length-append, ◌⊎◌, ◌==◌, true, false, append-nil}
+use Rattle.std.proofs.{Math.Seq.{take-append_seam, take-append-add}, lemmas.Bool.{cases_lt, cases_order, eqb-true}}
+use Rattle.std.proofs.lemmas.List.{take-append-drop, take-append-le}
+use Rattle.arachne_lang.specs.declared.{text_fault.TextFault.TextFault, reading.stop.Stop.Stop}
+use Rattle.arachne_lang.specs.{Reading.{Halt, Fails, IsAtByte, fault_within}, Text.byte_of}
 use Rattle.arachne_lang.proofs.Languages.{Alive, Departure, Overflow, Exact, first}
+use Rattle.arachne_lang.specs.declared.text_fault.TextFault.TheVariants as fault
+use Rattle.arachne_lang.specs.declared.reading.stop.Stop.TheVariants as stop
 use Rattle.arachne_policy.specs.declared.samples.Sample.{Sample}
-use Rattle.arachne_cli.specs.declared.numbers.ReadingStop.{ReadingStop}
-use Rattle.arachne_cli.specs.declared.numbers.ReadingStop.TheVariants as stop
+use Rattle.arachne_cli.specs.Reading.{sample_at}
 use Rattle.arachne_cli.specs.Samples.{FitsWords, sample_line, samples_text, AreInRange, Begins, BeginsInRange, HasFault, IsFirstFault}
-use Rattle.arachne_cli.specs.Reading.{halt_of, fault_within, sample_at}
 use Rattle.arachne_cli.proofs.SampleLines.{line, exact_line, line_shape, line_range, shape_line, range_line, line_unique, line_not_empty}
 
 -- ---- lines behind lines
@@ -179,9 +175,6 @@ syntax_fault front rest ends = record {
     begun = rw (front_of front rest) (begins_shape front ends.alive)
 
     others : Firsts (front ++ rest) (fault.Syntax (length front))
-    others fault.Memory h = absurd h
-    others (fault.Header b) h = absurd h
-    others (fault.Nesting b) h = absurd h
     others (fault.Syntax b) h =
         let one = longest front rest ends b h.1 h.2 in
         let two = h.3 (length front) (omega (arith, length-append front rest)) begun in
@@ -190,6 +183,7 @@ syntax_fault front rest ends = record {
     others (fault.Number b) h =
         let within : b + 1 ≤ length front = longest front rest ends (b + 1) (omega (arith, h.0)) h.1 in
         absurd (h.3 (begins_shorter front rest (b + 1) within ends.alive))
+    others _ h = absurd h
 
 -- ---- numbers that are too large
 
@@ -216,9 +210,6 @@ number_fault front others digit grows = record {
     shaped = rw (front_and_byte front others digit) grows.shaped
 
     rest : Firsts (front ++ digit ∷ others) (fault.Number (length front))
-    rest fault.Memory h = absurd h
-    rest (fault.Header b) h = absurd h
-    rest (fault.Nesting b) h = absurd h
     rest (fault.Syntax b) h = inl (omega (arith, h.3 (length front + 1) (omega (arith, within)) shaped))
     rest (fault.Number b) h =
         elim (cases_order b (length front)) [
@@ -228,6 +219,7 @@ number_fault front others digit grows = record {
             | inr behind ↦ inl behind
           ]
         ]
+    rest _ h = absurd h
 
 -- ---- a line that stops
 
@@ -269,11 +261,13 @@ grown before text bytes rest read e some h =
     })))
 
 -- if the reading of a line stops, after lines that were read, the text has its first fault there
-pub stopped : (before : List Sample) (text bytes : List ℕ) (why : ReadingStop) → AreInRange before → text ≡ samples_text before ++ bytes → (bytes ≡ [] → ⊥)
-    → sample_at bytes ≡ Err (halt_of why) → IsFirstFault text (fault_within text why)
-stopped before text bytes (stop.Departs rest) read e some at =
+pub stopped : (before : List Sample) (text bytes : List ℕ) (why : Stop) → AreInRange before → text ≡ samples_text before ++ bytes → (bytes ≡ [] → ⊥)
+    → IsAtByte why → Fails why (sample_at bytes) → IsFirstFault text (fault_within text why)
+stopped before text bytes stop.Memory read e some at_byte at = absurd at_byte
+stopped before text bytes (stop.TooDeep rest) read e some at_byte at = absurd at_byte
+stopped before text bytes (stop.Departs rest) read e some at_byte at =
     departed before text bytes rest.now read e some (subst (λ (r : Result (Sample × List ℕ) Halt). Exact line 64 64 bytes r) at (exact_line bytes))
-stopped before text bytes (stop.Overflows rest) read e some at =
+stopped before text bytes (stop.Overflows rest) read e some at_byte at =
     grown before text bytes rest.now read e some (subst (λ (r : Result (Sample × List ℕ) Halt). Exact line 64 64 bytes r) at (exact_line bytes))
 
 -- ---- a line that is read
@@ -305,11 +299,9 @@ line_read before text bytes rest s read e at =
 
 -- the text of samples in range has no fault
 no_fault : (bytes : List ℕ) (samples : List Sample) → AreInRange samples → samples_text samples ≡ bytes → (f : TextFault) → HasFault bytes f → ⊥
-no_fault bytes samples fits text fault.Memory h = h
-no_fault bytes samples fits text (fault.Header b) h = h
-no_fault bytes samples fits text (fault.Nesting b) h = h
 no_fault bytes samples fits text (fault.Syntax b) h = h.0 (samples, text)
 no_fault bytes samples fits text (fault.Number b) h = h.3 (samples, drop (b + 1) bytes, fits, text ∙ sym (take-append-drop (b + 1) bytes))
+no_fault bytes samples fits text _ h = h
 
 pub read_has_no_fault : (bytes : List ℕ) (samples : List Sample) → AreInRange samples → samples_text samples ≡ bytes → (f : TextFault) → IsFirstFault bytes f → ⊥
 read_has_no_fault bytes samples fits text f one = no_fault bytes samples fits text f one.has

@@ -1,17 +1,12 @@
 -- Words that were worked out by hand: the request that they make by the definitions, and whether the program takes
 -- them.
-use Rattle.std.proofs.Common.{◌≡◌, List, [], ◌∷◌, Bool, true, false, Option, Some, None, refl}
-use Rattle.std.specs.Prelude.{codes}
-use Rattle.clap.specs.Words.{Text}
-use Rattle.clap.specs.Walk.{walked}
-use Rattle.clap.specs.Takes.{walk_passes}
-use Rattle.arachne_cli.specs.declared.command_line.Request.{Request}
-use Rattle.arachne_cli.specs.declared.command_line.Request.TheVariants.{Run, Serial}
-use Rattle.arachne_cli.specs.declared.command_line.SerialRequest.TheVariants.{Eval, Check, Policy}
+use Rattle.std.proofs.Common.{◌≡◌, List, [], ◌∷◌, Bool, true, false, Option, Some, None, refl, codes}
+use Rattle.clap.specs.{Words.Text, Walk.walked, Takes.walk_passes}
+use Rattle.arachne_cli.specs.declared.command_line.Request.{Request, TheVariants.{Run, Serial}}
+use Rattle.arachne_cli.specs.{declared.command_line.SerialRequest.TheVariants.{Eval, Check, Policy}, Orders.order_of}
+use Rattle.arachne_cli.specs.CommandLine.{asked_by, is_taken, no_order_in, machine_command, run_command, run_alone, eval_command, check_command, policy_command, task_commands, program, number_of}
 use Rattle.arachne_policy.specs.declared.orders.OrderKind.TheVariants.{Grant, Release}
 use Rattle.arachne_lang.specs.Reading.{number_at}
-use Rattle.arachne_cli.specs.Orders.{order_of}
-use Rattle.arachne_cli.specs.CommandLine.{asked_by, is_taken, no_order_in, machine_command, run_command, run_alone, eval_command, check_command, policy_command, task_commands, program, number_of}
 
 -- the words behind the program's own name
 abbrev words : List Text → List Text

@@ -1,23 +1,15 @@
--- The output for a request that one thread answers, and the causes of its faults.
+-- The output of the commands that need only one kernel thread, and the causes of their faults.
 use Rattle.std.specs.Prelude.{ℕ, Bool, ◌≡◌, ◌<◌, ◌≤◌, List, [], ◌∷◌, ◌++◌, codes, length, Err, ⊤}
-use Rattle.arachne_lang.specs.declared.text_fault.TextFault.{TextFault}
+use Rattle.arachne_lang.specs.{declared.text_fault.TextFault.TextFault, Tree.Source, Spelling.text_of}
+use Rattle.arachne_lang.specs.{Text.{IsAccepted, IsFirstFault}, Checked.{IsChecked, verdict_of}, Meaning.meaning_of}
 use Rattle.arachne_lang.specs.declared.text_fault.TextFault.TheVariants as text
 use Rattle.arachne_program.specs.declared.check_fault.CheckFault.{CheckFault}
-use Rattle.arachne_lang.specs.Tree.{Source}
-use Rattle.arachne_lang.specs.Spelling.{text_of}
-use Rattle.arachne_lang.specs.Text.{IsAccepted, IsFirstFault}
-use Rattle.arachne_lang.specs.Checked.{IsChecked, verdict_of}
-use Rattle.arachne_lang.specs.Meaning.{meaning_of}
 use Rattle.arachne_policy.specs.declared.samples.Sample.{Sample}
-use Rattle.arachne_cli.specs.declared.command_line.SerialRequest.{SerialRequest}
-use Rattle.arachne_cli.specs.declared.command_line.SerialRequest.TheVariants.{Eval, Check, Policy}
-use Rattle.arachne_cli.specs.declared.judging.Settings.{Settings}
-use Rattle.arachne_cli.specs.Samples.{AreInRange, samples_text}
-use Rattle.arachne_cli.specs.Samples as samples
-use Rattle.arachne_cli.specs.Judging.{AreGood, IsFirstBadLine, advice_lines}
-use Rattle.arachne_cli.specs.Output.{output_of}
-use Rattle.arachne_cli.specs.declared.fault.Fault.{Fault}
+use Rattle.arachne_cli.specs.declared.command_line.SerialRequest.{SerialRequest, TheVariants.{Eval, Check, Policy}}
+use Rattle.arachne_cli.specs.{declared.judging.Settings.Settings, Samples.{AreInRange, samples_text}, Output.output_of}
+use Rattle.arachne_cli.specs.{Judging.{AreGood, IsFirstBadLine, advice_lines}, declared.fault.Fault.Fault}
 use Rattle.arachne_cli.specs.declared.fault.Fault.TheVariants.{InText, InProgram, BadSample, NoOrder, Memory, TooLong, Read, Write}
+use Rattle.arachne_cli.specs.Samples as samples
 
 -- the maximum number of bytes of an input
 abbrev pub input_limit : ℕ
@@ -66,7 +58,7 @@ IsSampleFault Check input line = ⊥
 IsSampleFault (Policy settings) input line =
     (judged : List Sample) × AreInRange judged × (samples_text judged ≡ input) × IsFirstBadLine settings judged line
 
--- The cause of a fault that is reported for this request. Nothing is said of refused memory and of streams that fail.
+-- The input is a cause of this fault of the request. Refused memory and streams that fail need no cause in the input.
 abbrev pub IsCause : SerialRequest → List ℕ → Fault → Type 0
 IsCause request input (InText text.Memory) = ⊤
 IsCause request input (InText fault) = (length input ≤ input_limit) × IsTextFault request input fault

@@ -1,23 +1,15 @@
 -- The request that the words of the command line make, by the grammar of the command line.
 use Rattle.std.specs.Prelude.{ℕ, ◌-◌, ◌^◌, ◌==◌, ◌&&◌, not, nat_lt, nat_le, length, Bool, true, false, List, [], ◌∷◌, Option, Some, None, option_and_then, option_map, unwrap_or, if◌then◌else◌, codes, ◌≡◌, ◌⊎◌, ◌≤◌, IsSome, ⊤}
-use Rattle.std.specs.Option.{option_map_or}
-use Rattle.std.specs.Result.{result_ok, result_err}
-use Rattle.std.specs.List.{list_all}
-use Rattle.std.specs.Char.{is_digit}
-use Rattle.std.specs.Str.Parse.{digits_value, without_leading_plus}
-use Rattle.arachne_policy.specs.declared.limits.TheConstants.{MAX_CORES}
+use Rattle.std.specs.{Option.option_map_or, Result.{result_ok, result_err}, List.list_all, Char.is_digit}
+use Rattle.std.specs.Str.{bytes_eq, Parse.{digits_value, without_leading_plus}}
+use Rattle.arachne_policy.specs.declared.{limits.TheConstants.MAX_CORES, orders.CoreOrder.CoreOrder}
 use Rattle.clap.specs.declared.builder.value_parser.ValueParser.TheVariants.{Unsigned}
-use Rattle.std.specs.Str.{bytes_eq}
 use Rattle.clap.specs.Words.{App, Rule, Row, Text, new_app, new_rule, with_rule, with_subcommand, all_of, first_of, kind_of, subcommand_of, takes}
 use Rattle.clap.specs.declared.builder.action.ArgAction.TheVariants.{Append, SetTrue}
 use Rattle.clap.specs.declared.error.kind.ErrorKind.TheVariants.{OutOfMemory}
-use Rattle.arachne_policy.specs.declared.orders.CoreOrder.{CoreOrder}
-use Rattle.arachne_cli.specs.declared.command_line.Request.{Request}
-use Rattle.arachne_cli.specs.declared.command_line.Request.TheVariants.{Run, Serial}
-use Rattle.arachne_cli.specs.declared.command_line.SerialRequest.{SerialRequest}
-use Rattle.arachne_cli.specs.declared.command_line.SerialRequest.TheVariants.{Eval, Check, Policy}
-use Rattle.arachne_cli.specs.declared.command_line.NotAsked.{NotAsked}
-use Rattle.arachne_cli.specs.declared.command_line.NotAsked.TheVariants.{NoOrder, Refused}
+use Rattle.arachne_cli.specs.declared.command_line.Request.{Request, TheVariants.{Run, Serial}}
+use Rattle.arachne_cli.specs.declared.command_line.SerialRequest.{SerialRequest, TheVariants.{Eval, Check, Policy}}
+use Rattle.arachne_cli.specs.declared.command_line.NotAsked.{NotAsked, TheVariants.{NoOrder, Refused}}
 use Rattle.arachne_cli.specs.Orders.{orders_of}
 
 -- the flag that asks for the names of threads

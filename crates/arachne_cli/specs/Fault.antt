@@ -2,11 +2,9 @@
 use Rattle.std.specs.Prelude.{ℕ, List, [], ◌∷◌, ◌++◌, codes, decimal}
 use Rattle.arachne_lang.specs.declared.text_fault.TextFault.TheVariants as text
 use Rattle.arachne_program.specs.declared.check_fault.CheckFault.TheVariants as check
-use Rattle.arachne_cli.specs.declared.fault.Place.{Place}
-use Rattle.arachne_cli.specs.declared.fault.Place.TheVariants as place
-use Rattle.arachne_cli.specs.declared.fault.FaultLine.{FaultLine}
-use Rattle.arachne_cli.specs.declared.fault.Fault.{Fault}
+use Rattle.arachne_cli.specs.declared.fault.{Place.Place, FaultLine.FaultLine, Fault.Fault}
 use Rattle.arachne_cli.specs.declared.fault.Fault.TheVariants.{InText, InProgram, BadSample, NoOrder, Memory, TooLong, Read, Write}
+use Rattle.arachne_cli.specs.declared.fault.Place.TheVariants as place
 
 -- the number of a fault
 abbrev pub fault_number : Fault → ℕ

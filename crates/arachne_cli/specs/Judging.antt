@@ -1,12 +1,8 @@
 -- The output for samples, and the line of the first bad one.
-use Rattle.std.specs.Prelude.{ℕ, ◌+◌, ◌≡◌, true, false, List, [], ◌∷◌, ◌++◌, length}
-use Rattle.std.specs.List.{AllByRecursion, flat_map}
-use Rattle.arachne_policy.specs.declared.samples.Sample.{Sample}
-use Rattle.arachne_policy.specs.declared.samples.Advice.{Advice}
-use Rattle.arachne_policy.specs.Sample.{is_good}
+use Rattle.std.specs.{Prelude.{ℕ, ◌+◌, ◌≡◌, true, false, List, [], ◌∷◌, ◌++◌, length}, List.{AllByRecursion, flat_map}}
+use Rattle.arachne_policy.specs.{declared.samples.{Sample.Sample, Advice.Advice}, Sample.is_good}
 use Rattle.arachne_policy.specs.Advice.{Settings as Bounds, advice_text, advices}
-use Rattle.arachne_cli.specs.declared.judging.Settings.{Settings}
-use Rattle.arachne_cli.specs.declared.fault.Fault.{Fault}
+use Rattle.arachne_cli.specs.declared.{judging.Settings.Settings, fault.Fault.Fault}
 use Rattle.arachne_cli.specs.declared.fault.Fault.TheVariants.{BadSample, Memory}
 
 -- the settings in the form that the definitions of the advice use

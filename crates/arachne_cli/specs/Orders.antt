@@ -1,9 +1,7 @@
 -- The words of core orders.
 use Rattle.std.specs.Prelude.{ℕ, suc, ◌≡◌, ◌↔◌, ◌^◌, ◌<◌, List, [], ◌∷◌, ◌++◌, codes, Option, Some, None, Result, Ok, Err}
-use Rattle.arachne_lang.specs.Spelling.{numeral}
-use Rattle.arachne_lang.specs.Reading.{Halt, Reading, figures_at, number_at, word_at}
-use Rattle.arachne_policy.specs.declared.orders.CoreOrder.{CoreOrder}
-use Rattle.arachne_policy.specs.declared.orders.OrderKind.{OrderKind}
+use Rattle.arachne_lang.specs.{Spelling.numeral, Reading.{Halt, Reading, figures_at, number_at, word_at}}
+use Rattle.arachne_policy.specs.declared.orders.{CoreOrder.CoreOrder, OrderKind.OrderKind}
 use Rattle.arachne_policy.specs.declared.orders.OrderKind.TheVariants.{Grant, Release}
 
 abbrev pub kind_word : OrderKind → List ℕ

@@ -2,8 +2,7 @@
 use Rattle.std.specs.Prelude.{ℕ, ◌+◌, Bool, if◌then◌else◌, List, [], ◌∷◌, ◌++◌, length, map, codes, decimal}
 use Rattle.std.specs.List.{flat_map}
 use Rattle.arachne_lang.specs.Spelling.{after_spaces}
-use Rattle.arachne_program.specs.declared.meaning.Line.{Line}
-use Rattle.arachne_program.specs.declared.meaning.Meaning.{Meaning}
+use Rattle.arachne_program.specs.declared.meaning.{Line.Line, Meaning.Meaning}
 
 -- a word and numbers, separated by one space, and a newline
 abbrev pub line_of : List ℕ → List ℕ → List ℕ

@@ -1,10 +1,7 @@
 -- The texts of samples, and the faults of all other texts.
-use Rattle.std.specs.Prelude.{ℕ, ◌≡◌, ◌+◌, ◌^◌, ◌<◌, ◌≤◌, ◌⊎◌, List, [], ◌∷◌, ◌++◌, length, take}
-use Rattle.std.specs.List.{AllByRecursion}
-use Rattle.arachne_lang.specs.declared.text_fault.TextFault.{TextFault}
+use Rattle.std.specs.{Prelude.{ℕ, ◌≡◌, ◌+◌, ◌^◌, ◌<◌, ◌≤◌, ◌⊎◌, List, [], ◌∷◌, ◌++◌, length, take}, List.AllByRecursion}
+use Rattle.arachne_lang.specs.{Spelling.{line, numeral}, Text.byte_of, declared.text_fault.TextFault.TextFault}
 use Rattle.arachne_lang.specs.declared.text_fault.TextFault.TheVariants.{Memory, Header, Syntax, Number as Overflow, Nesting}
-use Rattle.arachne_lang.specs.Spelling.{line, numeral}
-use Rattle.arachne_lang.specs.Text.{byte_of}
 use Rattle.arachne_policy.specs.declared.samples.Sample.{Sample}
 
 -- a line of five numbers, separated by one space, with a newline at the end

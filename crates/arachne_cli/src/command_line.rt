@@ -30,7 +30,7 @@ pub enum Request {
 pub enum SerialRequest {
     /// Evaluate a program. If `names` is true, also print a line for each of the program's threads.
     Eval { names: bool },
-    /// Check if a program may run.
+    /// Check whether a program is valid.
     Check,
     /// For each sample of a load, print the advice of the core policy: to add a core, to remove one, or neither.
     Policy(Settings),
@@ -74,7 +74,6 @@ impl From<AllocError> for NotAsked {
     }
 }
 
-/// Returns the parser of the program's whole command line.
 #[tactic(auto, unfolding(crate::specs::CommandLine::program))]
 fn command<'a>(alloc: Global) -> Result<Command<'a>, AllocError>
     ensures { IfOk result (λ command. app_of command ≡ program) }
@@ -97,7 +96,6 @@ fn task_commands<'a>(alloc: Global) -> Result<Command<'a>, AllocError>
     Ok(arachne)
 }
 
-/// Returns a parser with only the subcommand `run`.
 #[tactic(auto, unfolding(crate::specs::CommandLine::run_alone))]
 fn run_alone<'a>(alloc: Global) -> Result<Command<'a>, AllocError>
     ensures { IfOk result (λ command. app_of command ≡ run_alone) }
@@ -114,7 +112,6 @@ fn run_alone<'a>(alloc: Global) -> Result<Command<'a>, AllocError>
     Ok(arachne)
 }
 
-/// Returns the flag `--names`, which asks for a line for each of the program's threads.
 fn names_flag<'a>(alloc: Global) -> Arg<'a>
     ensures rule { rule_of result ≡ names_flag }
     ensures local { result.global ≡ false }
@@ -125,7 +122,7 @@ fn names_flag<'a>(alloc: Global) -> Arg<'a>
         .help("Print a line for each thread")
 }
 
-/// Returns the argument `ORDER`, which can be repeated: an order to grant or release a core.
+/// Returns the argument `ORDER`, an order to grant or release a core, which can be repeated.
 fn order_words<'a>(alloc: Global) -> Arg<'a>
     ensures rule { rule_of result ≡ orders_rule }
     ensures local { result.global ≡ false }
@@ -138,7 +135,6 @@ fn order_words<'a>(alloc: Global) -> Arg<'a>
         )
 }
 
-/// Returns the subcommand `run`.
 #[tactic(auto, unfolding(crate::specs::CommandLine::run_command))]
 fn run_command<'a>(alloc: Global) -> Result<Command<'a>, AllocError>
     ensures app { IfOk result (λ command. app_of command ≡ run_command) }
@@ -196,7 +192,6 @@ fn machine_command<'a>(alloc: Global) -> Result<Command<'a>, AllocError>
     Ok(run)
 }
 
-/// Returns the subcommand `eval`.
 #[tactic(auto, unfolding(crate::specs::CommandLine::eval_command))]
 fn eval_command<'a>(alloc: Global) -> Result<Command<'a>, AllocError>
     ensures app { IfOk result (λ command. app_of command ≡ eval_command) }
@@ -212,7 +207,6 @@ fn eval_command<'a>(alloc: Global) -> Result<Command<'a>, AllocError>
     Ok(eval)
 }
 
-/// Returns the subcommand `check`.
 #[tactic(auto, unfolding(crate::specs::CommandLine::check_command))]
 fn check_command<'a>(alloc: Global) -> Command<'a>
     ensures app { app_of result ≡ check_command }
@@ -225,7 +219,7 @@ fn check_command<'a>(alloc: Global) -> Command<'a>
         )
 }
 
-/// Returns an option whose name is `name`, for a number up to `most`. Its default value is `standard`.
+/// Returns an option for a number up to `most`, whose default is `standard`.
 fn number_option<'a>(
     alloc: Global,
     name: &'a str,
@@ -244,7 +238,6 @@ fn number_option<'a>(
         .help(help)
 }
 
-/// Returns the subcommand `policy`.
 #[tactic(auto, unfolding(crate::specs::CommandLine::policy_command))]
 fn policy_command<'a>(alloc: Global) -> Result<Command<'a>, AllocError>
     ensures app { IfOk result (λ command. app_of command ≡ policy_command) }
@@ -282,7 +275,6 @@ fn policy_command<'a>(alloc: Global) -> Result<Command<'a>, AllocError>
     Ok(policy)
 }
 
-/// Returns whether the flag named `flag` is set.
 fn is_flag_set(matches: &ArgMatches<'_>, flag: &str) -> bool
     ensures { result ≡ is_set flag.now (rows_of (found_of matches.now)) }
 {
@@ -292,7 +284,7 @@ fn is_flag_set(matches: &ArgMatches<'_>, flag: &str) -> bool
     }
 }
 
-/// Returns the value of the option named `option`, or `None` if it has no value that fits 64 bits.
+/// Returns the value of an option, or `None` if it has no value that fits 64 bits.
 fn number_in(matches: &ArgMatches<'_>, option: &str) -> Option<u64>
     ensures { result ≡ number_under option.now (rows_of (found_of matches.now)) }
 {
@@ -305,7 +297,7 @@ fn number_in(matches: &ArgMatches<'_>, option: &str) -> Option<u64>
     }
 }
 
-/// Returns the request of `policy` that `matches` holds, or `None` if it asks for more than 64 cores.
+/// Returns the request for `policy`, or `None` if one of its numbers is out of range.
 fn policy_in(matches: &ArgMatches<'_>) -> Option<Request>
     ensures asked { result ≡ policy_asked (rows_of (found_of matches.now)) }
     ensures allowed { IfSome result IsAllowed }
@@ -323,9 +315,9 @@ fn policy_in(matches: &ArgMatches<'_>) -> Option<Request>
     })))
 }
 
-/// Parses all orders to grant or release cores.
+/// Parses orders to grant or release cores.
 ///
-/// Returns `Err` if a word is malformed, with the index of the first such word, or if memory is refused.
+/// If a word is malformed, the error has the index of the first such word.
 fn orders_in(alloc: Global, words: &[&str]) -> Result<Sequence<CoreOrder>, NotAsked>
     ensures orders { IfOk result (λ orders. orders_of (map (λ word. word.now) words.now) ≡ Ok orders) }
     ensures none { IfErr result (IsNoOrderAmong (map (λ word. word.now) words.now)) }
@@ -342,7 +334,6 @@ fn orders_in(alloc: Global, words: &[&str]) -> Result<Sequence<CoreOrder>, NotAs
     Ok(Sequence::from(orders))
 }
 
-/// Returns the orders to grant or release cores that `matches` holds. Returns `Err` as `orders_in` does.
 fn orders_met(alloc: Global, matches: &ArgMatches<'_>) -> Result<Sequence<CoreOrder>, NotAsked>
     ensures orders { IfOk result (λ orders. orders_of (order_words (rows_of (found_of matches.now))) ≡ Ok orders) }
     ensures none { IfErr result (IsNoOrderAmong (order_words (rows_of (found_of matches.now)))) }
@@ -353,8 +344,7 @@ fn orders_met(alloc: Global, matches: &ArgMatches<'_>) -> Result<Sequence<CoreOr
     }
 }
 
-/// Returns the request of `run` that `matches` holds, or `None` if a number doesn't fit 64 bits. Returns `Err` if one
-/// of the orders is malformed, or if memory is refused.
+/// Returns the request for `run`, or `None` if a number doesn't fit 64 bits.
 fn run_in(alloc: Global, matches: &ArgMatches<'_>) -> Result<Option<Request>, NotAsked>
     ensures asked { IfOk result (λ request. request ≡ run_asked (rows_of (found_of matches.now))) }
     ensures allowed { IfOk result (λ request. IfSome request IsAllowed) }
@@ -365,8 +355,6 @@ fn run_in(alloc: Global, matches: &ArgMatches<'_>) -> Result<Option<Request>, No
     Ok(run_by(matches, orders))
 }
 
-/// Returns the request of `run` that `matches` holds, with the orders `orders`, or `None` if a number doesn't fit 64
-/// bits.
 fn run_by(matches: &ArgMatches<'_>, orders: Sequence<CoreOrder>) -> Option<Request>
     ensures asked { result ≡ with_orders (rows_of (found_of matches.now)) orders }
     ensures allowed { IfSome result IsAllowed }
@@ -385,8 +373,7 @@ fn run_by(matches: &ArgMatches<'_>, orders: Sequence<CoreOrder>) -> Option<Reque
     }))
 }
 
-/// Returns the request that `matches` holds for its subcommand, or `None` if this program has no such subcommand or one
-/// of its numbers is out of range.
+/// Returns the request in the parsed arguments, or `None` if there is no such subcommand or a number is out of range.
 fn request_in(alloc: Global, matches: &ArgMatches<'_>) -> Result<Option<Request>, NotAsked>
     ensures asked { IfOk result (λ request. request ≡ request_met (subcommand_rows_of matches.now)) }
     ensures allowed { IfOk result (λ request. IfSome request IsAllowed) }
@@ -409,7 +396,8 @@ fn request_in(alloc: Global, matches: &ArgMatches<'_>) -> Result<Option<Request>
 
 /// Parses the command-line arguments. The first must be the program's own name.
 ///
-/// Returns `Err` if the parser refuses the arguments, if an order is malformed, or if memory is refused.
+/// Returns `Err` if the parser refuses the arguments, if an order to grant or release a core is malformed, or if memory
+/// is refused.
 pub fn read_words<'a, S: AsStr>(alloc: Global, words: &'a [S]) -> Result<Request, NotAsked>
     ensures asked { IfOk result (λ request. asked_by (map S.text words.entry.now) ≡ Some request) }
     ensures allowed { IfOk result IsAllowed }

@@ -51,7 +51,7 @@ pub fn refuse<W: Write>(faults: &mut W, line: FaultLine) -> u8
     FAULT
 }
 
-/// Writes the reason why the arguments of the process could not be read to `faults`. Returns the exit status: 1 if
+/// Writes to `faults` the reason why the arguments of the process could not be read. Returns the exit status: 1 if
 /// memory was refused, otherwise 2.
 pub fn refuse_words<W: Write>(faults: &mut W, error: &io::Error) -> u8
     ensures memory { error_kind error.now ≡ StreamFault.OutOfMemory

@@ -67,7 +67,7 @@ impl Fault {
         }
     }
 
-    /// Returns the number that identifies the kind of this fault in the error message.
+    /// Returns the number of this kind of fault in the error message.
     fn number(self) -> u8
         ensures { result ≡ fault_number self }
     {
@@ -94,7 +94,6 @@ impl Fault {
         }
     }
 
-    /// Returns the position of this fault, for the error message.
     fn place(self) -> Place
         ensures { result ≡ fault_place self }
     {

@@ -16,9 +16,9 @@ use std::fmt::Write;
 /// The settings of the core policy, which advises to add or remove a core.
 #[derive(Clone, Copy, Debug, PartialEq, Eq)]
 pub struct Settings {
-    /// The load, in thousandths of a thread, above which the policy asks for a core.
+    /// The average number of ready threads on a core, in thousandths, above which the policy advises to add a core.
     pub up: u64,
-    /// How far the utilisation must fall, in thousandths of a core, before the policy gives a core back.
+    /// How far the number of busy cores must fall after a core was added, in thousandths, before one is removed.
     pub hysteresis: u64,
     /// The greatest number of cores.
     pub max: u8,
@@ -42,7 +42,7 @@ pub fn judgement(alloc: Global, text: &[u8], settings: Settings) -> Result<Strin
 
 /// Returns a line for each of `samples`, with the core policy's advice, which also depends on the earlier samples.
 ///
-/// Returns `Err` at the first sample for which the policy can give no advice, or if memory is refused.
+/// Returns `Err` at the first sample for which the policy can give no advice.
 fn judge(alloc: Global, settings: Settings, samples: &[Sample]) -> Result<String, Fault>
     requires { settings.max ≤ MAX_CORES }
     ensures good { IfOk result (λ text. AreGood settings samples.now) }

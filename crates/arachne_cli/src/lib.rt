@@ -6,7 +6,6 @@ mod command_line;
 mod ending;
 mod fault;
 mod judging;
-mod numbers;
 mod orders;
 mod output;
 mod process;

@@ -25,8 +25,7 @@ pub fn render(alloc: Global, meaning: &Meaning, names: bool) -> Result<String, A
     Ok(text)
 }
 
-/// Returns the lines of output for a program's value, the sum of each ledger (a sum that the threads share), and the
-/// number of threads.
+/// Returns the lines of output for a program's value, the sum of each ledger, and the number of threads.
 pub fn summary(
     alloc: Global,
     value: u64,
@@ -42,7 +41,6 @@ pub fn summary(
     Ok(text)
 }
 
-/// Appends a line for each thread to `text`.
 fn write_threads(text: &mut String, threads: &[Line]) -> Result<(), AllocError>
     ensures { OnOk result (string_bytes text.new ≡ string_bytes text.old ++ flat_map thread_line threads.now) }
 {
@@ -52,7 +50,6 @@ fn write_threads(text: &mut String, threads: &[Line]) -> Result<(), AllocError>
     Ok(())
 }
 
-/// Appends a line for the sum of each ledger to `text`.
 #[tactic(auto, using(crate::proofs::Lines::ledger_lines_append))]
 fn write_totals(text: &mut String, totals: &[u64]) -> Result<(), AllocError>
     ensures { OnOk result (string_bytes text.new ≡ string_bytes text.old ++ ledger_lines 0 totals.now) }
@@ -78,7 +75,7 @@ pub fn write_thread(text: &mut String, name: &Name, holds: &[u64]) -> Result<(),
     Ok(())
 }
 
-/// Appends the name of a thread, such as `/0/2`, to `text`. The root's name is `/`.
+/// Appends the name of a thread, such as `/0/2`; the root's is `/`.
 fn write_name(text: &mut String, name: &Name) -> Result<(), AllocError>
     ensures { OnOk result (string_bytes text.new ≡ string_bytes text.old ++ name_text name.now) }
 {

@@ -4,10 +4,10 @@ ghost use Rattle.std.specs.Prelude.{◌≡◌, ◌⊎◌, List, IfOk, IfErr, IsE
 ghost use Rattle.arachne_lang.specs.declared.text_fault.TextFault.{TextFault as Fault};
 ghost use Rattle.arachne_policy.specs.declared.samples.Sample.{Sample as Measured};
 ghost use Rattle.arachne_cli.specs.Samples.{AreInRange, IsFirstFault, IsOfMemory, samples_text};
-ghost use Rattle.arachne_cli.specs.Reading.{Gives, sample_at};
+ghost use Rattle.arachne_lang.specs.Reading.{Gives, IsAtByte};
+ghost use Rattle.arachne_cli.specs.Reading.{sample_at};
 
-use crate::numbers::{ReadingStop, number};
-use arachne_lang::TextFault;
+use arachne_lang::{Stop, TextFault, number};
 use arachne_policy::Sample;
 use std::alloc::Global;
 
@@ -40,10 +40,11 @@ pub fn read_samples(alloc: Global, text: &[u8]) -> Result<Vec<Sample>, TextFault
     Ok(samples)
 }
 
-/// Parses the line at the front of `text`. Returns that line's sample, and the text after the line.
+/// Parses the line at the front of `text`, and returns the text after it with the sample.
 #[tactic(auto, unfolding(crate::specs::Reading::sample_at))]
-fn line(text: &[u8]) -> Result<(Sample, &[u8]), ReadingStop<'_>>
-    ensures { Gives (λ read. (read.0, read.1.now)) result (sample_at text.now) }
+fn line(text: &[u8]) -> Result<(Sample, &[u8]), Stop<'_>>
+    ensures read { Gives (λ read. (read.0, read.1.now)) result (sample_at text.now) }
+    ensures at_byte { IfErr result IsAtByte }
 {
     let (cores, rest) = number(text, b" ")?;
     let (runnable, rest) = number(rest, b" ")?;

@@ -36,7 +36,7 @@ pub fn answer<I: Read>(
     }
 }
 
-/// Parses, checks and evaluates the program in `text`. Returns the output of `eval`.
+/// Parses, checks and evaluates a program, and returns the output of `eval`.
 fn evaluation(alloc: Global, text: &[u8], names: bool) -> Result<String, Fault>
     requires { length text.now ≤ input_limit }
     ensures answers { IfOk result (λ output. IsAnswer (SerialRequest.Eval names) text.now (string_bytes output)) }
@@ -49,7 +49,7 @@ fn evaluation(alloc: Global, text: &[u8], names: bool) -> Result<String, Fault>
     Ok(output)
 }
 
-/// Parses and checks the program in `text`. Returns the output of `check`.
+/// Parses and checks a program, and returns the output of `check`.
 fn verdict(alloc: Global, text: &[u8]) -> Result<String, Fault>
     requires { length text.now ≤ input_limit }
     ensures answers { IfOk result (λ output. IsAnswer SerialRequest.Check text.now (string_bytes output)) }
@@ -114,7 +114,7 @@ pub fn drive<S: AsStr, I: Read, W: Write, E: Write>(
     }
 }
 
-/// Writes to `faults` that this program has no command `run`. Always returns the exit status 2.
+/// Writes that this program has no command `run`, and returns the exit status 2.
 fn refuse_run<W: Write>(faults: &mut W) -> u8
     ensures { result ≡ 2 }
 {

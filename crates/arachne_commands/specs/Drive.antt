@@ -18,7 +18,7 @@ use Rattle.arachne_commands.specs.declared.fault.Fault.{Fault}
 use Rattle.arachne_commands.specs.declared.fault.Fault.TheVariants.{Cli, InRun}
 use Rattle.arachne_commands.specs.Fault.{fault_line}
 
--- The output for this request and this input. A run, which its settings must allow, has the output of an evaluation.
+-- The output for this request and this input. That of `run`, whose settings must allow a run, is that of `eval`.
 abbrev pub IsAnswer : Request → List ℕ → List ℕ → Type 0
 IsAnswer (Run settings) input output = MayRun settings × IsPrintedMeaning settings.names input output
 IsAnswer (Serial request) input output = serial.IsAnswer request input output
@@ -27,19 +27,19 @@ IsAnswer (Serial request) input output = serial.IsAnswer request input output
 abbrev pub IsRunFault : RunSettings → List ℕ → RunFault → Type 0
 IsRunFault settings input fault = (source : Source) × IsProgramOf input source × IsRefusal settings fault
 
--- The cause of a fault that is reported for this request. The text of a run has the faults that a check reports.
+-- The input is a cause of this fault of the request. The text for `run` can have the faults that `check` reports.
 abbrev pub IsCause : Request → List ℕ → Fault → Type 0
 IsCause (Run settings) input (Cli fault) = serial.IsCause Check input fault
 IsCause (Run settings) input (InRun fault) = IsRunFault settings input fault
 IsCause (Serial request) input (Cli fault) = serial.IsCause request input fault
 IsCause (Serial request) input (InRun fault) = ⊥
 
--- Before the words are understood, the only fault is that memory was refused.
+-- If the arguments make no request, the only fault is that memory was refused.
 abbrev pub IsCauseFor : Option Request → List ℕ → Fault → Type 0
 IsCauseFor None input fault = fault ≡ Cli Memory
 IsCauseFor (Some request) input fault = IsCause request input fault
 
--- If the input is known, the words make a request, and the output grows by the answer to it.
+-- If the input is known, the arguments make a request, and the output grows by the answer to the request.
 abbrev pub IsAnswered : List (List ℕ) → Option (List ℕ) → Option (List ℕ) → Option (List ℕ) → Type 0
 IsAnswered words input before after =
     IfSome input (λ known. (request : Request) × (asked_by words ≡ Some request) × (text : List ℕ) × IsAnswer request known text × Appends before after text)
@@ -49,8 +49,8 @@ abbrev pub IsCutShort : List (List ℕ) → Option (List ℕ) → Option (List �
 IsCutShort words input before after =
     IfSome input (λ known. (request : Request) × (asked_by words ≡ Some request) × (text : List ℕ) × IsAnswer request known text × AppendsFront before after text)
 
--- There is this fault, and it has a cause. The output is unchanged unless writing failed, and then it has grown by a
--- prefix of the answer. Unless memory was refused, the words make a request.
+-- This fault has a cause. The output is unchanged or, if writing failed, has grown by a prefix of the answer. Unless
+-- memory was refused, the arguments make a request.
 abbrev pub IsAtFault : List (List ℕ) → Option (List ℕ) → Option (List ℕ) → Option (List ℕ) → Fault → Type 0
 IsAtFault words input before after fault =
     IfSome input (λ known. IsCauseFor (asked_by words) known fault)
@@ -58,12 +58,12 @@ IsAtFault words input before after fault =
     × (fault ≡ Cli Write → IsCutShort words input before after)
     × ((fault ≢ Cli Memory) → IsSome (asked_by words))
 
--- There is such a fault, and the faults stream has grown by its line or a prefix of it.
+-- There is a fault as in `IsAtFault`, and the faults stream has grown by the fault's line or a prefix of the line.
 abbrev pub HasToldFault : List (List ℕ) → Option (List ℕ) → (before after told_before told_after : Option (List ℕ)) → Type 0
 HasToldFault words input before after told_before told_after =
     (fault : Fault) × IsAtFault words input before after fault × AppendsFront told_before told_after (fault_line fault)
 
--- If a run has a malformed order word, the faults stream has grown by the line of the first such word, or a prefix of
--- it.
+-- If the arguments of `run` have a malformed order, the faults stream has grown by the line of the first one, or a
+-- prefix of the line.
 abbrev pub HasToldNoOrder : List (List ℕ) → Option (List ℕ) → Option (List ℕ) → Type 0
 HasToldNoOrder words before after = (index : ℕ) → no_order_in words ≡ Some index → AppendsFront before after (cli.fault_line (NoOrder index))

@@ -13,8 +13,8 @@ use Rattle.arachne_run.specs.declared.fault.WorkerFault.TheVariants.{Memory}
 use Rattle.arachne_cli.specs.declared.command_line.RunSettings.{RunSettings}
 
 -- Settings that are refused are refused for their first fault, or for their orders' first fault if they have no other,
--- or because memory was refused. A fault of settings is reported only for settings that have it. Nothing is said of
--- faults that a run meets on its way.
+-- or because memory was refused. A fault of settings is reported only for settings that have it. This says nothing
+-- about faults that occur during a run.
 pub record IsRefusal (settings : RunSettings) (fault : RunFault) : Type 0 where
   pub of_settings : (first : RunFault) → refusal_of settings.cores settings.quantum settings.slots settings.cores ≡ Some first → (fault ≡ first) ⊎ (fault ≡ Worker Memory)
   pub of_orders : refusal_of settings.cores settings.quantum settings.slots settings.cores ≡ None → (AreInOrder settings.cores settings.orders → ⊥)
@@ -34,8 +34,8 @@ chooser_of seed core = of_seed (splitmix_seed 32 ((seed + core) % 2 ^ 64))
 abbrev pub choosers_of : ℕ → ℕ → List (List ℕ)
 choosers_of seed cores = map (chooser_of seed) (range_with_len 0 cores)
 
--- A run has these settings, and each of its cores has its own chooser. Nothing is said of the choosers if there are too
--- many cores, which are refused before anything is chosen.
+-- A run has these settings, and each of its cores has its own chooser. This says nothing about the choosers if there
+-- are too many cores: such a run is refused before it uses a chooser.
 pub record IsSetUpBy (settings : RunSettings) (setup : Setup) (made : List (List ℕ)) : Type 0 where
   pub cores : setup.cores ≡ settings.cores
   pub slots : setup.slots ≡ settings.slots

@@ -9,7 +9,7 @@ use arachne_policy::{OrderFault, OrderFaultKind};
 use arachne_run::{RunFault, WorkerFault};
 use std::alloc::AllocError;
 
-/// The reason why `arachne` failed: a fault of `eval`, `check` or `policy`, or one of `run`.
+/// The reason why `arachne` failed.
 #[derive(Clone, Copy, Debug)]
 pub enum Fault {
     /// A fault that `eval`, `check` or `policy` can have too.
@@ -57,7 +57,7 @@ impl Fault {
     }
 }
 
-/// Returns the number that identifies the kind of `fault` in the error message.
+/// Returns the number that stands for `fault` in the error message.
 fn run_number(fault: RunFault) -> u8
     ensures { result ≡ run_number fault }
 {
@@ -80,7 +80,6 @@ fn run_number(fault: RunFault) -> u8
     }
 }
 
-/// Returns the position of `fault`, for the error message.
 fn run_place(fault: RunFault) -> Place
     ensures { result ≡ run_place fault }
 {

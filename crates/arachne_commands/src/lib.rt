@@ -2,11 +2,9 @@
 #![tactic(auto)]
 
 mod fault;
-mod process;
 mod program;
 mod report;
 mod running;
 
-pub use arachne_cli::{read_order, read_samples, refuse_words};
-pub use process::{Status, run, run_on, run_without_words};
+pub use arachne_cli::{process_words, read_order, read_samples, refuse_words};
 pub use program::drive;

@@ -1,7 +1,7 @@
 //! Runs a command of `arachne` on any arguments and streams.
 ghost use Rattle.std.specs.Prelude.{◌≡◌, ◌≢◌, ◌≤◌, length, IfOk, IfErr, IfSome, ◌+◌, List, ℕ, map, None, true, string_bytes};
 ghost use Rattle.std.specs.Io.KnownBytes.{Consumes, Keeps};
-ghost use Rattle.arachne_cli.specs.declared.fault.Fault.TheVariants.{Read as ReadFailed, Write as WriteFailed};
+ghost use Rattle.arachne_cli.specs.declared.fault.Fault.TheVariants.{Write as WriteFailed};
 ghost use Rattle.arachne_cli.specs.CommandLine.{IsAllowed, asked_by, is_taken};
 ghost use Rattle.arachne_cli.specs.Answers.{input_limit};
 ghost use Rattle.arachne_commands.specs.Drive.{HasToldFault, HasToldNoOrder, IsAnswer, IsAnswered, IsCause};
@@ -10,8 +10,7 @@ use crate::fault::Fault;
 use crate::report::render_report;
 use crate::running::run_program;
 use arachne_cli::{
-    DONE, Request, RunSettings, checked_program, finish, read_input, read_words, refuse,
-    refuse_request,
+    DONE, Request, checked_program, finish, read_input, read_words, refuse, refuse_request,
 };
 use std::alloc::Global;
 use std::convert::AsStr;
@@ -35,37 +34,20 @@ fn answer<R: Threads + Wait + Clock + Sync, I: Read>(
     match request {
         Request::Run(settings) => {
             let text = read_input(alloc, input)?;
-            run_of(rt, alloc, text.as_slice(), settings)
+            let program = checked_program(alloc, text.as_slice())?;
+            let names = settings.names;
+            let report = run_program(rt, alloc, &program, settings)?;
+            Ok(render_report(alloc, &report, names)?)
         }
         Request::Serial(request) => Ok(arachne_cli::answer(alloc, request, input)?),
     }
 }
 
-/// Parses, checks and runs the program in `text`. Returns the output of `run`.
-fn run_of<R: Threads + Wait + Clock + Sync>(
-    rt: &R,
-    alloc: Global,
-    text: &[u8],
-    settings: RunSettings,
-) -> Result<String, Fault>
-    requires { length text.now ≤ input_limit }
-    ensures answers { IfOk result (λ output. IsAnswer (Request.Run settings) text.now (string_bytes output)) }
-    ensures cause { IfErr result (λ fault. (fault ≢ Fault.Cli WriteFailed) × IsCause (Request.Run settings) text.now fault) }
-    ensures not_read { IfErr result (λ fault. fault ≢ Fault.Cli ReadFailed) }
-{
-    let program = checked_program(alloc, text)?;
-    let names = settings.names;
-    let report = run_program(rt, alloc, &program, settings)?;
-    let output = render_report(alloc, &report, names)?;
-    Ok(output)
-}
-
 /// Runs the command that the arguments `words` ask for, on these streams. Returns the exit status.
 ///
-/// The first argument must be the program's own name. The status is 0 after success. The status is 1 after a fault,
-/// whose message is then written to `faults`. The status is 2 if an order to grant or release a core is malformed, or
-/// if the parser refuses the arguments; then the fault's message, or the parser's, is written to `faults`. Writes no
-/// byte to `output` before the whole output is known.
+/// The first argument must be the program's own name. The status is 0 after success, 1 after a fault, and 2 if the
+/// arguments are refused or an order to grant or release a core is malformed. If the status is not 0, a message is
+/// written to `faults`. No byte is written to `output` before the whole output is known.
 ///
 /// The command `run` starts kernel threads, and this call can then block.
 pub fn drive<R: Threads + Wait + Clock + Sync, S: AsStr, I: Read, W: Write, E: Write>(

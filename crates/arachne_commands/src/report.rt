@@ -22,7 +22,6 @@ pub fn render_report(alloc: Global, report: &Report, names: bool) -> Result<Stri
     Ok(text)
 }
 
-/// Appends a line for each thread to `text`.
 fn write_threads(text: &mut String, threads: &ThreadLines) -> Result<(), AllocError>
     ensures { OnOk result (string_bytes text.new ≡ string_bytes text.old ++ flat_map thread_line (map named_holds threads.now)) }
 {

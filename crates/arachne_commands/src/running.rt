@@ -18,8 +18,7 @@ use std::sync::Wait;
 use std::thread::Threads;
 use std::time::Clock;
 
-/// Runs `program` with the settings `settings`, on one worker (a kernel thread) for each core. All workers share a
-/// table of atomic words.
+/// Runs `program` with `settings`, on one kernel thread for each core.
 pub fn run_program<'p, R: Threads + Wait + Clock + Sync>(
     rt: &R,
     alloc: Global,
@@ -38,7 +37,7 @@ pub fn run_program<'p, R: Threads + Wait + Clock + Sync>(
     )
 }
 
-/// Returns the parameters of a run with the settings `settings`, and a random generator for each core.
+/// Returns the parameters of a run, and a random generator for each core.
 fn set_up(
     alloc: Global,
     settings: RunSettings,
@@ -53,7 +52,9 @@ fn set_up(
         names: _,
         orders,
     } = settings;
-    let choosers = choosers(alloc, seed, served(cores))?;
+    // With too many cores, the run is refused before it needs a generator.
+    let served = if cores > u64::from(CORES) { 0 } else { cores };
+    let choosers = choosers(alloc, seed, served)?;
     let setup = Setup {
         cores,
         slots,
@@ -63,18 +64,7 @@ fn set_up(
     Ok((setup, choosers))
 }
 
-/// Returns the number of random generators to create for `cores` cores: one for each, or none if there are too many
-/// cores.
-///
-/// If there are too many cores, the run fails before it needs a generator.
-fn served(cores: u64) -> u64
-    ensures { cores ≤ CORES → result ≡ cores }
-{
-    if cores > u64::from(CORES) { 0 } else { cores }
-}
-
-/// Returns a random generator for each of `cores` cores, by which a fork chooses the child's core. The seed of core k
-/// is `seed + k`, modulo 2^64.
+/// Returns the cores' random generators, by which forks choose cores. The seed of core k is `seed + k`, modulo 2^64.
 fn choosers(alloc: Global, seed: u64, cores: u64) -> Result<Vec<Xoshiro256PlusPlus>, AllocError>
     ensures { IfOk result (λ choosers. choosers.items ≡ choosers_of seed cores) }
 {

@@ -19,7 +19,8 @@ const NO_WORDS: &[(ErrorKind, u8, &str)] = &[
 
 /// Checks the exit code and the printed text of a program whose arguments can't be read.
 ///
-/// `refuse_words` returns the code and writes the text, and the report of `run_without_words` has the same code.
+/// `refuse_words` must return the code and write the text, and the `report` of what `run_without_words` returns must
+/// have the same code.
 fn assert_without_words<R: Abort + Eprint>(
     rt: &R,
     alloc: Global,

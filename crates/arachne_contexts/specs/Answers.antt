@@ -1,16 +1,11 @@
 -- The contracts of a table's results.
 use Rattle.std.specs.Prelude.{◌≡◌, ℕ, ◌<◌, Bool, true, false, List, [], ◌∷◌, map, Option, None, Some}
-use Rattle.arachne_core.specs.declared.place.Place.{Place}
-use Rattle.arachne_core.specs.declared.state.Rest.{Rest}
+use Rattle.arachne_core.specs.declared.{place.Place.Place, state.Rest.Rest, thread_id.ThreadId.ThreadId}
 use Rattle.arachne_core.specs.declared.state.Rest.TheVariants as rest
-use Rattle.arachne_core.specs.declared.thread_id.ThreadId.{ThreadId}
-use Rattle.arachne_contexts.specs.declared.answers.Claimed.{Claimed}
+use Rattle.arachne_contexts.specs.declared.answers.{Claimed.Claimed, Taken.Taken, Rested.Rested, Woken.Woken}
 use Rattle.arachne_contexts.specs.declared.answers.Claimed.TheVariants as claimed
-use Rattle.arachne_contexts.specs.declared.answers.Taken.{Taken}
 use Rattle.arachne_contexts.specs.declared.answers.Taken.TheVariants as taken
-use Rattle.arachne_contexts.specs.declared.answers.Rested.{Rested}
 use Rattle.arachne_contexts.specs.declared.answers.Rested.TheVariants as rested
-use Rattle.arachne_contexts.specs.declared.answers.Woken.{Woken}
 use Rattle.arachne_contexts.specs.declared.answers.Woken.TheVariants as woken
 use Rattle.arachne_contexts.specs.declared.answers.Moved.{Moved}
 use Rattle.arachne_contexts.specs.declared.answers.Moved.TheVariants as moved
@@ -43,14 +38,14 @@ TakesAt place_of p (taken.Run held) = place_of held.hold ≡ p
 TakesAt place_of p (taken.NotReady word) = ShowsReadyAt p word → ⊥
 TakesAt place_of p (taken.Lost word) = Unit {0}
 
--- the result of a put-back: `WokenMeanwhile` only if the thread was to be blocked
+-- the result of a put-back: `WokenMeanwhile` only if the caller put the thread back as blocked
 abbrev pub RestsAs : Rest → Rested → Type 0
 RestsAs rest.Ready rested.AsAsked = Unit {0}
 RestsAs rest.Ready rested.WokenMeanwhile = ⊥
 RestsAs rest.Blocked rested.AsAsked = Unit {0}
 RestsAs rest.Blocked rested.WokenMeanwhile = Unit {0}
 
--- the result of a wake of an id: `Already` has a word that shows it
+-- the result of a wake of an id: `Already` has a word that shows that the thread is ready or woken
 abbrev pub WakesAs : ThreadId → Woken → Type 0
 WakesAs id woken.Woken = Unit {0}
 WakesAs id (woken.Already word) = ShowsWoken id word
@@ -64,7 +59,7 @@ settled_wake (woken.Already word) = Some false
 settled_wake woken.Gone = Some false
 settled_wake (woken.Lost word) = None
 
--- the result of a move to a core of `slots` places: `NoRoom` has a word that shows it
+-- the result of a move to a core of `slots` places: `NoRoom` has a word that shows that none may move there
 abbrev pub MovesAs : ℕ → Moved → Type 0
 MovesAs slots (moved.NoRoom word) = ShowsNoRoom slots word
 MovesAs slots answer = Unit {0}

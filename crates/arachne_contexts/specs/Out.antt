@@ -1,8 +1,7 @@
 -- The claims and threads that are out with a seat: it has claimed or taken them, and has not spent them yet.
 use Rattle.std.specs.Prelude.{ℕ, List, ◌∷◌, Result, Ok, Err}
-use Rattle.arachne_contexts.specs.declared.answers.Claimed.{Claimed}
+use Rattle.arachne_contexts.specs.declared.answers.{Claimed.Claimed, Taken.Taken}
 use Rattle.arachne_contexts.specs.declared.answers.Claimed.TheVariants as claimed
-use Rattle.arachne_contexts.specs.declared.answers.Taken.{Taken}
 use Rattle.arachne_contexts.specs.declared.answers.Taken.TheVariants as taken
 
 -- a claim, or a thread by its handle and its tag
@@ -25,14 +24,14 @@ module _ {C H : Type 0} where
   with_thread tag (taken.NotReady word) outs = outs
   with_thread tag (taken.Lost word) outs = outs
 
-  -- the list without it, unless it was handed back
+  -- the list without this claim or thread, unless the call handed it back
   abbrev pub without : {A E : Type 0} → Out C H → Result A E → List (Out C H) → List (Out C H)
   without out (Ok done) outs = outs
   without out (Err back) outs = out ∷ outs
 
 -- The effect of a call on what is out with a seat. The relation `has` says which claims and threads are out.
 module _ {Seat C H : Type 0} (has : Seat → List (Out C H) → Type 0) where
-  -- it is out with the seat, among others
+  -- this claim or thread is out with the seat, and there may be others
   abbrev pub HasOut : Out C H → Seat → Type 0
   HasOut out seat = (outs : List (Out C H)) × has seat (out ∷ outs)
 
@@ -48,6 +47,6 @@ module _ {Seat C H : Type 0} (has : Seat → List (Out C H) → Type 0) where
   abbrev pub GetsThread : {T : Type 0} → (T → ℕ) → Seat → Seat → Taken T H → Type 0
   GetsThread tag old new answer = (outs : List (Out C H)) → has old outs → has new (with_thread tag answer outs)
 
-  -- it is no longer out, unless it was handed back
+  -- this claim or thread is no longer out, unless the call handed it back
   abbrev pub Spends : {A E : Type 0} → Out C H → Seat → Seat → Result A E → Type 0
   Spends out old new answer = (outs : List (Out C H)) → has old (out ∷ outs) → has new (without out answer outs)

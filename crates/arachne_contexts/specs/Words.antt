@@ -1,11 +1,8 @@
 -- The meaning of a word, for a core or for a context.
 use Rattle.std.specs.Prelude.{◌≡◌, ◌≢◌, ℕ, ◌<◌, ◌⊎◌, true, false, slice_index_or}
-use Rattle.arachne_core.specs.declared.mark.Mark.TheVariants.{Ready, Woken}
-use Rattle.arachne_core.specs.declared.place.Place.{Place}
-use Rattle.arachne_core.specs.declared.thread_id.ThreadId.{ThreadId}
-use Rattle.arachne_core.specs.declared.layout.TheConstants.{CORE_BITS}
-use Rattle.arachne_core.specs.Occupancy.{Occupancy, occupancy_of}
-use Rattle.arachne_core.specs.Marked.{Marked, marked_of}
+use Rattle.arachne_core.specs.declared.{mark.Mark.TheVariants.{Ready, Woken}, place.Place.Place}
+use Rattle.arachne_core.specs.declared.{thread_id.ThreadId.ThreadId, layout.TheConstants.CORE_BITS}
+use Rattle.arachne_core.specs.{Occupancy.{Occupancy, occupancy_of}, Marked.marked_of}
 
 -- no index below `slots` is free
 abbrev pub HasNoFree : ℕ → Occupancy → Type 0

@@ -1,30 +1,30 @@
-//! The results of a table's calls. If a result has a number, that is the value that the call read from an atomic word;
-//! contracts show by it that the result is right.
+//! The results of calls on a table of user threads. A number in a result is the value that the call read from an atomic
+//! word, by which contracts show that the result is right.
 ghost use Rattle.std.specs.Prelude.{◌≡◌};
 ghost use Rattle.arachne_contexts.specs.Answers.{settled_claim, settled_wake};
 
 use crate::held::Held;
+use arachne_core::Rest;
 
-/// The result of a claim: one of the core's thread slots, in the code a *place*, or the reason why none was claimed.
+/// The result of claiming (reserving) a thread slot of a core.
 #[derive(Drop)]
 pub enum Claimed<C> {
-    /// The caller has claimed this thread slot. It must put a thread there or give the slot back.
+    /// The claimed thread slot. The caller must put a thread there or give the slot back.
     Place(C),
-    /// The core has no free thread slot, or belongs to one thread only, or (for a claim of the whole core) is not
-    /// empty. The number is the core's occupancy word (a bit for each occupied slot).
+    /// The core has no free thread slot, belongs to one thread only, or isn't empty, as a claim of the whole core
+    /// requires. The number is the core's occupancy word, with a bit for each occupied slot.
     Full(u64),
-    /// The core is closed, so it takes no threads. The number is the core's occupancy word (a bit for each occupied
-    /// thread slot).
+    /// The core takes no new threads. The number is the core's occupancy word, with a bit for each occupied slot.
     Closed(u64),
-    /// The core's occupancy word (a bit for each occupied thread slot) changed between the call's read and its claim.
-    /// The number is the word's value at the claim.
+    /// Another kernel thread changed the core's occupancy word (a bit for each occupied thread slot) during the call.
+    /// The number is the new occupancy word.
     Lost(u64),
 }
 
 impl<C> Claimed<C> {
-    /// Returns `Some` with the claimed thread slot, or `Some(None)` if the core had none for this claim.
+    /// Returns `Some` with the claimed thread slot, or `Some(None)` if the core had no slot for this claim.
     ///
-    /// If the claim was lost to another thread, returns `None`; the caller may try again.
+    /// Returns `None` if another kernel thread came first. The caller may try again.
     #[inline(always)]
     pub fn settled(self) -> Option<Option<C>>
         ensures { result ≡ settled_claim self }
@@ -37,46 +37,54 @@ impl<C> Claimed<C> {
     }
 }
 
-/// The result of a take: a ready thread to run, or the reason why none was taken.
+/// The result of an attempt to take a ready thread, so that the caller may run it.
 #[derive(Drop)]
 pub enum Taken<T, H> {
-    /// The caller's seat holds the thread now, and may run it.
+    /// The caller holds the thread, and may run it.
     Run(Held<T, H>),
-    /// There is no ready thread at this thread slot. The number is the mark word (the packed state) of the context
-    /// there.
+    /// No ready thread is at this thread slot. The number is the packed state (mark word) of the slot's thread record.
     NotReady(u64),
-    /// The context's mark word (its packed state) changed between the call's read and its take. The number is the
-    /// word's value at the take.
+    /// The slot's thread record changed during the call. The number is the record's new packed state (mark word).
     Lost(u64),
 }
 
-/// The result of putting a thread back: the thread is in the state that the caller asked for, or ready.
+/// The state in which `put_back` has left a thread.
 #[derive(Clone, Copy, Debug, PartialEq, Eq)]
 pub enum Rested {
     AsAsked,
-    /// The thread was woken while a worker held it. So it is ready, although the caller asked for it to be blocked.
+    /// The thread is ready, although the caller put it back as blocked, since it was woken while the caller held it.
     WokenMeanwhile,
 }
 
-/// The result of a wake: the thread was woken, or the reason why not.
+impl Rested {
+    /// Returns the state of a thread that was put back as `asked`: that state, or ready if the thread was woken before.
+    #[inline(always)]
+    pub fn or(self, asked: Rest) -> Rest
+        ensures as_asked { self ≡ Rested.AsAsked → result ≡ asked }
+        ensures woken { self ≡ Rested.WokenMeanwhile → result ≡ Rest.Ready }
+    {
+        match self {
+            Rested::AsAsked => asked,
+            Rested::WokenMeanwhile => Rest::Ready,
+        }
+    }
+}
+
+/// The result of waking a thread.
 #[derive(Clone, Copy, Debug, PartialEq, Eq)]
 pub enum Woken {
-    /// The thread was woken. If it was blocked, it is ready now; if a worker holds it, it will be ready when that
-    /// worker puts it back.
+    /// The thread was woken. A blocked thread is ready now. A running thread will be ready when it is put back.
     Woken,
-    /// The thread needs no wake: it is ready, or a worker holds it and it was already woken since the worker took it.
-    /// The number is the mark word (the packed state) of the thread's context.
+    /// The thread needs no wake, as it is ready or already woken. The number is the thread's packed state (mark word).
     Already(u64),
-    /// There is no thread with this id: it has ended, or there never was one.
+    /// No thread has this id, or the thread has ended.
     Gone,
-    /// The context's mark word (its packed state) changed between the call's read and its wake. The number is the
-    /// word's value at the wake.
+    /// The thread's state changed during the call. The number is the new packed state (mark word).
     Lost(u64),
 }
 
 impl Woken {
-    /// Returns whether this wake has woken the thread, or `None` if the wake was lost to another thread and must be
-    /// repeated.
+    /// Returns whether `wake` has woken the thread, or `None` if the caller must call it again.
     #[inline(always)]
     pub fn settled(self) -> Option<bool>
         ensures { result ≡ settled_wake self }
@@ -89,20 +97,19 @@ impl Woken {
     }
 }
 
-/// The result of a move to another core: the thread was moved, or the reason why not.
+/// The result of moving a thread to another core.
 #[derive(Clone, Copy, Debug, PartialEq, Eq)]
 pub enum Moved {
     Moved,
     /// The target core has no free thread slot, is closed, or belongs to one thread only. The number is the core's
-    /// occupancy word (a bit for each occupied slot).
+    /// occupancy word, with a bit for each occupied slot.
     NoRoom(u64),
     /// There is no thread at the thread slot.
     Unposted,
-    /// A worker holds the thread.
+    /// The thread wasn't moved, since a kernel thread runs it.
     Running,
-    /// The thread has its core for itself.
+    /// The thread wasn't moved, since it has its core for itself.
     Alone,
-    /// The thread, its slot or the target core changed during the call. The number is the new value of the word that
-    /// changed.
+    /// The thread, its slot or the target core changed during the call. The number is the changed word's new value.
     Lost(u64),
 }

@@ -15,31 +15,27 @@ use arachne_core::{CORE_BITS, Place, Rest, ThreadId};
 use std::alloc::{AllocError, Global};
 use std::sync::Wait;
 
-/// A context table for user threads whose values are of type `T`.
+/// A context table: it stores user threads, each with a value of type `T`.
 ///
 /// A *context* is the record of one thread, a *place* one of a core's thread slots, and a *seat* one kernel thread's
 /// right to call the table. If a seat has claimed a place, the caller must, through that seat, put a thread there or
 /// give the place back. If a seat has taken a thread, the caller must put the thread back or end it through that seat.
 pub trait Contexts<T: Tagged>: Seats {
-    /// A place (a thread slot) that a seat (a kernel thread's right to call the table) has claimed for a thread.
+    /// A thread slot that the caller has claimed for a thread.
     type Claim: Placed + Drop;
 
-    /// The handle of a thread that a seat (a kernel thread's right to call the table) holds, by which the table knows
-    /// the thread.
+    /// The handle of a thread that the caller has taken, by which the table knows the thread.
     type Hold: Identified + Drop;
 
-    /// True if the list consists of the places that the seat has claimed and not used yet, and the threads that it
-    /// holds, in any order.
+    /// True if the list has exactly the unused claims and the taken threads of the seat (right to call), in any order.
     ghost has: { Self → Self.Seat → List (Out Self.Claim Self.Hold) → Type 0 };
 
-    /// True if, by the seat's record, each thread that came into the table has ended or is in the list.
+    /// True if, by the record of this seat (right to call), each thread of the table has ended or is in the list.
     ///
-    /// The list names each thread once, by its id and its tag. In a table whose seats keep no such record, `settles` is
-    /// always true.
+    /// The list names each thread once, by its id and its tag (number). Always true if the seats keep no such record.
     ghost settles: { Self → Self.Seat → List (ThreadId × ℕ) → Type 0 };
 
-    /// Returns the occupancy word of a core (a bit for each occupied thread slot), read without a seat (a kernel
-    /// thread's right to call the table).
+    /// Returns the occupancy word of a core (a bit for each occupied thread slot), without a seat (right to call).
     ///
     /// The contract promises nothing about the word, which only helps to choose a core.
     fn glance<R: Wait>(&self, rt: &R, core: u8) -> u64
@@ -54,7 +50,7 @@ pub trait Contexts<T: Tagged>: Seats {
         ensures out { KeepsOut (has self.now) seat.old seat.new }
         ensures word { IsOccupancyWord result };
 
-    /// Returns the mark word of a context (the record of a thread): its packed state, thread slot and generation.
+    /// Returns the mark word (packed state, slot and generation) of a context (thread record).
     fn look_mark<R: Wait>(&self, rt: &R, seat: &mut Self::Seat, context: u32) -> u64
         requires seat { Self.sits self.now seat.old }
         requires context { context < Self.core_count self.now * Self.slot_count self.now }
@@ -63,9 +59,7 @@ pub trait Contexts<T: Tagged>: Seats {
         ensures out { KeepsOut (has self.now) seat.old seat.new }
         ensures word { IsMarkWord CORE_BITS result };
 
-    /// Tries once to claim the lowest free thread slot of a core.
-    ///
-    /// If memory for the thread that will be put there is refused, returns `Err`, and changes nothing.
+    /// Tries once to claim the lowest free thread slot of a core. If memory for a thread is refused, changes nothing.
     fn claim<R: Wait>(
         &self,
         rt: &R,
@@ -79,9 +73,7 @@ pub trait Contexts<T: Tagged>: Seats {
         ensures out { GetsClaim (has self.now) seat.old seat.new result }
         ensures answer { IfOk result (ClaimsOn (Self.slot_count self.now) Self.Claim.place_of core) };
 
-    /// Tries once to claim a whole empty core for one thread, at index 0.
-    ///
-    /// If memory for the thread that will be put there is refused, returns `Err`, and changes nothing.
+    /// Tries once to claim a whole empty core for one thread. If memory for a thread is refused, changes nothing.
     fn claim_alone<R: Wait>(
         &self,
         rt: &R,
@@ -95,9 +87,7 @@ pub trait Contexts<T: Tagged>: Seats {
         ensures out { GetsClaim (has self.now) seat.old seat.new result }
         ensures answer { IfOk result (ClaimsWhole Self.Claim.place_of core) };
 
-    /// Frees a claimed thread slot into which no thread was put.
-    ///
-    /// If the table doesn't know the claim, returns it as an error.
+    /// Frees a claimed thread slot that has no thread. If the seat has no such claim, returns `claim` as the error.
     fn give_back<R: Wait>(
         &self,
         rt: &R,
@@ -113,8 +103,8 @@ pub trait Contexts<T: Tagged>: Seats {
 
     /// Puts a thread with this value, ready to run, into the claimed thread slot. Returns the thread's id.
     ///
-    /// The thread is ready even if its core was closed after the claim. If the table doesn't know the claim, returns
-    /// the claim and the value as an error.
+    /// The thread is ready even if its core was closed after the claim. If the seat has no such claim, returns the
+    /// claim and the value as the error.
     fn post<R: Wait>(
         &self,
         rt: &R,
@@ -129,7 +119,7 @@ pub trait Contexts<T: Tagged>: Seats {
         ensures out { Spends (has self.now) (a_claim claim) seat.old seat.new result }
         ensures handed_back { IfErr result (λ back. back ≡ (claim, value)) };
 
-    /// Takes the thread in slot `index` of `core`, if it is ready. The seat then holds the thread.
+    /// Takes the thread in slot `index` of `core`, if it is ready. The seat (right to call) then holds the thread.
     fn take<R: Wait>(
         &self,
         rt: &R,
@@ -145,10 +135,9 @@ pub trait Contexts<T: Tagged>: Seats {
         ensures out { GetsThread (has self.now) T.tag_of seat.old seat.new result }
         ensures answer { TakesAt Self.Hold.place_of (record { core = core; index = index }) result };
 
-    /// Puts a thread that the seat holds back into the table, ready or blocked.
+    /// Puts a taken thread back into the table, ready or blocked.
     ///
-    /// If the table doesn't know the thread, or if its tag (the number by which the table knows it) has changed,
-    /// returns the thread as an error.
+    /// If the seat holds no such thread, or if the thread's tag (number) has changed, returns the thread as the error.
     fn put_back<R: Wait>(
         &self,
         rt: &R,
@@ -164,11 +153,10 @@ pub trait Contexts<T: Tagged>: Seats {
         ensures answer { IfOk result (RestsAs rest) }
         ensures handed_back { IfErr result (λ back. back ≡ held) };
 
-    /// Ends a thread that the seat holds, and returns its value.
+    /// Ends a taken thread, and returns its value.
     ///
-    /// Frees the thread's slot on its core, unless its context (the record of a user thread) has reached its last
-    /// generation (the greatest count of threads). If the table doesn't know the thread, or if its tag (the number by
-    /// which the table knows it) has changed, returns the thread as an error.
+    /// Frees the thread's slot, unless its context (thread record) can't have another thread after this one. If the
+    /// seat holds no such thread, or if the thread's tag (number) has changed, returns the thread as the error.
     fn finish<R: Wait>(
         &self,
         rt: &R,
@@ -183,7 +171,7 @@ pub trait Contexts<T: Tagged>: Seats {
         ensures value { IfOk result (λ value. value ≡ held.value) }
         ensures handed_back { IfErr result (λ back. back ≡ held) };
 
-    /// Wakes the thread with this id. The caller may pass any id.
+    /// Wakes the thread with this id, if there is one.
     fn wake<R: Wait>(&self, rt: &R, seat: &mut Self::Seat, id: ThreadId) -> Woken
         requires seat { Self.sits self.now seat.old }
         ensures seat { Self.sits self.now seat.new }
@@ -192,7 +180,7 @@ pub trait Contexts<T: Tagged>: Seats {
         ensures answer { WakesAs id result };
 
     /// Closes a core, so that no thread slot can be claimed on it. Returns the core's occupancy word (a bit for each
-    /// occupied slot) as it was before the call.
+    /// occupied slot) from before the call.
     fn close_core<R: Wait>(&self, rt: &R, seat: &mut Self::Seat, core: u8) -> u64
         requires seat { Self.sits self.now seat.old }
         requires core { core < Self.core_count self.now }
@@ -201,7 +189,7 @@ pub trait Contexts<T: Tagged>: Seats {
         ensures out { KeepsOut (has self.now) seat.old seat.new }
         ensures word { IsOccupancyWord result };
 
-    /// Opens a core. Returns the core's occupancy word (a bit for each occupied thread slot) as it was before the call.
+    /// Opens a core. Returns the core's occupancy word (a bit for each occupied thread slot) from before the call.
     fn open_core<R: Wait>(&self, rt: &R, seat: &mut Self::Seat, core: u8) -> u64
         requires seat { Self.sits self.now seat.old }
         requires core { core < Self.core_count self.now }
@@ -218,7 +206,7 @@ pub trait Contexts<T: Tagged>: Seats {
         ensures weight { Self.weight seat.new ≡ Self.weight seat.old }
         ensures out { KeepsOut (has self.now) seat.old seat.new };
 
-    /// Moves the thread at `place` to the lowest free thread slot of the core `to`, if no worker holds the thread.
+    /// Moves the thread at `place` to the lowest free thread slot of the core `to`, if no kernel thread runs it.
     fn move_one<R: Wait>(&self, rt: &R, seat: &mut Self::Seat, place: Place, to: u8) -> Moved
         requires seat { Self.sits self.now seat.old }
         requires core { place.core < Self.core_count self.now }
@@ -230,11 +218,10 @@ pub trait Contexts<T: Tagged>: Seats {
         ensures out { KeepsOut (has self.now) seat.old seat.new }
         ensures answer { MovesAs (Self.slot_count self.now) result };
 
-    /// Closes the table. Returns the threads that came into the table and have not ended, each once, in the order of
-    /// their contexts (the records of threads).
+    /// Closes the table. Returns the threads that have not ended, each once, in the order of their contexts' numbers.
     ///
-    /// The caller must pass a seat that has the whole weight (no other seat is in use) and no unused claim, and holds
-    /// no thread. If memory is refused, returns the table and the seat as an error.
+    /// No other seat (right to call) may be in use, and `seat` must have no unused claim and no taken thread. If memory
+    /// is refused, returns `self` and `seat` as the error.
     fn close<R: Wait>(
         self,
         rt: &R,
@@ -250,12 +237,12 @@ pub trait Contexts<T: Tagged>: Seats {
         ensures weight { IfErr result (λ back. Self.weight back.1 ≡ Self.weight seat) }
         ensures idle { IfErr result (λ back. Self.idle back.0 back.1) };
 
-    /// The law that an idle seat has no unused claim and holds no thread.
+    /// An idle seat (right to call) has no unused claim and holds no thread.
     ghost nothing_out: { (table : Self) (seat : Self.Seat) → Self.idle table seat → has table seat [] };
 
     ghost is_idle: { (table : Self) (seat : Self.Seat) → has table seat [] → Self.idle table seat };
 
-    /// The law that the list of a seat's unused claims and held threads may be in any order.
+    /// The list of unused claims and held threads may be in any order.
     ghost swapped: { (table : Self) (seat : Self.Seat) (first second : Out Self.Claim Self.Hold) (outs : List (Out Self.Claim Self.Hold))
         → has table seat (first ∷ second ∷ outs) → has table seat (second ∷ first ∷ outs) };
 }

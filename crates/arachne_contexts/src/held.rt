@@ -5,11 +5,11 @@ ghost use Rattle.arachne_core.specs.declared.thread_id.ThreadId.{ThreadId};
 
 use arachne_core::{Place, ThreadId};
 
-/// A claim of a place (one of a core's thread slots), or the handle of a thread at a place.
+/// A claim of a thread slot, or the handle of a thread in a slot.
 pub trait Placed {
     ghost place_of: { Self → Place };
 
-    /// Returns the thread slot: the core's number, and the slot's index on the core.
+    /// Returns the thread slot: a core, and an index there.
     fn place(&self) -> Place
         ensures { result ≡ place_of self.now };
 }
@@ -18,24 +18,21 @@ pub trait Placed {
 pub trait Identified: Placed {
     ghost id_of: { Self → ThreadId };
 
-    /// Returns the thread's id.
     fn id(&self) -> ThreadId
         ensures { result ≡ id_of self.now };
 }
 
-/// A thread that a seat (a kernel thread's right to call the table) has taken: its value, and the handle by which the
-/// table knows it.
+/// A thread that a kernel thread has taken from the table, to run it.
 ///
-/// The caller may change the value, but not its tag (a number by which the table knows the thread).
+/// The caller may change the value, but not its tag (the thread's number in the table).
 #[derive(Drop)]
 pub struct Held<T, H> {
     pub value: T,
-    /// The handle of the thread. The caller must keep it together with the value with which the thread was taken.
+    /// The thread's handle, which must stay with the value with which the thread was taken.
     pub hold: H,
 }
 
 impl<T, H: Identified> Held<T, H> {
-    /// Returns the thread's id.
     pub fn id(&self) -> ThreadId
         ensures { result ≡ H.id_of self.now.hold }
     {

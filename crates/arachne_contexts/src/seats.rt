@@ -6,31 +6,29 @@ use arachne_core::{CORES, LAST_GENERATION, SLOTS};
 use std::alloc::{AllocError, Global};
 use std::sync::Wait;
 
-/// A table that is called through seats: each is the right of one kernel thread to call it.
+/// A table that is called through seats, each of which is one kernel thread's right to call the table that made it.
 ///
-/// The first seat has the whole weight. A split halves a seat's weight and a join adds two, so a seat with the whole
-/// weight is the only one. A seat can only be used with the table that created it.
+/// A seat's *weight* is its part of the first seat's weight. A split halves the weight, and a join adds the two
+/// weights. A seat with the whole weight is the table's only seat.
 pub trait Seats {
     type Seat: Drop;
 
-    /// True if the seat belongs to this table.
+    /// True if the seat (right to call) belongs to this table.
     ghost sits: { Self → Self.Seat → Type 0 };
 
-    /// True if the seat has no unused claim of a thread slot and holds no thread.
+    /// True if the seat (right to call) has no unused claim of a thread slot and holds no thread.
     ghost idle: { Self → Self.Seat → Type 0 };
 
-    /// The seat's weight: its part of the whole weight, which the first seat had.
+    /// The weight of a seat (right to call), which is its part of the first seat's weight.
     ghost weight: { Self.Seat → ℕ };
 
-    /// The number of cores of the table.
     ghost core_count: { Self → ℕ };
 
-    /// The number of thread slots of each core.
     ghost slot_count: { Self → ℕ };
 
-    /// Creates a table of `cores` cores with `slots` thread slots each, and its first seat, which has the whole weight.
+    /// Creates a table of `cores` cores with `slots` thread slots each, and its first seat (right to call).
     ///
-    /// All contexts (the records of threads) are free, in generation `first_generation`.
+    /// All slots are free. The generation (count of ended threads) of each thread record begins at `first_generation`.
     fn new(
         alloc: Global,
         cores: u8,
@@ -48,10 +46,9 @@ pub trait Seats {
         ensures idle { IfOk result (λ made. Self.idle made.0 made.1) }
         ensures weight { IfOk result (λ made. Self.weight made.1 ≡ whole) };
 
-    /// Splits a seat into two, each with half of its weight, rounded up for the first.
+    /// Splits a seat (right to call) into two, each with half of its weight, rounded up for the first.
     ///
-    /// If the weight is 1 or 0, both seats get weight 0. The caller must pass a seat that has no unused claim and holds
-    /// no thread.
+    /// If the weight is at most 1, both parts get weight 0. `seat` must have no unused claim and no taken thread.
     fn split<R: Wait>(&self, rt: &R, seat: Self::Seat) -> (Self::Seat, Self::Seat)
         requires seat { Self.sits self.now seat }
         requires idle { Self.idle self.now seat }
@@ -62,9 +59,9 @@ pub trait Seats {
         ensures first_weight { Self.weight result.0 ≡ first_part (Self.weight seat) }
         ensures second_weight { Self.weight result.1 ≡ second_part (Self.weight seat) };
 
-    /// Joins two seats into one, whose weight is the sum of their weights, but at most the whole.
+    /// Joins two seats (rights to call) into one, whose weight is the sum of their weights, but at most the whole.
     ///
-    /// The caller must pass seats that have no unused claim and hold no thread.
+    /// `seat` and `other` must have no unused claim and no taken thread.
     fn join_seats<R: Wait>(&self, rt: &R, seat: Self::Seat, other: Self::Seat) -> Self::Seat
         requires seat { Self.sits self.now seat }
         requires other { Self.sits self.now other }
@@ -74,11 +71,10 @@ pub trait Seats {
         ensures idle { Self.idle self.now result }
         ensures weight { Self.weight result ≡ joined (Self.weight seat) (Self.weight other) };
 
-    /// Returns whether `seat` has the whole weight, which means that all other seats were joined into it.
+    /// Returns whether all other seats (rights to call) were joined into this one.
     fn is_whole(&self, seat: &Self::Seat) -> bool
         ensures { IsTrue result ↔ (Self.weight seat.now ≡ whole) };
 
-    /// Returns how many things the seat must still give up: its unused claims of thread slots and the threads that it
-    /// holds.
+    /// Returns the number of the seat's unused claims of slots, plus the number of threads that it holds.
     fn out(&self, seat: &Self::Seat) -> u32;
 }

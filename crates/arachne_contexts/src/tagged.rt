@@ -1,9 +1,7 @@
 //! The trait of the values that a context table stores for its threads: each value has a number, its tag.
 ghost use Rattle.std.specs.Prelude.{◌≡◌, ℕ};
 
-/// A value with a tag, a number by which the table knows the value's thread.
-///
-/// The table knows a thread by its id together with this tag.
+/// A value with a tag, the number of its thread in a table of threads.
 pub trait Tagged {
     ghost tag_of: { Self → ℕ };
 

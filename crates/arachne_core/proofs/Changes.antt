@@ -1,9 +1,7 @@
 -- Sets, maps and collections with one member changed: their values there, and elsewhere.
 use Rattle.std.proofs.Common.{◌≡◌, ℕ, ◌+◌, Bool, true, false, cond, eqb, ◌⊎◌, inl, inr, refl, sym, ap, ◌∙◌}
 use Rattle.std.proofs.lemmas.Bool.{eqb-true, eq-eqb, ne_eqb, and_parts, and_from, cases_Bool, true≢false, false_from_ne_true}
-use Rattle.arachne_core.specs.declared.place.Place.{Place}
-use Rattle.arachne_core.specs.declared.thread_id.ThreadId.{ThreadId}
-use Rattle.arachne_core.specs.Place.{same_place}
+use Rattle.arachne_core.specs.{declared.place.Place.Place, declared.thread_id.ThreadId.ThreadId, Place.same_place}
 use Rattle.arachne_core.specs.World.{Thread, with_at, with_place, with_thread, same_thread}
 
 pub cond-true : {A : Type 0} (b : Bool) (x y : A) → b ≡ true → cond b x y ≡ x

@@ -1,13 +1,10 @@
 -- Each event keeps the World owned once.
 use Rattle.std.proofs.Common.{◌≡◌, ◌≢◌, ℕ, ◌+◌, ◌*◌, ◌<◌, ◌≤◌, ◌↔◌, Bool, true, false, cond, eqb, ltb, ◌&&◌, ◌⊎◌, inl, inr, refl, sym, ap, ◌∙◌, subst, arith, IsTrue}
 use Rattle.std.proofs.lemmas.Bool.{eqb-true, eq-eqb, and_parts, and_from, and_right, cases_Bool, cases_eq, cases_lt, lt-ltb, ltb-true, true≢false, false_from_ne_true, cond-true, cond-false}
-use Rattle.arachne_core.specs.declared.place.Place.{Place}
-use Rattle.arachne_core.specs.declared.thread_id.ThreadId.{ThreadId}
-use Rattle.arachne_core.specs.declared.state.State.{State}
+use Rattle.arachne_core.specs.declared.{place.Place.Place, thread_id.ThreadId.ThreadId, state.State.State}
 use Rattle.arachne_core.specs.declared.state.State.TheVariants.{Free, Claimed, Ready, Blocked, Held, Spent}
-use Rattle.arachne_core.specs.declared.event.Event.{Event}
+use Rattle.arachne_core.specs.declared.{event.Event.Event, state.Rest.Rest}
 use Rattle.arachne_core.specs.declared.event.Event.TheVariants as event
-use Rattle.arachne_core.specs.declared.state.Rest.{Rest}
 use Rattle.arachne_core.specs.declared.state.Rest.TheVariants as rest
 use Rattle.arachne_core.specs.World.{World, Thread, with_at, with_place, with_thread, id_of, IsContext, IsPlace, IsReady, IsAtRest, IsHeldBy, CanBeWoken, taken, put_back, woken, tag_of, Allowed, after}
 use Rattle.arachne_core.specs.OwnedOnce.{OwnedOnce, has_thread, is_live, HasGivenId, HasOneOccupied}
@@ -199,11 +196,7 @@ taken_not_free h s r = absurd r
 
 taken-thread : (h : ℕ) (s : State) (tag : ℕ) → has_thread (taken h s) tag ≡ has_thread s tag
 taken-thread h (Ready t) tag = refl
-taken-thread h Free tag = refl
-taken-thread h (Claimed k) tag = refl
-taken-thread h (Blocked t) tag = refl
-taken-thread h (Held k w t) tag = refl
-taken-thread h Spent tag = refl
+taken-thread h _ tag = refl
 
 taken-given : (h : ℕ) (s : State) → IsReady s → HasGivenId (taken h s)
 taken-given h (Ready t) r = tt

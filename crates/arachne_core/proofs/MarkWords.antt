@@ -1,40 +1,22 @@
 -- Mark words: packing what was read, reading what was packed, and another mark or place.
-use Rattle.std.proofs.Common.{◌≡◌, ℕ, zero, suc, ◌+◌, ◌*◌, ◌/◌, ◌%◌, ◌^◌, ◌<◌, ◌↔◌, eqb, refl, sym, ap, ◌∙◌, arith}
-use Rattle.std.specs.Int.{bit_at}
-use Rattle.std.proofs.lemmas.Nat.{shr-shr, pow-add, mod_below, mod_low, shr_high, shr_split}
+use Rattle.std.proofs.Common.{◌≡◌, ℕ, suc, ◌+◌, ◌*◌, ◌/◌, ◌%◌, ◌^◌, ◌<◌, ◌↔◌, eqb, refl, sym, ap, ◌∙◌, arith}
+use Rattle.std.{specs.Int.bit_at, proofs.lemmas.Nat.{shr-shr, pow-add, mod_below, mod_low, shr_high, shr_split}}
 use Rattle.std.proofs.Math.Nat.{mul_comm, mul_assoc, one-le-pow}
-use Rattle.arachne_core.specs.declared.mark.Mark.{Mark}
-use Rattle.arachne_core.specs.declared.mark.Mark.TheVariants.{Free, Ready, Blocked, Held, Woken, Spent}
-use Rattle.arachne_core.specs.declared.place.Place.{Place}
-use Rattle.arachne_core.specs.declared.layout.TheConstants.{SLOTS}
-use Rattle.arachne_core.specs.Occupancy.{bit}
 use Rattle.arachne_core.specs.Marked.{Marked, mark_code, mark_named, mark_word, marked_of, IsMarkWord, with_mark, with_place}
-use Rattle.arachne_core.proofs.OccupancyWords.{bit-le, bit-eqb, eqb-bit}
+use Rattle.arachne_core.{proofs.OccupancyWords.{bit-le, bit-eqb, eqb-bit}, specs.declared.mark.Mark.TheVariants.Free}
+use Rattle.arachne_core.specs.{declared.{layout.TheConstants.SLOTS, place.Place.Place, mark.Mark.Mark}, Occupancy.bit}
 
 pub mark_code-lt : (m : Mark) → mark_code m < 6
 mark_code-lt Free = omega arith
-mark_code-lt Ready = omega arith
-mark_code-lt Blocked = omega arith
-mark_code-lt Held = omega arith
-mark_code-lt Woken = omega arith
-mark_code-lt Spent = omega arith
+mark_code-lt _ = omega arith
 
 pub mark_named-mark_code : (m : Mark) → mark_named (mark_code m) ≡ m
 mark_named-mark_code Free = refl
-mark_named-mark_code Ready = refl
-mark_named-mark_code Blocked = refl
-mark_named-mark_code Held = refl
-mark_named-mark_code Woken = refl
-mark_named-mark_code Spent = refl
+mark_named-mark_code _ = refl
 
 pub mark_code-mark_named : (n : ℕ) → n < 6 → mark_code (mark_named n) ≡ n
-mark_code-mark_named zero h = refl
-mark_code-mark_named (suc zero) h = refl
-mark_code-mark_named (suc (suc zero)) h = refl
-mark_code-mark_named (suc (suc (suc zero))) h = refl
-mark_code-mark_named (suc (suc (suc (suc zero)))) h = refl
-mark_code-mark_named (suc (suc (suc (suc (suc zero))))) h = refl
 mark_code-mark_named (suc (suc (suc (suc (suc (suc n)))))) h = absurd (omega (arith, h))
+mark_code-mark_named _ h = refl
 
 -- the fields of a word whose mark and `alone` bit are `low`
 pub fields : (b low i c g : ℕ) → low < 2 ^ 4 → i < 2 ^ 6 → c < 2 ^ b →

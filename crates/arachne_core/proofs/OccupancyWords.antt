@@ -1,15 +1,10 @@
 -- Occupancy words: packing what was read, reading what was packed, and one index more or less.
 use Rattle.std.proofs.Common.{◌≡◌, ℕ, zero, suc, ◌+◌, ◌-◌, ◌*◌, ◌/◌, ◌%◌, ◌^◌, ◌<◌, ◌≤◌, Bool, true, false, eqb, not, List, [], ◌∷◌, length, get_or, set, replicate, ◌↔◌, inl, inr, refl, sym, ap, ◌∙◌, subst, arith}
-use Rattle.std.specs.Int.{bit_at, w64, trailing_ones, from_bool}
-use Rattle.std.specs.Int.RustNames.{count_ones, bit_and, bit_or}
-use Rattle.std.specs.Int.Count.{ones_step, ones-ones}
-use Rattle.std.proofs.lemmas.Bool.{cases_eq, true≢false, eq-eqb, ne_eqb}
-use Rattle.std.proofs.lemmas.Nat.Bits.{bit_at_lowest, bit_at-suc}
-use Rattle.std.proofs.lemmas.Nat.Bits.{bit_at_or, bit_at-pow_same, bit_at-pow_other, bit_at-lt, same_from_bits, and_pow, bit_at-zero, bit_at-trailing_ones}
-use Rattle.std.proofs.lemmas.Nat.{mod-pow-add, or_disjoint, and-not, and_comm, and_mask}
-use Rattle.std.proofs.lemmas.List.{set-get_or, set-set, length-set, get_or-set_same}
-use Rattle.std.proofs.lemmas.Nat.{pow_pos, pow_below, one_shl}
-use Rattle.std.proofs.Math.Nat.{pow-suc, mul_comm}
+use Rattle.std.specs.Int.{bit_at, w64, trailing_ones, from_bool, RustNames.{count_ones, bit_and, bit_or}}
+use Rattle.std.{specs.Int.Count.{ones_step, ones-ones}, proofs.lemmas.Bool.{cases_eq, true≢false, eq-eqb, ne_eqb}}
+use Rattle.std.proofs.lemmas.Nat.Bits.{bit_at_lowest, bit_at-suc, bit_at_or, bit_at-pow_same, bit_at-pow_other, bit_at-lt, same_from_bits, and_pow, bit_at-zero, bit_at-trailing_ones}
+use Rattle.std.proofs.lemmas.Nat.{mod-pow-add, or_disjoint, and-not, and_comm, and_mask, pow_pos, pow_below, one_shl}
+use Rattle.std.proofs.{lemmas.List.{set-get_or, set-set, length-set, get_or-set_same}, Math.Nat.{pow-suc, mul_comm}}
 use Rattle.arachne_core.specs.declared.layout.TheConstants.{MASK_BITS}
 use Rattle.arachne_core.specs.Occupancy.{Occupancy, bit, mask_of, count_of, occupancy_word, flags, occupancy_of, count_field, IsOccupancyWord, vacant, HasOneMore}
 
@@ -115,9 +110,6 @@ mask_of-none [] h = refl
 mask_of-none (b ∷ bs) h = omega (arith, ap bit (h 0 (omega arith)), mask_of-none bs (λ i l. h (suc i) (omega arith)))
 
 -- ---- the fields of a word
-
-pub field_mask : (m n : ℕ) (x y : Bool) → m < 2 ^ MASK_BITS → n < 2 ^ 6 → (m + 2 ^ MASK_BITS * n + 2 ^ 62 * bit x + 2 ^ 63 * bit y) % 2 ^ MASK_BITS ≡ m
-field_mask m n x y a b = omega (arith, bit-le x, bit-le y)
 
 pub field_count : (m n : ℕ) (x y : Bool) → m < 2 ^ MASK_BITS → n < 2 ^ 6 → (m + 2 ^ MASK_BITS * n + 2 ^ 62 * bit x + 2 ^ 63 * bit y) / 2 ^ MASK_BITS % 2 ^ 6 ≡ n
 field_count m n x y a b = omega (arith, bit-le x, bit-le y)
@@ -332,9 +324,6 @@ from_bool-bit true = refl
 from_bool-bit false = refl
 
 -- ---- the laws of one index, over words
-
-same_shift : (i : ℕ) → i < 64 → 1 * 2 ^ i % 2 ^ 64 ≡ 2 ^ i
-same_shift i h = one_shl i 64 h
 
 pub has_one_more : (w i : ℕ) → IsOccupancyWord w → i < MASK_BITS → get_or (occupancy_of w).occupied i false ≡ false → HasOneMore w i (w + (2 ^ i + 2 ^ MASK_BITS))
 has_one_more w i h i_in free =

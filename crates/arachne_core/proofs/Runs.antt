@@ -3,17 +3,13 @@ use Rattle.std.proofs.Common.{◌≡◌, ◌≢◌, ℕ, ◌+◌, ◌*◌, ◌/�
 use Rattle.std.proofs.lemmas.Bool.{eqb-true, ltb-true, and_parts, and_left, and_right, cases_Bool, cases_eq, true≢false, false≢true, cond-false}
 use Rattle.std.proofs.lemmas.Nat.{div_below, mod_below, div-add-mod', div-mul-add, mod-mul-add, mul-add-lt}
 use Rattle.std.proofs.Math.Nat.{mul_comm}
-use Rattle.arachne_core.specs.declared.place.Place.{Place}
-use Rattle.arachne_core.specs.declared.state.State.{State}
-use Rattle.arachne_core.specs.declared.state.State.TheVariants.{Free, Claimed, Ready, Blocked, Held, Spent}
-use Rattle.arachne_core.specs.declared.event.Event.{Event}
-use Rattle.arachne_core.specs.declared.event.Event.TheVariants as event
-use Rattle.arachne_core.specs.Place.{first_place, number_of}
-use Rattle.arachne_core.specs.World.{World, Thread, with_at, with_place, IsContext, IsPlace, IsEmptyCore, IsReady, IsHeldBy, woken, Allowed, after}
-use Rattle.arachne_core.specs.OwnedOnce.{OwnedOnce, has_thread, is_live}
-use Rattle.arachne_core.specs.Run.{IsOpening, IsRun, after_all, IsLive, SharesNothing, IsDrained, NeverOpens, LetsGo, NeverLetsGo}
 use Rattle.arachne_core.proofs.Changes.{with_at-same, with_at-other, with_place-same, with_place-other, cases_place, same_id}
-use Rattle.arachne_core.proofs.KeepsOwnedOnce.{keeps_owned_once}
+use Rattle.arachne_core.{proofs.KeepsOwnedOnce.keeps_owned_once, specs.OwnedOnce.{OwnedOnce, has_thread, is_live}}
+use Rattle.arachne_core.specs.{Place.{first_place, number_of}, declared.{event.Event.Event, place.Place.Place}}
+use Rattle.arachne_core.specs.Run.{IsOpening, IsRun, after_all, IsLive, SharesNothing, IsDrained, NeverOpens, LetsGo, NeverLetsGo}
+use Rattle.arachne_core.specs.World.{World, Thread, with_at, with_place, IsContext, IsPlace, IsEmptyCore, IsReady, IsHeldBy, woken, Allowed, after}
+use Rattle.arachne_core.specs.declared.state.State.{State, TheVariants.{Free, Claimed, Ready, Blocked, Held}}
+use Rattle.arachne_core.specs.declared.event.Event.TheVariants as event
 
 -- ---- the opening World
 
@@ -115,11 +111,6 @@ empty_with w p c n h i i_in = with_place-other w.occupied p true (record { core 
 stays : (w : World) (e : Event) (c : ℕ) → IsDrained w c → Allowed w e → e ≢ event.OpenCore c → IsDrained (after w e) c
 stays w (event.Claim h x) c d a n = (d.0, d.1, empty_with w (w.at x) c (λ e. true≢false (sym d.1 ∙ ap w.closed e ∙ a.core.not_closed)) d.2)
 stays w (event.Alone h x) c d a n = (d.0, d.1, empty_with w (w.at x) c (λ e. true≢false (sym d.1 ∙ ap w.closed e ∙ a.core.not_closed)) d.2)
-stays w (event.Post h x tag) c d a n = d
-stays w (event.Take h x) c d a n = d
-stays w (event.Rest h x r) c d a n = d
-stays w (event.Wake id) c d a n = d
-stays w (event.Retire h x) c d a n = d
 stays w (event.Release h x) c d a n = (d.0, d.1, empty_without w (w.at x) c d.2)
 stays w (event.CloseCore k) c d a n = (
   d.0,
@@ -127,8 +118,7 @@ stays w (event.CloseCore k) c d a n = (
   d.2,
 )
 stays w (event.OpenCore k) c d a n = (d.0, with_at-other w.closed k false c (λ e. n (ap event.OpenCore (sym e))) ∙ d.1, d.2)
-stays w (event.Move h x y) c d a n = d
-stays w event.Still c d a n = d
+stays w _ c d a n = d
 
 pub stays_drained : (w : World) (es : List Event) (c : ℕ) → IsDrained w c → IsRun w es → NeverOpens c es → IsDrained (after_all w es) c
 stays_drained w [] c d r n = d
@@ -143,28 +133,16 @@ held_not_claimed : (h k : ℕ) (s : State) → IsHeldBy h s → s ≡ Claimed k 
 held_not_claimed h k s d e = subst (IsHeldBy h) e d
 
 held_not_ready : (h : ℕ) (s : State) → IsHeldBy h s → IsReady s → ⊥
-held_not_ready h Free d r = r
-held_not_ready h (Claimed k) d r = r
 held_not_ready h (Ready t) d r = d
-held_not_ready h (Blocked t) d r = r
-held_not_ready h (Held k v t) d r = r
-held_not_ready h Spent d r = r
+held_not_ready h _ d r = r
 
 one_carrier : (h k : ℕ) (s : State) → IsHeldBy h s → IsHeldBy k s → k ≡ h
-one_carrier h k Free d e = absurd d
-one_carrier h k (Claimed l) d e = absurd d
-one_carrier h k (Ready t) d e = absurd d
-one_carrier h k (Blocked t) d e = absurd d
 one_carrier h k (Held l v t) d e = sym e ∙ d
-one_carrier h k Spent d e = absurd d
+one_carrier h k _ d e = absurd d
 
 held_woken : (h : ℕ) (s : State) → IsHeldBy h s → IsHeldBy h (woken s)
-held_woken h Free d = d
-held_woken h (Claimed k) d = d
-held_woken h (Ready t) d = d
 held_woken h (Blocked t) d = absurd d
-held_woken h (Held k v t) d = d
-held_woken h Spent d = d
+held_woken h _ d = d
 
 -- another context's state changes
 other : (h : ℕ) (f : ℕ → State) (x y : ℕ) (s : State) → IsHeldBy h (f x) → (x ≡ y → ⊥) → IsHeldBy h (with_at f y s x)
@@ -185,10 +163,7 @@ held_after w (event.Wake id) h x d a n = elim (cases_eq x id.context) [
 held_after w (event.Retire k y) h x d a n =
     other h w.state x y _ d (λ e. n (one_carrier h k (w.state x) d (subst (λ (z : ℕ). IsHeldBy k (w.state z)) (sym e) a.held), sym e))
 held_after w (event.Release k y) h x d a n = other h w.state x y _ d (λ e. held_not_claimed h k (w.state x) d (ap w.state e ∙ a.claimed))
-held_after w (event.CloseCore c) h x d a n = d
-held_after w (event.OpenCore c) h x d a n = d
-held_after w (event.Move k y z) h x d a n = d
-held_after w event.Still h x d a n = d
+held_after w _ h x d a n = d
 
 pub stays_held : (w : World) (es : List Event) (h x : ℕ) → IsHeldBy h (w.state x) → IsRun w es → NeverLetsGo h x es → IsHeldBy h ((after_all w es).state x)
 stays_held w [] h x d r n = d

@@ -1,20 +1,14 @@
 -- The effect of each event on the World that a table stands for.
 use Rattle.std.proofs.Common.{◌≡◌, ℕ, ◌+◌, ◌<◌, Bool, true, cond, ltb, List, [], ◌∷◌, ◌++◌, length, Result, Ok, Err, refl, sym, ap, ◌∙◌, subst}
-use Rattle.arachne_core.specs.declared.place.Place.{Place}
-use Rattle.arachne_core.specs.declared.state.Context.{Context}
-use Rattle.arachne_core.specs.declared.state.State.{State}
-use Rattle.arachne_core.specs.declared.state.State.TheVariants.{Claimed, Ready, Spent}
-use Rattle.arachne_core.specs.declared.event.Event.{Event}
-use Rattle.arachne_core.specs.declared.event.Event.TheVariants as event
-use Rattle.arachne_core.specs.declared.event.NotApplied.{NotApplied}
-use Rattle.arachne_core.specs.declared.event.NotApplied.TheVariants.{NotAllowed, Memory}
-use Rattle.arachne_core.specs.declared.layout.TheConstants.{LAST_GENERATION}
-use Rattle.arachne_core.specs.World.{World, Thread, with_at, with_place, with_thread, tag_of, Allowed, after}
-use Rattle.arachne_core.specs.OwnedOnce.{OwnedOnce}
-use Rattle.arachne_core.specs.ContextTable.{ContextTable, context, world_of, Answers}
-use Rattle.arachne_core.specs.TableChanges.{with_context, with_occupied, with_exclusive, with_swapped, HasPlace}
+use Rattle.arachne_core.{proofs.KeepsOwnedOnce.keeps_owned_once, specs.declared.{event.Event.Event, state.State.State}}
 use Rattle.arachne_core.proofs.TableWorlds.{context_world, state_world, occupied_world, exclusive_world, swapped_world, given_world, ended_world}
-use Rattle.arachne_core.proofs.KeepsOwnedOnce.{keeps_owned_once}
+use Rattle.arachne_core.specs.{ContextTable.{ContextTable, context, world_of, Answers}, OwnedOnce.OwnedOnce}
+use Rattle.arachne_core.specs.TableChanges.{with_context, with_occupied, with_exclusive, with_swapped, HasPlace}
+use Rattle.arachne_core.specs.World.{World, Thread, with_at, with_place, with_thread, tag_of, Allowed, after}
+use Rattle.arachne_core.specs.declared.event.NotApplied.{NotApplied, TheVariants.{NotAllowed, Memory}}
+use Rattle.arachne_core.specs.declared.{layout.TheConstants.LAST_GENERATION, place.Place.Place, state.Context.Context}
+use Rattle.arachne_core.specs.declared.state.State.TheVariants.{Claimed, Ready, Spent}
+use Rattle.arachne_core.specs.declared.event.Event.TheVariants as event
 
 -- Context x gets a state, after a change that kept the contexts and made the World w.
 pub finish : (k mid new : ContextTable) (x : ℕ) (found : Context) (s : State) (w : World) → x < length k.contexts → found ≡ context k x
@@ -97,17 +91,7 @@ answers_owned_once e old new (Err Memory) o a = subst (λ (k : ContextTable). Ow
 -- an event leaves the number of cores
 after_cores : (w : World) (e : Event) → (after w e).cores ≡ w.cores
 after_cores w (event.Claim h x) = refl
-after_cores w (event.Alone h x) = refl
-after_cores w (event.Post h x tag) = refl
-after_cores w (event.Take h x) = refl
-after_cores w (event.Rest h x r) = refl
-after_cores w (event.Wake id) = refl
-after_cores w (event.Retire h x) = refl
-after_cores w (event.Release h x) = refl
-after_cores w (event.CloseCore c) = refl
-after_cores w (event.OpenCore c) = refl
-after_cores w (event.Move h x y) = refl
-after_cores w event.Still = refl
+after_cores w _ = refl
 
 pub answers_cores : (e : Event) (old new : ContextTable) (r : Result (Unit {0}) NotApplied) → Answers e old new r → (world_of new).cores ≡ (world_of old).cores
 answers_cores e old new (Ok u) a = ap (λ (w : World). w.cores) a.1 ∙ after_cores (world_of old) e
@@ -117,17 +101,7 @@ answers_cores e old new (Err Memory) a = ap (λ (k : ContextTable). (world_of k)
 -- an event leaves the number of places
 after_slots : (w : World) (e : Event) → (after w e).slots ≡ w.slots
 after_slots w (event.Claim h x) = refl
-after_slots w (event.Alone h x) = refl
-after_slots w (event.Post h x tag) = refl
-after_slots w (event.Take h x) = refl
-after_slots w (event.Rest h x r) = refl
-after_slots w (event.Wake id) = refl
-after_slots w (event.Retire h x) = refl
-after_slots w (event.Release h x) = refl
-after_slots w (event.CloseCore c) = refl
-after_slots w (event.OpenCore c) = refl
-after_slots w (event.Move h x y) = refl
-after_slots w event.Still = refl
+after_slots w _ = refl
 
 pub answers_slots : (e : Event) (old new : ContextTable) (r : Result (Unit {0}) NotApplied) → Answers e old new r → (world_of new).slots ≡ (world_of old).slots
 answers_slots e old new (Ok u) a = ap (λ (w : World). w.slots) a.1 ∙ after_slots (world_of old) e

@@ -1,21 +1,14 @@
 -- The invariant of a table's lists, at first and after contexts swap places.
 use Rattle.std.proofs.Common.{◌≡◌, ℕ, ◌*◌, ◌<◌, ◌≤◌, false, inl, inr, List, [], length, get_or, set, map, replicate, refl, sym, ap, ◌∙◌, subst, arith}
 use Rattle.std.specs.List.{range_with_len}
-use Rattle.std.proofs.lemmas.Bool.{cases_eq}
-use Rattle.std.proofs.Math.Nat.{mul_comm}
-use Rattle.std.proofs.lemmas.Nat.{div-add-mod', mul-add-lt}
+use Rattle.std.proofs.{lemmas.Bool.cases_eq, Math.Nat.mul_comm, lemmas.Nat.{div-add-mod', mul-add-lt}}
 use Rattle.std.proofs.lemmas.List.{get_or_read, length-set, get_or-set_same, get_or-set_other, length-replicate, get_or-replicate}
 use Rattle.std.proofs.lemmas.List.FromFn.{length-range_with_len, get_or-range_with_len, length-map-range_with_len, get_or-map-range_with_len}
-use Rattle.arachne_core.specs.declared.place.Place.{Place}
-use Rattle.arachne_core.specs.declared.state.Context.{Context}
+use Rattle.arachne_core.specs.declared.{place.Place.Place, state.Context.Context}
 use Rattle.arachne_core.specs.declared.layout.TheConstants.{CORES, SLOTS, LAST_GENERATION}
-use Rattle.arachne_core.specs.Place.{first_place, number_of}
-use Rattle.arachne_core.specs.Occupancy.{Occupancy, vacant}
-use Rattle.arachne_core.specs.Run.{IsOpening}
-use Rattle.arachne_core.specs.ContextTable.{no_context, no_core, world_of}
-use Rattle.arachne_core.specs.TableChanges.{IsTable, first_context}
-use Rattle.arachne_core.proofs.OccupancyWords.{vacant-length, vacant-flag, vacant-open}
-use Rattle.arachne_core.proofs.Runs.{first_in}
+use Rattle.arachne_core.specs.{Place.{first_place, number_of}, Occupancy.{Occupancy, vacant}, Run.IsOpening}
+use Rattle.arachne_core.specs.{ContextTable.{no_context, no_core, world_of}, TableChanges.{IsTable, first_context}}
+use Rattle.arachne_core.proofs.{OccupancyWords.{vacant-length, vacant-flag, vacant-open}, Runs.first_in}
 
 -- ---- a swap of two contexts
 

@@ -1,14 +1,10 @@
 -- The World that a table stands for, after one change to its lists.
-use Rattle.std.proofs.Common.{◌≡◌, ℕ, ◌+◌, ◌<◌, Bool, true, false, cond, inl, inr, List, [], ◌∷◌, ◌++◌, length, get_or, set, refl, sym, ap, ◌∙◌, arith}
-use Rattle.std.proofs.lemmas.Bool.{cases_eq}
-use Rattle.std.proofs.lemmas.List.Sums.{sum_by_push}
-use Rattle.std.proofs.lemmas.List.{length-set, get_or-set_same, get_or-set_other}
-use Rattle.arachne_core.specs.declared.place.Place.{Place}
-use Rattle.arachne_core.specs.declared.state.Context.{Context}
-use Rattle.arachne_core.specs.Occupancy.{Occupancy}
+use Rattle.std.proofs.Common.{◌≡◌, ℕ, ◌+◌, ◌<◌, Bool, true, false, cond, inl, inr, List, [], ◌∷◌, ◌++◌, length, get_or, set, refl, sym, ap, ◌∙◌, arith, length-set, get_or-set_same, get_or-set_other}
+use Rattle.std.proofs.lemmas.{Bool.cases_eq, List.Sums.sum_by_push}
+use Rattle.arachne_core.specs.{declared.place.Place.Place, declared.state.Context.Context, Occupancy.Occupancy}
 use Rattle.arachne_core.specs.World.{World, Thread, with_at, with_place, with_thread, same_thread}
 use Rattle.arachne_core.specs.ContextTable.{ContextTable, context, core, no_context, no_core, times, world_of}
-use Rattle.arachne_core.specs.TableChanges.{with_context, with_occupied, with_closed, with_exclusive, with_swapped, HasPlace}
+use Rattle.arachne_core.specs.TableChanges.{with_context, with_occupied, with_exclusive, with_swapped, HasPlace}
 use Rattle.arachne_core.proofs.Changes.{with_at-same, with_at-other, with_place-same, with_place-other, cases_place}
 
 -- a field of the items of a list in which one item was replaced
@@ -80,17 +76,6 @@ occupied_world k p b h =
 kept_places : (k : ContextTable) (c : ℕ) (o : Occupancy) → c < length k.cores → o.occupied ≡ (core k c).occupied
     → (q : Place) → get_or (get_or (set k.cores c o) q.core no_core).occupied q.index false ≡ (world_of k).occupied q
 kept_places k c o h e q = ap (λ (bs : List Bool). get_or bs q.index false) (field_kept (λ (o' : Occupancy). o'.occupied) k.cores c o no_core h e q.core)
-
-pub closed_world : (k : ContextTable) (c : ℕ) (b : Bool) → c < length k.cores
-    → world_of (with_closed k c b) ≡ record (world_of k) { closed = with_at (world_of k).closed c b }
-closed_world k c b h =
-    let w : World = world_of k in
-    let new : Occupancy = record (core k c) { closed = b } in
-    let occupied = kept_places k c new h refl in
-    let count : length (set k.cores c new) ≡ length k.cores = length-set k.cores c new in
-    let closed = field_changed (λ (o : Occupancy). o.closed) k.cores c new no_core h in
-    let alone = field_kept (λ (o : Occupancy). o.exclusive) k.cores c new no_core h refl in
-    λ i. record w { cores = count i; occupied = λ q. occupied q i; closed = λ y. closed y i; alone = λ y. alone y i }
 
 pub exclusive_world : (k : ContextTable) (c : ℕ) (b : Bool) → c < length k.cores
     → world_of (with_exclusive k c b) ≡ record (world_of k) { alone = with_at (world_of k).alone c b }

@@ -1,9 +1,7 @@
 -- The definitions of the words, computed on worked values. No other proof rests on these.
-use Rattle.std.proofs.Common.{◌≡◌, ℕ, ◌+◌, ◌-◌, ◌*◌, ◌^◌, ◌<◌, Bool, true, false, List, [], ◌∷◌, get_or, refl, arith}
-use Rattle.arachne_core.specs.declared.mark.Mark.{Mark}
-use Rattle.arachne_core.specs.declared.mark.Mark.TheVariants.{Free, Ready, Blocked, Held, Woken, Spent}
-use Rattle.arachne_core.specs.declared.place.Place.{Place}
-use Rattle.arachne_core.specs.Place.{first_place, number_of}
+use Rattle.std.proofs.Common.{◌≡◌, ℕ, ◌+◌, ◌-◌, ◌*◌, ◌^◌, Bool, true, false, List, [], ◌∷◌, get_or, refl, arith}
+use Rattle.arachne_core.specs.declared.mark.Mark.{Mark, TheVariants.{Free, Ready, Blocked, Held, Woken, Spent}}
+use Rattle.arachne_core.specs.{declared.place.Place.Place, Place.{first_place, number_of}}
 use Rattle.arachne_core.specs.Occupancy.{mask_of, count_of, occupancy_word, flags, occupancy_of, count_field, IsOccupancyWord, vacant}
 use Rattle.arachne_core.specs.Marked.{Marked, mark_code, mark_word, marked_of, IsMarkWord, FitsWord, with_mark, with_place}
 

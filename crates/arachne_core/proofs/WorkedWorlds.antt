@@ -1,19 +1,13 @@
 -- The definitions of the World on small worlds: events that must be allowed are, with their effects; others are not;
 -- and each fact of `OwnedOnce` refuses a world that breaks it. No other proof rests on these.
-use Rattle.std.proofs.Common.{◌≡◌, ℕ, zero, suc, ◌+◌, ◌*◌, ◌<◌, Bool, true, false, eqb, inl, inr, List, [], ◌∷◌, refl, sym, ap, ◌∙◌, arith}
-use Rattle.std.proofs.lemmas.Bool.{true≢false}
-use Rattle.arachne_core.specs.declared.place.Place.{Place}
-use Rattle.arachne_core.specs.declared.state.State.{State}
+use Rattle.std.proofs.Common.{◌≡◌, ℕ, true, false, eqb, inl, inr, List, [], ◌∷◌, refl, sym, ap, arith, true≢false}
+use Rattle.arachne_core.specs.{declared.{place.Place.Place, event.Event.Event}, Place.first_place, OwnedOnce.OwnedOnce}
 use Rattle.arachne_core.specs.declared.state.State.TheVariants.{Free, Claimed, Ready, Blocked, Held, Spent}
+use Rattle.arachne_core.specs.{World.{World, Thread, Allowed, after, put_back}, ContextTable.marked}
+use Rattle.arachne_core.specs.Run.{IsOpening, IsRun, after_all, IsDrained, NeverOpens, NeverLetsGo}
 use Rattle.arachne_core.specs.declared.state.Rest.TheVariants as rest
 use Rattle.arachne_core.specs.declared.mark.Mark.TheVariants as mark
-use Rattle.arachne_core.specs.declared.event.Event.{Event}
 use Rattle.arachne_core.specs.declared.event.Event.TheVariants as event
-use Rattle.arachne_core.specs.Place.{first_place}
-use Rattle.arachne_core.specs.World.{World, Thread, Allowed, after, put_back}
-use Rattle.arachne_core.specs.OwnedOnce.{OwnedOnce}
-use Rattle.arachne_core.specs.Run.{IsOpening, IsRun, after_all, IsDrained, NeverOpens, NeverLetsGo}
-use Rattle.arachne_core.specs.ContextTable.{marked}
 
 -- two cores of two places, with two generations: 0 and 1
 abbrev begun : World

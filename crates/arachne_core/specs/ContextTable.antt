@@ -1,18 +1,12 @@
 -- The model of the type World: its contexts and cores in lists by number, and the World that these stand for.
 use Rattle.std.specs.Prelude.{◌≡◌, ℕ, ◌+◌, ◌≤◌, Bool, true, false, ◌&&◌, List, [], length, count_by, slice_index_or, Result, Ok, Err, codes}
-use Rattle.arachne_core.specs.declared.state.Context.{Context}
-use Rattle.arachne_core.specs.declared.state.State.{State}
+use Rattle.arachne_core.specs.declared.{state.{Context.Context, State.State}, event.Event.Event}
+use Rattle.arachne_core.specs.declared.event.NotApplied.{NotApplied, TheVariants.{NotAllowed, Memory}}
+use Rattle.arachne_core.specs.{declared.{mark.Mark.Mark, layout.TheConstants.LAST_GENERATION}, Occupancy.Occupancy}
+use Rattle.arachne_core.specs.{Marked.Marked, World.{World, Thread, same_thread, core_of, Allowed, after}}
 use Rattle.arachne_core.specs.declared.state.State.TheVariants as state
-use Rattle.arachne_core.specs.declared.event.Event.{Event}
 use Rattle.arachne_core.specs.declared.event.Event.TheVariants as event
-use Rattle.arachne_core.specs.declared.event.NotApplied.{NotApplied}
-use Rattle.arachne_core.specs.declared.event.NotApplied.TheVariants.{NotAllowed, Memory}
-use Rattle.arachne_core.specs.declared.mark.Mark.{Mark}
 use Rattle.arachne_core.specs.declared.mark.Mark.TheVariants as mark
-use Rattle.arachne_core.specs.declared.layout.TheConstants.{LAST_GENERATION}
-use Rattle.arachne_core.specs.Occupancy.{Occupancy}
-use Rattle.arachne_core.specs.Marked.{Marked}
-use Rattle.arachne_core.specs.World.{World, Thread, same_thread, core_of, Allowed, after}
 
 pub record ContextTable : Type 0 where
   pub contexts : List Context

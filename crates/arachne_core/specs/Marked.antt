@@ -1,11 +1,7 @@
 -- The mark word of a context, and its fields. The core's number has b bits, and the bits above it are the generation.
-use Rattle.std.specs.Prelude.{◌≡◌, ℕ, ◌+◌, ◌-◌, ◌*◌, ◌/◌, ◌%◌, ◌^◌, ◌<◌, Bool, if◌then◌else◌, ◌==◌}
-use Rattle.std.specs.Int.{bit_at}
-use Rattle.arachne_core.specs.declared.mark.Mark.{Mark}
-use Rattle.arachne_core.specs.declared.mark.Mark.TheVariants.{Free, Ready, Blocked, Held, Woken, Spent}
-use Rattle.arachne_core.specs.declared.place.Place.{Place}
-use Rattle.arachne_core.specs.declared.layout.TheConstants.{SLOTS}
-use Rattle.arachne_core.specs.Occupancy.{bit}
+use Rattle.std.specs.{Prelude.{◌≡◌, ℕ, ◌+◌, ◌-◌, ◌*◌, ◌/◌, ◌%◌, ◌^◌, ◌<◌, Bool, if◌then◌else◌, ◌==◌}, Int.bit_at}
+use Rattle.arachne_core.specs.declared.mark.Mark.{Mark, TheVariants.{Free, Ready, Blocked, Held, Woken, Spent}}
+use Rattle.arachne_core.specs.{declared.place.Place.Place, declared.layout.TheConstants.SLOTS, Occupancy.bit}
 
 -- a context's mark, whether its core is exclusive to its thread, its place, and its generation
 pub record Marked : Type 0 where

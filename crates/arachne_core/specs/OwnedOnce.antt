@@ -1,9 +1,7 @@
 -- The invariant that each event keeps: every context, place and thread has one owner.
 use Rattle.std.specs.Prelude.{◌≡◌, ◌≢◌, ℕ, ◌+◌, ◌*◌, ◌<◌, ◌≤◌, ◌⊎◌, ◌↔◌, Bool, false, ◌&&◌, if◌then◌else◌, ◌==◌, nat_lt, IsTrue}
-use Rattle.arachne_core.specs.declared.place.Place.{Place}
-use Rattle.arachne_core.specs.declared.state.State.{State}
-use Rattle.arachne_core.specs.declared.state.State.TheVariants.{Free, Claimed, Ready, Blocked, Held}
-use Rattle.arachne_core.specs.World.{World, Thread, IsContext, IsPlace}
+use Rattle.arachne_core.specs.{World.{World, Thread, IsContext, IsPlace}, declared.place.Place.Place}
+use Rattle.arachne_core.specs.declared.state.State.{State, TheVariants.{Free, Claimed, Ready, Blocked, Held}}
 
 -- the state is that of a live thread with this tag
 abbrev pub has_thread : State → ℕ → Bool

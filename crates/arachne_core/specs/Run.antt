@@ -1,9 +1,7 @@
 -- Runs of the World, and what is true in each.
 use Rattle.std.specs.Prelude.{◌≡◌, ◌≢◌, ℕ, ◌<◌, ◌≤◌, Bool, false, List, [], ◌∷◌, IsTrue}
-use Rattle.arachne_core.specs.declared.place.Place.{Place}
-use Rattle.arachne_core.specs.declared.event.Event.{Event}
+use Rattle.arachne_core.specs.declared.{place.Place.Place, event.Event.Event, state.State.TheVariants.{Free, Held}}
 use Rattle.arachne_core.specs.declared.event.Event.TheVariants as event
-use Rattle.arachne_core.specs.declared.state.State.TheVariants.{Free, Held}
 use Rattle.arachne_core.specs.Place.{first_place}
 use Rattle.arachne_core.specs.World.{World, Thread, IsContext, IsPlace, Allowed, after, IsEmptyCore}
 

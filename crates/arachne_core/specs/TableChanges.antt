@@ -1,13 +1,8 @@
 -- The lists of a table: their invariant, and one change at a time.
 use Rattle.std.specs.Prelude.{◌≡◌, ℕ, ◌*◌, ◌<◌, ◌≤◌, ◌+◌, Bool, List, slice_set, slice_index_or, length}
-use Rattle.arachne_core.specs.declared.state.Context.{Context}
-use Rattle.arachne_core.specs.declared.place.Place.{Place}
-use Rattle.arachne_core.specs.declared.event.Event.{Event}
-use Rattle.arachne_core.specs.declared.state.State.TheVariants.{Free}
-use Rattle.arachne_core.specs.declared.layout.TheConstants.{CORES, SLOTS, MASK_BITS, LAST_GENERATION}
-use Rattle.arachne_core.specs.Place.{first_place, number_of}
-use Rattle.arachne_core.specs.Occupancy.{Occupancy}
-use Rattle.arachne_core.specs.World.{after}
+use Rattle.arachne_core.specs.declared.{state.{Context.Context, State.TheVariants.Free}, place.Place.Place}
+use Rattle.arachne_core.specs.{declared.event.Event.Event, Place.{first_place, number_of}, Occupancy.Occupancy}
+use Rattle.arachne_core.specs.{declared.layout.TheConstants.{CORES, SLOTS, MASK_BITS, LAST_GENERATION}, World.after}
 use Rattle.arachne_core.specs.ContextTable.{ContextTable, no_context, no_core, context, core, world_of, IsVacantFrom, posts_of, retires_of}
 
 abbrev pub with_context : ContextTable → ℕ → Context → ContextTable

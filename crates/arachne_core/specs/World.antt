@@ -2,15 +2,11 @@
 -- There are no packed words here, and an event has no steps: sets are tests, maps are functions, and a collection
 -- counts each of its members.
 use Rattle.std.specs.Prelude.{◌≡◌, ◌≢◌, ℕ, ◌+◌, ◌*◌, ◌<◌, Bool, true, false, ◌&&◌, if◌then◌else◌, ◌==◌, nat_lt}
-use Rattle.arachne_core.specs.declared.place.Place.{Place}
-use Rattle.arachne_core.specs.declared.thread_id.ThreadId.{ThreadId}
-use Rattle.arachne_core.specs.declared.state.State.{State}
-use Rattle.arachne_core.specs.declared.state.State.TheVariants.{Free, Claimed, Ready, Blocked, Held, Spent}
-use Rattle.arachne_core.specs.declared.state.Rest.{Rest}
+use Rattle.arachne_core.specs.declared.{place.Place.Place, thread_id.ThreadId.ThreadId, state.State.State}
+use Rattle.arachne_core.specs.declared.state.{State.TheVariants.{Free, Claimed, Ready, Blocked, Held, Spent}, Rest.Rest}
 use Rattle.arachne_core.specs.declared.state.Rest.TheVariants as rest
-use Rattle.arachne_core.specs.declared.event.Event.{Event}
+use Rattle.arachne_core.specs.{declared.event.Event.Event, Place.same_place}
 use Rattle.arachne_core.specs.declared.event.Event.TheVariants as event
-use Rattle.arachne_core.specs.Place.{same_place}
 
 -- a thread as its poster knows it: its id and its tag
 abbrev pub Thread : Type 0

@@ -1,5 +1,4 @@
 //! The events of a context table, which stores user threads.
-
 ghost use Rattle.std.specs.Prelude.{Some};
 ghost use Rattle.arachne_core.specs.ContextTable.{refusal_text};
 
@@ -8,78 +7,73 @@ use crate::thread_id::ThreadId;
 use std::error::Error;
 use std::fmt;
 
-/// A change of a context table, which stores user threads.
+/// A change of a context table, which stores user threads. Each atomic operation of a table is one of these events.
 ///
-/// A context is the record of one thread, and `carrier` the number of a seat, which is one kernel thread's right to
-/// call the table. Each atomic operation of a table is one of these events; an operation that changes nothing is
-/// `Still`.
+/// A context is the record of one thread. `carrier` is the number of the caller's seat (its right to call the table).
 #[derive(Clone, Copy, Debug, PartialEq, Eq)]
 pub enum Event {
-    /// The seat `carrier` claims (reserves) a free context on a core that is neither closed nor exclusive to one
-    /// thread.
+    /// The caller reserves a free context (thread record) on a core that is open and not exclusive to one thread.
     Claim {
         carrier: u32,
         context: u32,
     },
-    /// The seat `carrier` claims the context at index 0 of an empty core. The core is then exclusive: it takes no other
-    /// thread.
+    /// The caller reserves the context (thread record) at index 0 of an empty core, which then takes no other thread.
     Alone {
         carrier: u32,
         context: u32,
     },
-    /// The seat `carrier` puts the thread with the number `tag`, ready to run, into a context that the seat has
-    /// claimed.
+    /// The caller puts a new, ready thread with the number `tag` into a context (thread record) that it has reserved.
     Post {
         carrier: u32,
         context: u32,
         tag: u64,
     },
-    /// The seat `carrier` takes the ready thread of this context, to run it.
+    /// The caller takes the ready thread of this context (thread record), to run it.
     Take {
         carrier: u32,
         context: u32,
     },
-    /// The seat `carrier` stops running the thread of this context, and makes it ready or blocked.
+    /// The caller stops running the thread of this context (thread record), which becomes ready or blocked.
     Rest {
         carrier: u32,
         context: u32,
         rest: Rest,
     },
-    /// A seat wakes the thread with this id.
+    /// The caller wakes the thread with this id.
     Wake {
         id: ThreadId,
     },
-    /// The seat `carrier` ends the thread of this context, which the seat holds. The seat then has a claim of the
-    /// thread's slot on the core.
+    /// The caller ends the thread that it runs in this context (thread record). The context stays reserved for the
+    /// caller, unless this was the last thread that it may have.
     Retire {
         carrier: u32,
         context: u32,
     },
-    /// The seat `carrier` frees a context that it has claimed.
+    /// The caller frees a context (thread record) that it has reserved.
     Release {
         carrier: u32,
         context: u32,
     },
-    /// The core `core` is closed: no context can be claimed on it until it is opened.
+    /// The core takes no new threads until it is opened.
     CloseCore {
         core: u8,
     },
-    /// The core `core` is opened: contexts can be claimed on it again.
+    /// The core takes new threads again.
     OpenCore {
         core: u8,
     },
-    /// The seat `carrier` moves the thread in context `from`, which no seat holds, to another core: to the slot of
-    /// context `to`, which the seat has claimed there. The two contexts then have each other's slots.
+    /// The caller moves a thread that nobody runs to the slot of context `to`, which the caller has reserved on another
+    /// core. The two contexts (thread records) exchange their slots.
     Move {
         carrier: u32,
         from: u32,
         to: u32,
     },
-    /// Nothing changes.
+    /// An atomic operation that changes no context, core or thread, such as a read.
     Still,
 }
 
-/// The reason why an event was refused. The table's state is then unchanged.
+/// The reason why a context table refused an event, and stayed unchanged.
 #[derive(Clone, Copy, Debug, PartialEq, Eq)]
 pub enum NotApplied {
     /// The table's state does not allow the event, or the table has no such core or context.

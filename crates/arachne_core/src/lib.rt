@@ -1,9 +1,10 @@
-//! The specification of context tables as a type, `World`, with its events, and the packed atomic words of a table.
+//! A sequential table of user threads (`World`), its changes (`Event`), and the packed words of such a table.
 //!
-//! A *context* is the record of one user thread. It belongs to one of a core's thread slots, in the code a *place*. A
-//! *seat* is one kernel thread's right to call a table. The seat *claims* a free context to put a thread there, and
-//! *holds* a thread from the take until the thread is put back or ended. Each implementation of a table is proved
-//! against the events: each of its atomic steps is one of them.
+//! A *context* is the record of one user thread. Each context stands in one of a core's thread slots, in the code a
+//! *place*. A *seat* is one kernel thread's right to call a table. A seat *claims* (reserves) a free context to put a
+//! thread there. A seat *holds* (runs) a thread from the take until the thread is put back or ended. A `World` is the
+//! abstract state of each concurrent table, to which contracts and proofs refer. Each concurrent table is proved to
+//! make no changes of this state but these `Event`s.
 #![tactic(auto)]
 
 mod event;

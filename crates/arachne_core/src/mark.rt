@@ -1,21 +1,19 @@
 //! The state of a context as its atomic word, the mark word, shows it. The word shows neither which seat has claimed
 //! the context or holds its thread, nor the thread's tag.
-
-/// The state of a context, the record of a user thread, as its mark word shows it. That word also has the context's
-/// slot and generation.
+/// The state of a context (thread record) in its packed word, without the thread's number and who runs the thread.
 #[derive(Clone, Copy, Debug, PartialEq, Eq)]
 pub enum Mark {
-    /// The context has no thread: it is free, or a seat has claimed (reserved) it.
+    /// The context (thread record) is free or reserved, and has no thread.
     Free = 0,
-    /// The thread is ready: any kernel thread may take it and run it.
+    /// Any kernel thread may take the thread and run it.
     Ready = 1,
     /// The thread is blocked until it is woken.
     Blocked = 2,
-    /// The thread runs: a seat (a kernel thread's right to call the table) holds it.
+    /// A kernel thread runs the thread.
     Held = 3,
-    /// The thread runs, and was woken since a seat (a kernel thread's right to call the table) took it.
+    /// A kernel thread runs the thread, which was woken since it was taken.
     Woken = 4,
-    /// The thread of the context's last generation has ended, so the context is never used again.
+    /// The context (thread record) has had its last thread, and is never used again.
     Spent = 5,
 }
 
@@ -23,14 +21,14 @@ impl Mark {
     ghost use Rattle.std.specs.Prelude.{◌≡◌, ◌<◌};
     ghost use Rattle.arachne_core.specs.Marked.{mark_code, mark_named};
 
-    /// Returns the number by which a mark word stores this state.
+    /// Returns the number that stands for this state in a context's packed word (mark word).
     pub fn code(self) -> u64
         ensures { result ≡ mark_code self }
     {
         self as u64
     }
 
-    /// Returns the state that has this number in a mark word.
+    /// Returns the state for which this number stands in a context's packed word (mark word).
     pub fn from_code(code: u64) -> Self
         requires { code < 6 }
         ensures { result ≡ mark_named code }

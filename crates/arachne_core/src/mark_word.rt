@@ -1,5 +1,4 @@
 //! The mark word of a context: its state, its slot on a core, and its generation, packed into 64 bits.
-
 ghost use Rattle.std.specs.Prelude.{◌≡◌, ◌<◌, ◌≤◌, ◌↔◌, IsSome, IfSome, ◌^◌};
 ghost use Rattle.arachne_core.specs.Marked.{Marked, mark_word, marked_of, IsMarkWord, FitsWord};
 
@@ -26,10 +25,10 @@ const FIRST_CORE_MASK: u64 = (1 << FIRST_CORE_BITS) - 1;
 
 const FIRST_GENERATION_SHIFT: u32 = CORE_SHIFT + FIRST_CORE_BITS;
 
-/// The state, slot and generation of a context (the record of a user thread), packed into one word.
+/// The state, slot and generation (count of ended threads) of a context (user thread's record), packed into one word.
 ///
-/// The mark (the context's state) is in bits 0 to 2, `alone` (true if its thread has the core for itself) in bit 3, the
-/// slot's index on its core in bits 4 to 9, the core's number in bits 10 to 15, and the generation in the bits above.
+/// Bits 0 to 2 are the state, and bit 3 is set if the thread has its core for itself. Bits 4 to 9 are the slot's index,
+/// bits 10 to 15 its core's number, and the bits above the generation.
 #[derive(Clone, Copy, Debug, PartialEq, Eq)]
 pub struct MarkWord {
     word: u64,
@@ -52,7 +51,6 @@ impl Model for MarkWord {
 }
 
 impl MarkWord {
-    /// Returns the mark word with these fields.
     pub fn new(mark: Mark, alone: bool, place: Place, generation: u64) -> Self
         requires { FitsWord CORE_BITS (record { mark = mark; alone = alone; place = place; generation = generation }) }
         ensures { result ≡ record { mark = mark; alone = alone; place = place; generation = generation } }
@@ -65,7 +63,8 @@ impl MarkWord {
         }
     }
 
-    /// Unpacks a mark word. Returns `None` if its mark is not one of the six states, or its index is not less than 56.
+    /// Unpacks a mark word (packed thread record). Returns `None` if the state is not one of the six, or the slot's
+    /// index is not less than 56.
     pub fn from_word(word: u64) -> Option<Self>
         ensures some { IsSome result ↔ IsMarkWord CORE_BITS word }
         ensures value { IfSome result (λ mark. mark ≡ marked_of CORE_BITS word) }
@@ -77,10 +76,9 @@ impl MarkWord {
         }
     }
 
-    /// Reads a mark word of the older layout, in which the core had 4 bits and the generation 50.
+    /// Converts a mark word (packed thread record) of the older layout: 4 bits for the core, 50 for the generation.
     ///
-    /// Returns a word of today's layout with the same fields, or `None` if the mark is not one of the six states, the
-    /// index is not less than 56, or the generation is greater than the last.
+    /// Returns `None` if the state is none of the six, the slot's index is over 55, or the generation exceeds 48 bits.
     pub fn from_first(word: u64) -> Option<Self>
         ensures some { IsSome result ↔ (IsMarkWord FIRST_CORE_BITS word × ((marked_of FIRST_CORE_BITS word).generation ≤ LAST_GENERATION)) }
         ensures value { IfSome result (λ mark. mark ≡ marked_of FIRST_CORE_BITS word) }
@@ -99,7 +97,7 @@ impl MarkWord {
         }
     }
 
-    /// Returns the packed word as a number.
+    /// Returns the packed word.
     pub fn word(self) -> u64
         ensures packed { result ≡ mark_word CORE_BITS self }
         ensures read { IsMarkWord CORE_BITS result × (marked_of CORE_BITS result ≡ self) }
@@ -113,14 +111,14 @@ impl MarkWord {
         Mark::from_code(self.word & MARK_MASK)
     }
 
-    /// Returns whether the context's thread has its core for itself (the `alone` bit).
+    /// Returns true if the thread has its core for itself.
     pub fn is_alone(self) -> bool
         ensures { result ≡ self.alone }
     {
         self.word & ALONE != 0
     }
 
-    /// Returns the context's slot: its core and its index there.
+    /// Returns the thread's slot, which is a core and an index there.
     pub fn place(self) -> Place
         ensures value { result ≡ self.place }
         ensures within { (result.core < CORES) × (result.index < SLOTS) }

@@ -1,5 +1,4 @@
 //! The occupancy word of a core: which of its thread slots are occupied, packed into 64 bits.
-
 ghost use Rattle.std.specs.Prelude.{◌≡◌, ◌≢◌, ◌<◌, ◌≤◌, ◌↔◌, ◌+◌, ◌^◌, ℕ, IsTrue, true, false, IsSome, IfSome, IfNone, EachIndex, slice_index_or, slice_set};
 ghost use Rattle.arachne_core.specs.Occupancy.{mask_of, count_of, flags, occupancy_word, occupancy_of, IsOccupancyWord, vacant};
 
@@ -11,20 +10,20 @@ const COUNT_SHIFT: u32 = MASK_BITS as u32;
 /// The mask of a core whose 56 thread slots are all occupied.
 pub const FULL_MASK: u64 = (1 << COUNT_SHIFT) - 1;
 
-/// The number 1 in the count field: added to an occupancy word, it raises the count of occupied slots by one.
+/// The number to add to a core's occupancy word to raise its count of occupied slots by one.
 pub const COUNT_ONE: u64 = 1 << COUNT_SHIFT;
 
 const COUNT_MASK: u64 = (1 << 6) - 1;
 
 const CLOSED: u64 = 1 << 62;
 
-/// The bit of an occupancy word that is set if one thread has the core for itself.
+/// The bit of a core's occupancy word that is set if one thread has the core for itself.
 pub const EXCLUSIVE: u64 = 1 << 63;
 
-/// The occupancy word of a core: which of its thread slots are occupied.
+/// The occupancy word of a core, which says which of its thread slots are occupied.
 ///
-/// The mask of the occupied slots is in bits 0 to 55, the number of its set bits in bits 56 to 61. Bit 62 is set if the
-/// core is closed (takes no new threads), and bit 63 if it is exclusive (one thread has it for itself).
+/// Bits 0 to 55 are the mask of the occupied slots, and bits 56 to 61 their number. Bit 62 is set if the core is closed
+/// (takes no new threads), and bit 63 if it is exclusive (one thread has it for itself).
 #[derive(Clone, Copy, Debug, PartialEq, Eq)]
 pub struct OccWord {
     word: u64,
@@ -46,14 +45,14 @@ impl Model for OccWord {
 }
 
 impl OccWord {
-    /// Returns the word of an open core with no occupied slot: 0.
+    /// Returns the word of an open core with no occupied slot, which is 0.
     pub fn empty() -> Self
         ensures { result ≡ vacant }
     {
         OccWord { word: 0 }
     }
 
-    /// Returns the word with this mask. The word's count is the number of set bits in `mask`.
+    /// Returns the word with this mask of occupied slots.
     pub fn new(mask: u64, closed: bool, exclusive: bool) -> Self
         requires { mask < 2 ^ MASK_BITS }
         ensures { result ≡ record { occupied = flags MASK_BITS mask; closed = closed; exclusive = exclusive } }
@@ -66,7 +65,7 @@ impl OccWord {
         }
     }
 
-    /// Unpacks an occupancy word. Returns `None` if its count is not the number of set bits in its mask.
+    /// Unpacks a core's occupancy word. Returns `None` if the count is not the number of set bits in the mask.
     pub fn from_word(word: u64) -> Option<Self>
         ensures some { IsSome result ↔ IsOccupancyWord word }
         ensures value { IfSome result (λ occ. occ ≡ occupancy_of word) }
@@ -78,7 +77,7 @@ impl OccWord {
         }
     }
 
-    /// Returns the packed word as a number.
+    /// Returns the packed word.
     pub fn word(self) -> u64
         ensures packed { result ≡ occupancy_word self }
         ensures read { IsOccupancyWord result × (occupancy_of result ≡ self) }
@@ -86,7 +85,7 @@ impl OccWord {
         self.word
     }
 
-    /// Returns the mask, in which bit i is set if the slot with index i is occupied.
+    /// Returns the mask, in which bit i is set if slot i is occupied.
     pub fn mask(self) -> u64
         ensures bits { result ≡ mask_of self.occupied }
         ensures within { result < 2 ^ MASK_BITS }
@@ -114,7 +113,7 @@ impl OccWord {
         self.word & EXCLUSIVE != 0
     }
 
-    /// Returns whether no slot is occupied.
+    /// Returns true if no slot is occupied.
     pub fn is_empty(self) -> bool
         ensures { IsTrue result ↔ EachIndex self.occupied (λ i. slice_index_or self.occupied i false ≡ false) }
     {
@@ -128,7 +127,7 @@ impl OccWord {
         (self.word >> u32::from(index)) & 1 == 1
     }
 
-    /// Returns the lowest index of a free thread slot, or `None` if all 56 are occupied.
+    /// Returns the lowest index of a free slot, or `None` if all 56 are occupied.
     pub fn lowest_free(self) -> Option<u8>
         ensures within { IfSome result (λ free. free < MASK_BITS) }
         ensures free { IfSome result (λ free. slice_index_or self.occupied free false ≡ false) }
@@ -143,7 +142,7 @@ impl OccWord {
         }
     }
 
-    /// Returns the lowest index below `slots` of a free thread slot, or `None` if there is none.
+    /// Returns the lowest index below `slots` of a free slot, or `None` if no such slot is free.
     pub fn lowest_free_below(self, slots: u8) -> Option<u8>
         requires { slots ≤ MASK_BITS }
         ensures within { IfSome result (λ free. free < slots) }
@@ -157,8 +156,7 @@ impl OccWord {
         }
     }
 
-    /// Returns a copy of this word in which the thread slot `index` is occupied, with the count one higher if it was
-    /// free.
+    /// Returns a copy of this word in which slot `index` is occupied.
     pub fn with_bit(self, index: u8) -> Self
         requires { index < MASK_BITS }
         ensures { result ≡ record self { occupied = slice_set self.occupied index true } }
@@ -172,8 +170,7 @@ impl OccWord {
         }
     }
 
-    /// Returns a copy of this word in which the thread slot `index` is free, with the count one lower if it was
-    /// occupied.
+    /// Returns a copy of this word in which slot `index` is free.
     pub fn without_bit(self, index: u8) -> Self
         requires { index < MASK_BITS }
         ensures { result ≡ record self { occupied = slice_set self.occupied index false } }
@@ -187,7 +184,6 @@ impl OccWord {
         }
     }
 
-    /// Returns a copy of this word whose closed bit is set if `closed` is true, and otherwise cleared.
     pub fn with_closed(self, closed: bool) -> Self
         ensures { result ≡ record self { closed = closed } }
     {
@@ -196,7 +192,6 @@ impl OccWord {
         OccWord { word }
     }
 
-    /// Returns a copy of this word whose exclusive bit is set if `exclusive` is true, and otherwise cleared.
     pub fn with_exclusive(self, exclusive: bool) -> Self
         ensures { result ≡ record self { exclusive = exclusive } }
     {

@@ -1,5 +1,4 @@
 //! A place: one of a core's thread slots. All places of a table are also numbered from 0.
-
 /// A thread slot of a core. Each slot has one context, the record of a thread.
 #[derive(Clone, Copy, Debug, PartialEq, Eq)]
 pub struct Place {
@@ -13,7 +12,7 @@ impl Place {
     ghost use Rattle.std.specs.Prelude.{◌≡◌, ◌*◌, ◌<◌};
     ghost use Rattle.arachne_core.specs.Place.{first_place, number_of};
 
-    /// Returns the slot of `context` in a new table whose cores have `slots` slots each.
+    /// Returns the slot of `context` (a thread record's number) in a new table whose cores have `slots` slots each.
     pub fn of_context(context: u32, slots: u8) -> Self
         requires { context < 256 * slots }
         ensures { result ≡ first_place slots context }
@@ -25,8 +24,7 @@ impl Place {
         }
     }
 
-    /// Returns the number of the context (the record of a user thread) in this slot of a new table whose cores have
-    /// `slots` slots each.
+    /// Returns the number of the context (thread record) in this slot of a new table with `slots` slots on each core.
     pub fn number(self, slots: u8) -> u32
         ensures { result ≡ number_of slots self }
     {

@@ -1,43 +1,41 @@
 //! The states of a context (free, claimed, ready, blocked, held by a seat), and what each state permits.
-
 use crate::layout::LAST_GENERATION;
 use crate::mark::Mark;
 use crate::place::Place;
 
-/// The state of a context, which is the record of one user thread.
+/// The state of a context (user thread's record).
 ///
-/// `carrier` is the number of the seat (a kernel thread's right to call the table) that has claimed the context, or
-/// that holds its thread. `tag` is the number with which the thread came into the table.
+/// `carrier` is the number of the caller's seat (its right to call the table), and `tag` the thread's number.
 #[derive(Clone, Copy, Debug, PartialEq, Eq)]
 pub enum State {
-    /// The context has no thread, and no seat has claimed it.
+    /// The context (thread record) has no thread, and is not reserved.
     Free,
-    /// The context has no thread yet. The seat `carrier` has reserved it, and may put a thread into it.
+    /// The context (thread record) has no thread yet. Only the caller with the number `carrier` may put a thread there.
     Claimed { carrier: u32 },
-    /// The thread is ready: a seat may take it.
+    /// Any kernel thread may take the thread and run it.
     Ready { tag: u64 },
     /// The thread is blocked until it is woken.
     Blocked { tag: u64 },
-    /// The seat `carrier` holds the thread, and runs it. `woken` is true if the thread was woken since the seat took
-    /// it.
+    /// The caller with the number `carrier` runs the thread. `woken` is true if the thread was woken since it was
+    /// taken.
     Held { carrier: u32, woken: bool, tag: u64 },
-    /// The thread of the context's last generation has ended. The context is never used again.
+    /// The context (thread record) has had its last thread, and is never used again.
     Spent,
 }
 
-/// The state in which a thread is put back into the table: ready or blocked.
+/// The state in which a thread is put back into the table.
 #[derive(Clone, Copy, Debug, PartialEq, Eq)]
 pub enum Rest {
-    /// The thread is ready: any kernel thread may take it and run it.
+    /// Any kernel thread may take the thread and run it.
     Ready,
-    /// The thread is blocked until it is woken. If it was woken since it was taken, it is ready instead.
+    /// The thread is blocked until it is woken. A thread that was woken since it was taken becomes ready instead.
     Blocked,
 }
 
-/// The table's record of a user thread: its slot on a core, its generation, and its state.
+/// The table's record of a user thread.
 #[derive(Clone, Copy, Debug, PartialEq, Eq)]
 pub struct Context {
-    /// The context's slot on a core. The slot changes if the context's thread is moved to another core.
+    /// The slot on a core, which changes if the thread is moved to another core.
     pub place: Place,
     /// The number of threads that have ended in the context, plus the table's first generation.
     pub generation: u64,
@@ -76,8 +74,6 @@ impl State {
         }
     }
 
-    /// Returns whether the context (the record of a user thread) has a thread that no seat (a kernel thread's right to
-    /// call the table) holds: a ready or a blocked one.
     pub(crate) fn is_at_rest(self) -> bool
         ensures { IsTrue result ↔ IsAtRest self }
     {
@@ -99,8 +95,6 @@ impl State {
         }
     }
 
-    /// Returns whether a wake would change this state: the thread is blocked, or held by a seat (a kernel thread's
-    /// right to call the table) and not woken yet.
     pub(crate) fn can_be_woken(self) -> bool
         ensures { IsTrue result ↔ CanBeWoken self }
     {
@@ -111,8 +105,6 @@ impl State {
         }
     }
 
-    /// Returns whether there is a thread, be it ready, blocked or held by a seat (a kernel thread's right to call the
-    /// table).
     pub(crate) fn is_live(self) -> bool
         ensures { result ≡ is_live_state self }
     {
@@ -122,7 +114,6 @@ impl State {
         }
     }
 
-    /// Returns the tag of the thread, or 0 if there is none.
     pub(crate) fn tag(self) -> u64
         ensures { result ≡ tag_of self }
     {
@@ -132,8 +123,6 @@ impl State {
         }
     }
 
-    /// Returns this state without the seat (a kernel thread's right to call the table) and the tag, as a mark word (a
-    /// context's atomic word) stores it.
     pub(crate) fn mark(self) -> Mark
         ensures { result ≡ mark_of self }
     {
@@ -147,8 +136,6 @@ impl State {
         }
     }
 
-    /// Returns the state after the seat (a kernel thread's right to call the table) with the number `carrier` has taken
-    /// the thread.
     pub(crate) fn taken(self, carrier: u32) -> Self
         ensures { result ≡ taken carrier self }
     {
@@ -162,8 +149,6 @@ impl State {
         }
     }
 
-    /// Returns the state after the seat (a kernel thread's right to call the table) that held the thread has put it
-    /// back.
     pub(crate) fn put_back(self, rest: Rest) -> Self
         ensures { result ≡ put_back rest self }
     {
@@ -181,7 +166,6 @@ impl State {
         }
     }
 
-    /// Returns the state after the thread was woken.
     pub(crate) fn woken(self) -> Self
         ensures { result ≡ woken self }
     {
@@ -200,8 +184,6 @@ impl State {
 impl Context {
     ghost use Rattle.std.specs.Prelude.{◌≡◌, ◌+◌, ◌<◌, ◌≤◌, nat_lt, if◌then◌else◌};
 
-    /// Returns the context (the record of a user thread) after the seat (a kernel thread's right to call the table)
-    /// with the number `carrier` has ended the thread in it.
     pub(crate) fn retired(self, carrier: u32) -> Self
         requires { self.generation ≤ LAST_GENERATION }
         ensures state { result.state ≡ (if nat_lt self.generation LAST_GENERATION then State.Claimed carrier else State.Spent) }

@@ -1,5 +1,4 @@
 //! The lists of which the type `World` consists, and the effect of each event on them.
-
 ghost use Rattle.std.specs.Prelude.{◌≡◌, ◌≢◌, ℕ, ◌<◌, ◌≤◌, ◌+◌, ◌*◌, ◌↔◌, length, map, IsTrue, IsOk, IfOk, IfErr, OnOk, OnErr, replicate, ◌++◌, ◌∷◌, []};
 ghost use Rattle.std.specs.List.{range_with_len};
 ghost use Rattle.arachne_core.specs.Occupancy.{vacant};
@@ -17,15 +16,14 @@ use crate::thread_id::ThreadId;
 use std::alloc::{AllocError, Global};
 use std::marker::Model;
 
-/// The contexts (the records of user threads) of a table and the occupancy of its cores, by number; and the lists of
-/// the threads that came into the table and of those that have ended, in order.
+/// The contents of a table of user threads. `given` has the threads that were put into it, and `ended` those that have
+/// ended, each with its tag (number), the oldest first.
 #[derive(Debug, Drop)]
 pub struct Tables {
     contexts: Vec<Context>,
     cores: Vec<OccWord>,
-    /// The number of thread slots of each core.
     slots: u8,
-    /// The number of the context in each slot, in the order of the slots' numbers.
+    /// The number of the context in each slot.
     residents: Vec<u32>,
     given: Vec<(ThreadId, u64)>,
     ended: Vec<(ThreadId, u64)>,
@@ -52,8 +50,7 @@ impl Model for Tables {
 }
 
 impl Tables {
-    /// Creates a table whose contexts (the records of user threads) are free, in generation `first_generation`, each in
-    /// the slot with its own number.
+    /// Creates a table whose contexts (thread records) are free, each in the slot with the context's number.
     pub fn new(
         alloc: Global,
         cores: u8,
@@ -82,7 +79,6 @@ impl Tables {
         })
     }
 
-    /// Reserves memory to record `posts` more threads that come into the table, and `retires` more ends of threads.
     pub fn reserve(&mut self, posts: usize, retires: usize) -> Result<(), AllocError>
         ensures kept { self.new ≡ record self.old { posts = self.new.posts; retires = self.new.retires } }
         ensures grown { (self.old.posts ≤ self.new.posts) × (self.old.retires ≤ self.new.retires) }
@@ -108,7 +104,6 @@ impl Tables {
         (number as usize) < self.contexts.len()
     }
 
-    /// Returns the number of cores.
     pub fn count(&self) -> u8
         ensures value { result ≡ length self.now.cores }
         ensures few { result ≤ CORES }
@@ -116,7 +111,6 @@ impl Tables {
         self.cores.len() as u8
     }
 
-    /// Returns the number of thread slots of each core.
     pub fn slots(&self) -> u8
         ensures value { result ≡ self.now.slots }
         ensures some { 1 ≤ result }
@@ -246,7 +240,6 @@ impl Tables {
 
     // ---- whether an event is allowed
 
-    /// Returns whether the event is allowed in this state of the table.
     pub fn allows(&self, event: Event) -> bool
         ensures { IsTrue result ↔ Allowed (world_of self.now) event }
     {
@@ -346,8 +339,7 @@ impl Tables {
 
     // ---- each event, if it is allowed
 
-    /// Changes the lists as the event says. The caller must pass an event that is allowed. If memory is refused,
-    /// nothing changes.
+    /// Changes the table as the event says. If memory is refused, nothing changes.
     pub fn make(&mut self, event: Event) -> Result<(), NotApplied>
         requires { Allowed (world_of self.old) event }
         ensures { Answers event self.old self.new result }
@@ -507,7 +499,6 @@ impl Tables {
     }
 }
 
-/// Returns the contexts (the records of user threads) of a new table, in the order of their numbers.
 fn first_contexts(
     alloc: Global,
     count: u32,
@@ -528,14 +519,12 @@ fn first_contexts(
     Ok(contexts)
 }
 
-/// Returns the occupancy words of a new table: all cores are open, and no slot is occupied.
 fn first_cores(alloc: Global, count: u8) -> Result<Vec<OccWord>, AllocError>
     ensures { IfOk result (λ made. made.items ≡ replicate count vacant) }
 {
     vec![in alloc; OccWord::empty(); usize::from(count)]
 }
 
-/// Returns the number of the context (the record of a user thread) in each slot of a new table: the slot's own number.
 fn first_residents(alloc: Global, count: u32) -> Result<Vec<u32>, AllocError>
     ensures { IfOk result (λ made. made.items ≡ range_with_len 0 count) }
 {

@@ -1,5 +1,4 @@
-//! The state of a context table as a type that a program can use. The specification calls this state a `World`.
-
+//! The abstract state of a context table (`World`), as a type that a program can use.
 use crate::event::{Event, NotApplied};
 use crate::layout::{CORES, LAST_GENERATION, SLOTS};
 use crate::mark_word::MarkWord;
@@ -10,11 +9,12 @@ use crate::tables::Tables;
 use std::alloc::{AllocError, Global};
 use std::marker::Model;
 
-/// A context table for a single caller, in which each event is one call. It serves as the specification of the shared
-/// tables.
+/// A table of user threads (a context table) for one caller at a time, without atomic operations.
 ///
-/// A context is the record of one user thread. At every moment, each context, thread slot and thread has exactly one
-/// owner. The cost of an event does not depend on the number of contexts.
+/// The contracts of the concurrent tables describe their calls as changes of such a table. A context is the record of
+/// one user thread, and a slot is the place on a core in which the thread runs. At any time, no two threads share a
+/// context or a slot, and no two kernel threads run the same thread. The time that an event takes does not depend on
+/// the number of contexts.
 #[derive(Debug, Drop)]
 pub struct World {
     tables: Tables,
@@ -38,8 +38,8 @@ impl World {
     ghost use Rattle.arachne_core.specs.Run.{IsOpening};
     ghost use Rattle.arachne_core.specs.ContextTable.{world_of, ShowsCore, IsVacantFrom, marked, Answers};
 
-    /// Creates a table of `cores` cores with `slots` thread slots each. All its contexts (the records of user threads)
-    /// are free, in generation `first_generation`.
+    /// Creates a table of `cores` cores with `slots` free thread slots each. Each slot has a context (thread record),
+    /// whose generation (count of ended threads) starts at `first_generation`.
     pub fn new(
         alloc: Global,
         cores: u8,
@@ -60,8 +60,8 @@ impl World {
         Ok(World { tables })
     }
 
-    /// Reserves memory to record `posts` more threads that come into the table, and `retires` more ends of threads.
-    /// Recording those then allocates nothing.
+    /// Reserves memory in the lists of new and of ended threads: for `posts` more new threads, and the ends of
+    /// `retires` threads.
     pub fn reserve(&mut self, posts: usize, retires: usize) -> Result<(), AllocError>
         ensures kept { self.new ≡ record self.old { posts = self.new.posts; retires = self.new.retires } }
         ensures grown { (self.old.posts ≤ self.new.posts) × (self.old.retires ≤ self.new.retires) }
@@ -72,10 +72,11 @@ impl World {
         self.tables.reserve(posts, retires)
     }
 
-    /// Changes the table's state as `event` says.
+    /// Changes the table as `event` says.
     ///
-    /// Returns `NotAllowed` if the state does not allow the event, and `Memory` if memory was refused. After an error
-    /// the state is unchanged. Only a post or a retire allocates, and only if no memory was reserved for it.
+    /// Returns `NotAllowed` if the table's state does not allow the event, and `Memory` if memory was refused. After an
+    /// error the table is unchanged. Only an event that adds or ends a thread takes memory, and only if none was
+    /// reserved for it.
     pub fn apply(&mut self, event: Event) -> Result<(), NotApplied>
         ensures answer { Answers event self.old self.new result }
         ensures err { OnErr result (self.new ≡ self.old) }
@@ -106,15 +107,14 @@ impl World {
         self.tables.slots()
     }
 
-    /// Does nothing. Its contract is a law: each context (the record of a user thread), slot and thread of the table
-    /// has exactly one owner.
+    /// Does nothing, but its contract says that no two threads share a context (thread record) or a slot.
     pub fn is_owned_once(&self)
         ensures { OwnedOnce (world_of self.now) }
     {
         let _ = &self.tables;
     }
 
-    /// Returns the number of the context (the record of a user thread) in this slot.
+    /// Returns the number of the context (thread record) in this slot.
     pub fn context_at(&self, place: Place) -> u32
         requires { IsPlace (world_of self.now) place }
         ensures within { IsContext (world_of self.now) result }
@@ -123,7 +123,7 @@ impl World {
         self.tables.resident(place)
     }
 
-    /// Returns the slot of this context (the record of a user thread): its core and its index there.
+    /// Returns the slot of this context (thread record).
     pub fn place_of(&self, context: u32) -> Place
         requires { IsContext (world_of self.now) context }
         ensures { result ≡ (world_of self.now).at context }
@@ -131,7 +131,7 @@ impl World {
         self.tables.context(context).place
     }
 
-    /// Returns the state of a context, the record of a user thread.
+    /// Returns the state of this context (thread record).
     pub fn state(&self, context: u32) -> State
         requires { IsContext (world_of self.now) context }
         ensures { result ≡ (world_of self.now).state context }
@@ -148,7 +148,7 @@ impl World {
         self.tables.core(core)
     }
 
-    /// Returns the mark word of a context (the record of a user thread): its state, slot and generation, packed.
+    /// Returns the mark word (packed state, slot and generation) of this context (thread record).
     pub fn mark(&self, context: u32) -> MarkWord
         requires { IsContext (world_of self.now) context }
         ensures { result ≡ marked (world_of self.now) context }

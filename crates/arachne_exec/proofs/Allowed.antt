@@ -1,21 +1,14 @@
 -- What an executor's seat may do on its table, with the words and masks that a call has computed.
-use Rattle.std.proofs.Common.{◌≡◌, ℕ, ◌+◌, ◌-◌, ◌*◌, ◌/◌, ◌%◌, ◌^◌, ◌<◌, ◌≤◌, [], ◌∷◌, true, false, eqb, refl, sym, ap, ◌∙◌, subst, arith}
-use Rattle.std.specs.Int.{bit_at}
-use Rattle.std.specs.Int.RustNames.{bit_and, bit_or}
-use Rattle.std.proofs.lemmas.Bool.{eqb-true, eq-eqb, false≢true}
-use Rattle.std.proofs.lemmas.Nat.Bits.{shr_and_one, bit_at-lt}
+use Rattle.std.proofs.Common.{◌≡◌, ℕ, ◌+◌, ◌-◌, ◌*◌, ◌/◌, ◌%◌, ◌^◌, ◌<◌, ◌≤◌, [], ◌∷◌, true, eqb, refl, sym, ap, ◌∙◌, subst, arith, eqb-true}
+use Rattle.std.specs.Int.{bit_at, RustNames.{bit_and, bit_or}}
+use Rattle.std.proofs.lemmas.Nat.Bits.{shr_and_one}
 use mathlib.Core.Option.{none}
-use mathlib.Core.Logic.{dite}
-use native.Mathlib.Decide.{ℕ_discrete}
 use prog.Atomic.{either}
-use Rattle.atomic_table.specs.Seated.{TableId}
-use Rattle.atomic_table.specs.Table.{step, rest, Allows, Splits, Joins}
-use Rattle.arachne_weights.specs.declared.token.Token.{Token}
-use Rattle.arachne_weights.specs.Tokens.{held, spent}
+use Rattle.atomic_table.specs.{Seated.TableId, Table.{step, rest, Allows, Splits, Joins}}
+use Rattle.arachne_weights.specs.{declared.token.Token.Token, Tokens.{held, spent}}
 use Rattle.arachne_exec.specs.declared.view.Notes.{Notes}
 use Rattle.arachne_exec.specs.Layout.{summary_at, ready_at, free_at, mark_at, last_generation, retired, worker_of, others, words_of}
-use Rattle.arachne_exec.specs.Board.{IsLawful, IsLast}
-use Rattle.arachne_exec.specs.Changes.{blank, older, first_of, second_of, both_of}
+use Rattle.arachne_exec.specs.{Board.{IsLawful, IsLast}, Changes.{blank, older, first_of, second_of, both_of}}
 use Rattle.arachne_exec.specs.Steps.{Mine, IsLive, Looks, Takes, TakesMany, Claims, Frees, Readies, Spawns, Begins, Blocks, Renews, Retires, Hears, Wakes, Marks, FindsShown, Shows, Hides, LooksAgain, LooksIdle, Unparks, Rises, Rests, LooksNext, Registers, Leaves}
 use Rattle.arachne_exec.specs.Seats.{Places, IsLaidOut, CallView, HasNewest, HasFoundMark}
 use Rattle.arachne_exec.proofs.Opening.{deals, gathers}
@@ -26,11 +19,6 @@ use Rattle.arachne_exec.proofs.SleepMoves.{finds_shown, shows, hides, looks_agai
 -- a bit that is tested
 pub bit_true : (n i : ℕ) → eqb (bit_and (n / 2 ^ i) 1) 1 ≡ true → bit_at n i ≡ 1
 bit_true n i e = sym (shr_and_one n i) ∙ eqb-true (bit_and (n / 2 ^ i) 1) 1 e
-
-pub bit_false : (n i : ℕ) → eqb (bit_and (n / 2 ^ i) 1) 1 ≡ false → bit_at n i ≡ 0
-bit_false n i e = dite (ℕ_discrete (bit_at n i) 1)
-    (λ is. absurd (false≢true (sym e ∙ eq-eqb (bit_and (n / 2 ^ i) 1) 1 (shr_and_one n i ∙ is))))
-    (λ other. let low = bit_at-lt n i in let apart : ¬ (bit_at n i ≡ 1) = other in omega (arith, low, apart))
 
 module _ (table : TableId) (key n : ℕ) (laid : IsLaidOut table key n) (exec : Places) (is : record { table = table; shards = n } ≡ exec) (home : TableId) (id : ℕ) (me : Mine) (live : IsLive me) (view : CallView)
     (seen : record { table = home; weight = me.0.weight; known = me.0.known; slots = me.1 } ≡ view) (own : view.table ≡ exec.table) where

@@ -1,15 +1,12 @@
 -- Bits of a word, and how one word's change shows in the bits of places.
-use Rattle.std.proofs.Common.{◌≡◌, ◌≢◌, ℕ, ◌+◌, ◌-◌, ◌*◌, ◌/◌, ◌%◌, ◌^◌, ◌<◌, ◌≤◌, min, List, length, get_or, set, if◌then◌else◌, sym, refl, ap, ◌∙◌, subst, arith, get_or-set_same, get_or-set_other}
-use Rattle.std.specs.Int.{bit_at, w64}
-use Rattle.std.specs.Int.RustNames.{bit_and, bit_or}
+use Rattle.std.proofs.Common.{◌≡◌, ◌≢◌, ℕ, ◌+◌, ◌-◌, ◌*◌, ◌/◌, ◌%◌, ◌^◌, ◌<◌, ◌≤◌, min, List, length, get_or, set, if◌then◌else◌, sym, refl, ap, ◌∙◌, subst, arith, get_or-set_same, get_or-set_other, eq-eqb, ne_eqb}
+use Rattle.std.specs.Int.{bit_at, w64, RustNames.{bit_and, bit_or}}
 use Rattle.std.proofs.lemmas.Nat.{pow_below, and_le_l}
 use Rattle.std.proofs.lemmas.Nat.Bits.{bit_at-lt, bit_at-zero, bit_at_and, bit_at_or, bit_at_not, bit_at-pow_same, bit_at-pow_other, same_from_bits_below}
 use Rattle.std.proofs.lemmas.Grind.{get_or-set_at}
-use Rattle.std.proofs.lemmas.Bool.{eq-eqb, ne_eqb}
 use mathlib.Core.Logic.{dite}
 use native.Mathlib.Decide.{ℕ_discrete}
-use Rattle.arachne_exec.specs.Layout.{others, in_word}
-use Rattle.arachne_exec.specs.Board.{one}
+use Rattle.arachne_exec.specs.{Layout.{others, in_word}, Board.one}
 
 pub one-same : (other place : ℕ) → other ≡ place → one other place ≡ 1
 one-same other place e = ap (λ b. if b then 1 else 0) (eq-eqb other place e)

@@ -1,8 +1,7 @@
 -- What a seat knows after several steps of a call.
 use Rattle.std.proofs.Common.{◌≡◌, ◌≢◌, ℕ, zero, suc, ◌+◌, ◌*◌, ◌/◌, ◌%◌, ◌<◌, ◌≤◌, ◌⊎◌, List, [], ◌∷◌, ◌++◌, refl, sym, subst, ap, ◌∙◌, arith}
 use Rattle.std.specs.Int.{bit_at}
-use Rattle.arachne_exec.specs.declared.view.Notes.{Notes}
-use Rattle.arachne_exec.specs.Layout.{mark_at, last_generation}
+use Rattle.arachne_exec.specs.{declared.view.Notes.Notes, Layout.{mark_at, last_generation}}
 use Rattle.arachne_exec.specs.Changes.{older, newest_job, heard_more, claiming, spawning, noted, hearing, cleared_heard, cleared_looks, using_up}
 use Rattle.arachne_exec.specs.Calls.{HasMissed, HasFinished}
 

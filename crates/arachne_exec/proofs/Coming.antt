@@ -1,17 +1,14 @@
 -- What a step has noted, and that seats which have come about are tokens that can.
 use Rattle.std.proofs.Common.{◌≡◌, ◌≢◌, ◌⊎◌, inl, inr, ⊎_elim, ℕ, zero, suc, ◌+◌, ◌^◌, ◌<◌, List, ◌∷◌, ◌++◌, get_or, set, refl, sym, ◌∙◌, subst, arith}
-use Rattle.std.specs.Int.{bit_at}
-use Rattle.std.specs.Int.RustNames.{bit_or}
+use Rattle.std.specs.Int.{bit_at, RustNames.bit_or}
 use Rattle.std.proofs.lemmas.List.{set-get_or}
-use mathlib.Core.Logic.{dite}
-use mathlib.Core.Option.{some}
+use mathlib.Core.{Logic.dite, Option.some}
 use mathlib.Core.Option as maybe
 use native.Mathlib.Decide.{ℕ_discrete}
 use lib.ListN.{get_elem?}
 use Rattle.arachne_weights.specs.Tokens.{held}
 use Rattle.arachne_weights.specs.Tokens as tokens
-use Rattle.arachne_exec.specs.declared.view.Notes.{Notes}
-use Rattle.arachne_exec.specs.declared.view.SleepDeed.{SleepDeed}
+use Rattle.arachne_exec.specs.declared.view.{Notes.Notes, SleepDeed.SleepDeed}
 use Rattle.arachne_exec.specs.declared.view.SleepDeed.TheVariants.{LayDown, LayOn, Rose}
 use Rattle.arachne_exec.specs.Layout.{idle_at, numbers_at, ready_at, mark_at}
 use Rattle.arachne_exec.specs.Changes.{blank, splitting, together, heard_more, lain_more, risen_more}

@@ -1,6 +1,5 @@
 -- Several kernel threads may look at one seat.
-use denote.RattleType.{RattleType}
-use denote.Param.Send.{IsSend, IsSync, part_keyless, sendable}
+use denote.{RattleType.RattleType, Param.Send.{IsSend, IsSync, part_keyless, sendable}}
 use Rattle.std.proofs.Crossing as std
 use Rattle.atomic_table.specs.contracts.shared.Seat as seat
 use Rattle.atomic_table.proofs.shared.Seat.TheSendSync as seat_is

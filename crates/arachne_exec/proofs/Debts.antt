@@ -4,8 +4,7 @@ use mathlib.Core.Option.{some}
 use lib.ListN.{get_elem?}
 use Rattle.arachne_weights.specs.declared.token.Token.{Token}
 use Rattle.arachne_weights.proofs.Totals.{total-set}
-use Rattle.arachne_exec.specs.declared.view.Notes.{Notes}
-use Rattle.arachne_exec.specs.Board.{one, by_all}
+use Rattle.arachne_exec.specs.{declared.view.Notes.Notes, Board.{one, by_all}}
 use Rattle.arachne_exec.proofs.Bits.{one-apart}
 
 module _ (f : Notes → ℕ) (views : List (Token Notes)) (h : ℕ) (v u : Token Notes) (mine : get_elem? views h ≡ some v) where

@@ -1,20 +1,15 @@
 -- Each kind of step keeps that each mark of a wake was used up or is there, and that each job that was blocked was
 -- unblocked or is blocked.
 use Rattle.std.proofs.Common.{◌≡◌, ◌≢◌, ℕ, zero, suc, ◌+◌, ◌*◌, ◌/◌, ◌%◌, ◌<◌, List, length, get_or, set, sym, ap, ◌∙◌, subst, arith, get_or-set_same, get_or-set_other}
-use mathlib.Core.Logic.{dite}
-use mathlib.Core.Option.{some}
+use mathlib.Core.{Logic.dite, Option.some}
 use mathlib.Core.Option as maybe
 use native.Mathlib.Decide.{ℕ_discrete}
 use lib.ListN.{get_elem?}
 use Rattle.arachne_weights.specs.declared.token.Token.{Token}
 use Rattle.arachne_weights.proofs.Totals.{total-set}
-use Rattle.arachne_exec.specs.declared.view.Notes.{Notes}
-use Rattle.arachne_exec.specs.Layout.{mark_at}
-use Rattle.arachne_exec.specs.Board.{one, times, Board, HearsWakes}
+use Rattle.arachne_exec.specs.{declared.view.Notes.Notes, Layout.mark_at, Board.{one, times, Board, HearsWakes}}
 use Rattle.arachne_exec.specs.Changes.{heard_more}
-use Rattle.arachne_exec.proofs.Bits.{one-same, one-apart}
-use Rattle.arachne_exec.proofs.Balancing.{more-times}
-use Rattle.arachne_exec.proofs.Keeping.{mark_apart}
+use Rattle.arachne_exec.proofs.{Bits.{one-same, one-apart}, Balancing.more-times, Keeping.mark_apart}
 
 -- one more, or none
 times-more : (p n q : ℕ) (xs : List ℕ) → n < 2 → times p (heard_more n q xs) ≡ n * one q p + times p xs

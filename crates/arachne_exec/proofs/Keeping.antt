@@ -1,18 +1,14 @@
 -- Each kind of step keeps that each place has one keeper.
 use Rattle.std.proofs.Common.{◌≡◌, ◌≢◌, ℕ, ◌+◌, ◌*◌, ◌/◌, ◌%◌, ◌^◌, ◌<◌, List, ◌∷◌, length, get_or, set, sym, refl, ap, ◌∙◌, subst, arith, length-set, get_or-set_same, get_or-set_other}
-use Rattle.std.specs.Int.{bit_at}
-use Rattle.std.specs.Int.RustNames.{bit_and, bit_or}
-use Rattle.std.proofs.lemmas.Nat.Bits.{bit_at-lt}
-use Rattle.std.proofs.lemmas.List.Sums.{sum_by-cons}
-use mathlib.Core.Logic.{dite}
-use mathlib.Core.Option.{some, none}
+use Rattle.std.specs.Int.{bit_at, RustNames.{bit_and, bit_or}}
+use Rattle.std.proofs.lemmas.{Nat.Bits.bit_at-lt, List.Sums.sum_by-cons}
+use mathlib.Core.{Logic.dite, Option.{some, none}}
 use native.Mathlib.Decide.{ℕ_discrete}
 use lib.ListN.{get_elem?}
 use Rattle.atomic_table.proofs.Lists.{set_here, set_else}
 use Rattle.arachne_weights.specs.declared.token.Token.{Token}
 use Rattle.arachne_weights.proofs.Totals.{total-set, at-le-total, two-le-total}
-use Rattle.arachne_exec.specs.declared.view.Notes.{Notes}
-use Rattle.arachne_exec.specs.Layout.{summary_at, ready_at, free_at, mark_at, others}
+use Rattle.arachne_exec.specs.{declared.view.Notes.Notes, Layout.{summary_at, ready_at, free_at, mark_at, others}}
 use Rattle.arachne_exec.specs.Board.{is_free, is_ready, is_blocked, one, places_in, in_hands, Board, HasOneKeeper}
 use Rattle.arachne_exec.proofs.Bits.{one-same, one-apart, cleared, raised}
 

@@ -1,16 +1,13 @@
 -- Each kind of step keeps that a block with a ready job has its bit in the summary word, or is owed it.
 use Rattle.std.proofs.Common.{◌≡◌, ◌≢◌, inl, inr, ⊎_elim, ℕ, ◌+◌, ◌<◌, List, get_or, set, sym, ◌∙◌, subst, arith}
-use mathlib.Core.Logic.{dite}
-use mathlib.Core.Option.{some}
+use mathlib.Core.{Logic.dite, Option.some}
 use mathlib.Core.Option as maybe
 use native.Mathlib.Decide.{ℕ_discrete}
 use lib.ListN.{get_elem?}
 use Rattle.arachne_weights.specs.declared.token.Token.{Token}
-use Rattle.arachne_exec.specs.declared.view.Notes.{Notes}
-use Rattle.arachne_exec.specs.Layout.{summary_at, ready_at, in_word}
+use Rattle.arachne_exec.specs.{declared.view.Notes.Notes, Layout.{summary_at, ready_at, in_word}}
 use Rattle.arachne_exec.specs.Board.{Board, IsShown}
-use Rattle.arachne_exec.proofs.Bits.{one-same}
-use Rattle.arachne_exec.proofs.Debts.{with-same, with-more, with-others}
+use Rattle.arachne_exec.proofs.{Bits.one-same, Debts.{with-same, with-more, with-others}}
 
 module _ (blocks : ℕ) (b : Board) (r : IsShown blocks b) (h : ℕ) (v u : Token Notes) (mine : get_elem? b.views h ≡ some v) (ws : List ℕ) (homes : List (maybe.Option ℕ)) where
   -- no block's ready word gets its first job, and no summary word changes

@@ -1,29 +1,17 @@
 -- How the list of what is left grows, place by place, and that it is what was spawned and hasn't ended.
 use Rattle.std.proofs.Common.{◌≡◌, ℕ, zero, suc, ◌+◌, ◌<◌, ◌≤◌, ◌∙◌, ap, sym, refl, arith, List, [], ◌∷◌, ◌++◌, length, drop, set, get_or, get_or-set_other, Bool, true, false, inl, inr}
-use Rattle.std.proofs.lemmas.Bool.{cases_eq}
-use Rattle.std.proofs.lemmas.List.Sums.{sum_by-cons, sum_by-append}
-use mathlib.Core.Option.{some, some-injective, some-ne-none}
+use Rattle.std.proofs.lemmas.{List.drop_all, Bool.cases_eq, List.Sums.{sum_by-cons, sum_by-append}}
+use mathlib.Core.Option.{some, some-injective}
 use mathlib.Core.Option as maybe
 use lib.ListN.{get_elem?}
 use Rattle.atomic_table.specs.Table.{Final, Seen}
 use Rattle.atomic_table.proofs.Lists.{drop_at}
-use Rattle.arachne_weights.specs.declared.token.Token.{Token}
-use Rattle.arachne_weights.specs.Tokens.{held}
-use Rattle.arachne_weights.specs.Weight.{whole}
+use Rattle.arachne_weights.specs.{declared.token.Token.Token, Tokens.held, Weight.whole}
 use Rattle.arachne_weights.proofs.Tokens.{whole-total}
 use Rattle.arachne_exec.specs.declared.view.Notes.{Notes}
 use Rattle.arachne_exec.specs.Board.{one, times, places_in, jobs_in, is_number, at_home, Board, IsLawful}
-use Rattle.arachne_exec.specs.Changes.{blank}
-use Rattle.arachne_exec.specs.Ending.{IsSettled}
-use Rattle.arachne_exec.proofs.Bits.{one-apart}
-use Rattle.arachne_exec.proofs.Coming.{reached}
-use Rattle.arachne_exec.proofs.Balancing.{more-times}
-
-drop-past : (xs : List ℕ) (x : ℕ) → length xs ≤ x → drop x xs ≡ []
-drop-past [] zero h = refl
-drop-past [] (suc x) h = refl
-drop-past (y ∷ ys) zero h = absurd (omega (arith, h))
-drop-past (y ∷ ys) (suc x) h = drop-past ys x (omega (arith, h))
+use Rattle.arachne_exec.specs.{Changes.blank, Ending.IsSettled}
+use Rattle.arachne_exec.proofs.{Bits.one-apart, Coming.reached, Balancing.more-times}
 
 set-false : (fs : List Bool) (i : ℕ) → get_or (set fs i false) i false ≡ false
 set-false [] i = refl
@@ -90,7 +78,7 @@ all-settled shards k none left words slots n ends past so_far =
     let home = λ (job : ℕ). same-home job s.homes slots long (λ p inside. ((at p inside).0, (at p inside).1, values p (at p inside).0 (at p inside).1)) in record {
       settled = λ job some_job.
           let a = alone (λ l. jobs_in job l.spawned) refl in let b = alone (λ l. jobs_in job l.ended) refl in let c = alone (λ l. jobs_in job l.hand) refl ∙ ap (jobs_in job) none in
-          let old = h.balance.balanced job some_job in let lie = home job in let jobs = so_far.jobs job some_job in let rest = ap (times job) (drop-past slots n past) in
+          let old = h.balance.balanced job some_job in let lie = home job in let jobs = so_far.jobs job some_job in let rest = ap (times job) (drop_all n slots past) in
           let d : jobs_in job [] ≡ 0 = refl in let z : times job [] ≡ 0 = refl in omega (arith, a, b, c, d, z, old, lie, jobs, rest);
       numbers = so_far.numbers;
     }

@@ -1,16 +1,12 @@
 -- The lowest bits of a word, picked one after the other.
-use Rattle.std.proofs.Common.{◌≡◌, ℕ, ◌+◌, ◌*◌, ◌^◌, ◌<◌, ◌≤◌, max, min, List, [], ◌∷◌, ◌++◌, length, take, sym, ap, ◌∙◌, arith}
-use Rattle.std.specs.Int.{bit_at}
-use Rattle.std.specs.Int.RustNames.{bit_and, bit_or}
-use Rattle.std.proofs.Math.Seq.{take-append_seam}
-use Rattle.std.proofs.lemmas.List.{append_assoc, append-nil, length-append, take_all}
+use Rattle.std.proofs.Common.{◌≡◌, ℕ, ◌+◌, ◌*◌, ◌^◌, ◌<◌, ◌≤◌, max, min, [], ◌∷◌, ◌++◌, length, sym, ap, ◌∙◌, arith, append_assoc, length-append}
+use Rattle.std.specs.Int.{bit_at, RustNames.{bit_and, bit_or}}
 use Rattle.std.proofs.lemmas.Nat.{pow_pos, le_or_l}
-use Rattle.std.proofs.lemmas.Nat.Bits.{bit_at-lt, bit_at-zero, bit_at_and, bit_at_or, and_pow, bit_at-pow_same, bit_at-pow_other, same_from_bits}
+use Rattle.std.proofs.lemmas.Nat.Bits.{bit_at-lt, bit_at_and, bit_at_or, and_pow, bit_at-pow_same, bit_at-pow_other, same_from_bits}
 use mathlib.Core.Logic.{dite}
 use native.Mathlib.Decide.{ℕ_discrete}
-use Rattle.arachne_exec.specs.Layout.{others, places_in_word, PicksLowest}
-use Rattle.arachne_exec.proofs.Bits.{clear_same, set_other}
-use Rattle.arachne_exec.proofs.Places.{alone, highest-last, lowest-first, none-there}
+use Rattle.arachne_exec.specs.Layout.{others, places_in_word}
+use Rattle.arachne_exec.proofs.{Bits.{clear_same, set_other}, Places.{alone, highest-last, lowest-first}}
 
 -- a bit that two words have in common
 pub common_bit : (a b i : ℕ) → bit_at (bit_and a b) i ≡ 1 → bit_at a i ≡ 1
@@ -75,26 +71,4 @@ module _ (word most pick left count t : ℕ) (low : t < 64) (there : bit_at left
     many = λ block. ap length (last block) ∙ length-append (places_in_word block pick) ((64 * block + t) ∷ []) ∙ ap (λ n. n + 1) (old.many block);
     begun = omega arith;
     so_far = omega (arith, more);
-  }
-
--- the first of a list, so many
-first-part : (xs ys zs : List ℕ) (n : ℕ) → xs ≡ ys ++ zs → length ys ≡ n → ys ≡ take n xs
-first-part xs ys zs n both many = sym (ap (take n) both ∙ ap (λ m. take m (ys ++ zs)) (sym many) ∙ take-append_seam ys zs)
-
--- the whole list, where it has no more than so many
-whole : (xs ys zs : List ℕ) (n : ℕ) → xs ≡ ys ++ zs → zs ≡ [] → length ys ≤ n → ys ≡ take n xs
-whole xs ys zs n both none few = sym (ap (take n) (both ∙ ap (λ rest. ys ++ rest) none ∙ append-nil ys) ∙ take_all n ys few)
-
-module _ (word most pick left count : ℕ) (now : Picked word most pick left count) where
-  -- as many as asked are picked
-  pub enough-picked : most ≤ count → (block : ℕ) → PicksLowest block word most pick
-  enough-picked reached block = record {
-    first = first-part (places_in_word block word) (places_in_word block pick) (places_in_word block left) (max 1 most) (now.both block) (now.many block ∙ omega (arith, reached, now.begun, now.so_far));
-  }
-
-  -- none is left
-  pub all-picked : left ≡ 0 → (block : ℕ) → PicksLowest block word most pick
-  all-picked empty block = record {
-    first = whole (places_in_word block word) (places_in_word block pick) (places_in_word block left) (max 1 most) (now.both block) (ap (places_in_word block) empty ∙ none-there block bit_at-zero)
-        (omega (arith, now.many block, now.so_far));
   }

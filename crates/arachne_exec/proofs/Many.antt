@@ -1,33 +1,17 @@
 -- Several ready bits of a block that are cleared in one step.
-use Rattle.std.proofs.Common.{◌≡◌, ◌≢◌, ◌⊎◌, inl, inr, ⊎_elim, ℕ, zero, suc, ◌+◌, ◌-◌, ◌*◌, ◌/◌, ◌%◌, ◌^◌, ◌<◌, ◌≤◌, List, [], ◌∷◌, ◌++◌, map, get_or, set, if◌then◌else◌, sym, refl, ap, ◌∙◌, subst, arith, get_or-set_same}
-use Rattle.std.specs.Int.{bit_at, w64}
-use Rattle.std.specs.Int.RustNames.{bit_and}
-use Rattle.std.proofs.lemmas.List.{set-set}
-use Rattle.std.specs.Int.Bits.{and_self}
-use Rattle.std.proofs.lemmas.Nat.{and_le_l, and_assoc}
-use Rattle.std.proofs.lemmas.Nat.Bits.{bit_at-lt, bit_at_and, bit_at_not, same_from_bits_below}
-use Rattle.std.proofs.lemmas.Bool.{eq-eqb, ne_eqb}
-use mathlib.Core.Logic.{dite}
-use mathlib.Core.Option.{some, none, some-ne-none}
+use Rattle.std.proofs.Common.{◌≡◌, ◌≢◌, ◌⊎◌, inl, inr, ⊎_elim, ℕ, zero, suc, ◌+◌, ◌-◌, ◌*◌, ◌/◌, ◌%◌, ◌^◌, ◌<◌, ◌≤◌, List, [], ◌∷◌, ◌++◌, map, get_or, set, if◌then◌else◌, sym, refl, ap, ◌∙◌, subst, arith, get_or-set_same, set-set, eq-eqb, ne_eqb}
+use Rattle.std.specs.Int.{bit_at, w64, RustNames.bit_and}
+use Rattle.std.proofs.lemmas.Nat.{and_le_l, Bits.{bit_at-lt, bit_at_and, bit_at_not, same_from_bits_below}}
+use mathlib.Core.{Logic.dite, Option.{some, none, some-ne-none}}
 use mathlib.Core.Option as maybe
 use native.Mathlib.Decide.{ℕ_discrete}
 use lib.ListN.{get_elem?}
 use Rattle.atomic_table.specs.Table.{Act, keeps, takes, chain, step, Allows, stepped, homes_after, carried_after, Valid}
-use Rattle.arachne_weights.specs.declared.token.Token.{Token}
-use Rattle.arachne_weights.specs.Tokens.{held}
-use Rattle.arachne_exec.specs.declared.view.Notes.{Notes}
-use Rattle.arachne_exec.specs.Layout.{ready_at, others, places_from, places_in_word}
-use Rattle.arachne_exec.specs.Board.{Board, HasCome, IsLawful}
-use Rattle.arachne_exec.specs.Changes.{gaining, noted}
-use Rattle.arachne_exec.specs.Steps.{TakesMany}
-use Rattle.arachne_exec.proofs.Bits.{clear_same, clear_other, clear_le, not_one}
-use Rattle.arachne_exec.proofs.Keeping.{ready_apart}
-use Rattle.arachne_exec.proofs.Coming.{told-found, comes}
-use Rattle.arachne_exec.proofs.Moves.{ready-job, taken-law, noting}
-
--- what two words have in common is within the first
-pub and_within : (word other : ℕ) → bit_and word (bit_and word other) ≡ bit_and word other
-and_within word other = sym (and_assoc other word word) ∙ ap (λ (z : ℕ). bit_and z other) (and_self word)
+use Rattle.arachne_weights.specs.{declared.token.Token.Token, Tokens.held}
+use Rattle.arachne_exec.specs.{declared.view.Notes.Notes, Layout.{ready_at, others, places_from, places_in_word}}
+use Rattle.arachne_exec.specs.{Board.{Board, HasCome, IsLawful}, Changes.{gaining, noted}, Steps.TakesMany}
+use Rattle.arachne_exec.proofs.{Bits.{clear_same, clear_other, clear_le, not_one}, Keeping.ready_apart}
+use Rattle.arachne_exec.proofs.{Coming.{told-found, comes}, Moves.{ready-job, taken-law, noting}}
 
 -- a seat that is there has the view that it was given
 set_mine : (views : List (Token Notes)) (id : ℕ) (v u : Token Notes) → get_elem? views id ≡ some v → get_elem? (set views id u) id ≡ some u

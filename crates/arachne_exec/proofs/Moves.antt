@@ -1,20 +1,15 @@
 -- What a seat may do: each kind of step is allowed, and tells what it says.
 use Rattle.std.proofs.Common.{◌≡◌, ◌≢◌, inl, inr, ℕ, ◌+◌, ◌-◌, ◌*◌, ◌/◌, ◌%◌, ◌^◌, ◌<◌, ◌≤◌, min, List, [], ◌∷◌, length, get_or, set, sym, refl, ap, ◌∙◌, subst, arith, eqb, get_or-set_other}
-use Rattle.std.specs.Int.{bit_at}
-use Rattle.std.specs.Int.RustNames.{bit_and, bit_or}
-use Rattle.std.proofs.lemmas.List.{set-get_or}
-use Rattle.std.proofs.lemmas.Grind.{get_or-set_at}
-use Rattle.std.proofs.lemmas.Nat.Bits.{bit_at_and, bit_at-lt, and_high_mask}
-use mathlib.Core.Logic.{dite}
-use mathlib.Core.Option.{some, none}
+use Rattle.std.specs.Int.{bit_at, RustNames.{bit_and, bit_or}}
+use Rattle.std.proofs.lemmas.{List.set-get_or, Grind.get_or-set_at, Nat.Bits.{bit_at_and, bit_at-lt, and_high_mask}}
+use mathlib.Core.{Logic.dite, Option.{some, none}}
 use mathlib.Core.Option as maybe
 use native.Mathlib.Decide.{ℕ_discrete}
 use prog.Atomic.{either}
 use lib.ListN.{get_elem?}
 use Rattle.atomic_table.specs.Table.{step, keeps, takes, gives, Act, Allows, stepped, carried_after, Valid}
 use Rattle.atomic_table.proofs.Lists.{exchanged}
-use Rattle.arachne_weights.specs.declared.token.Token.{Token}
-use Rattle.arachne_weights.specs.Tokens.{held}
+use Rattle.arachne_weights.specs.{declared.token.Token.Token, Tokens.held}
 use Rattle.arachne_exec.specs.declared.view.Notes.{Notes}
 use Rattle.arachne_exec.specs.Layout.{idle_at, numbers_at, summary_at, ready_at, free_at, mark_at, last_generation, retired, others, in_word}
 use Rattle.arachne_exec.specs.Board.{is_blocked, Board, HasOneKeeper, IsBalanced, IsShown, FoundLast, CountsEnds, ends_at, places_in, in_hands, is_free, HasJobOrIsFree, WakesSleepers, HasChanged, IsTold, HasCome, IsLawful, IsLast, MayNote}
@@ -67,9 +62,6 @@ module _ (shards slots id w : ℕ) where
   unchanged k xs i s h = subst (λ ws. IsLawful shards (record { words = ws; homes = s.homes; views = set s.views id (held w k) })) (sym (set-get_or s.words i 0)) h
 
   module _ (s : Board) (h : IsLawful shards s) (k : Notes) (mine : get_elem? s.views id ≡ some (held w k)) where
-    t : Token Notes
-    t = held w k
-
     -- what it has found is noted
     telling : (ds : List (ℕ × ℕ)) → let l : Notes = record k { looks = ds } in HasCome shards (record { words = s.words; homes = s.homes; views = set s.views id (held w l) }) → Knows (64 * shards) s.words l
         → IsLawful shards (record { words = s.words; homes = s.homes; views = set s.views id (held w l) })

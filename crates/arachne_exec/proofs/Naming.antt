@@ -1,19 +1,16 @@
 -- Each kind of step keeps that a mark says how many jobs have ended at its place.
 use Rattle.std.proofs.Common.{◌≡◌, ◌≢◌, ⊎_elim, ℕ, ◌+◌, ◌*◌, ◌/◌, ◌<◌, ◌≤◌, min, List, [], ◌∷◌, ◌++◌, length, get_or, set, sym, ap, ◌∙◌, subst, arith, get_or-set_other}
 use Rattle.std.proofs.lemmas.Grind.{get_or-set_at}
-use mathlib.Core.Logic.{dite}
-use mathlib.Core.Option.{some}
+use mathlib.Core.{Logic.dite, Option.some}
 use mathlib.Core.Option as maybe
 use native.Mathlib.Decide.{ℕ_discrete}
 use lib.ListN.{get_elem?}
 use Rattle.atomic_table.proofs.Lists.{at_set}
 use Rattle.arachne_weights.specs.declared.token.Token.{Token}
 use Rattle.arachne_weights.proofs.Totals.{total-set}
-use Rattle.arachne_exec.specs.declared.view.Notes.{Notes}
-use Rattle.arachne_exec.specs.Layout.{mark_at, last_generation}
+use Rattle.arachne_exec.specs.{declared.view.Notes.Notes, Layout.{mark_at, last_generation}}
 use Rattle.arachne_exec.specs.Board.{places_in, ends_at, Board, FoundLast, CountsEnds}
-use Rattle.arachne_exec.proofs.Bits.{one-same, one-apart}
-use Rattle.arachne_exec.proofs.Keeping.{mark_apart, places-cons}
+use Rattle.arachne_exec.proofs.{Bits.{one-same, one-apart}, Keeping.{mark_apart, places-cons}}
 
 -- what a seat has found last of the marks of the places in its hand
 abbrev pub Knows : ℕ → List ℕ → Notes → Type 0

@@ -2,8 +2,7 @@
 use Rattle.std.proofs.Common.{◌≡◌, ◌≢◌, ℕ, ◌+◌, ◌*◌, ◌<◌, ◌≤◌, List, [], ◌∷◌, sym, ap, ◌∙◌, arith}
 use Rattle.std.specs.List.{sum_by}
 use Rattle.std.proofs.lemmas.List.Sums.{sum_by-cons}
-use mathlib.Core.Logic.{dite}
-use mathlib.Core.Option.{some, none}
+use mathlib.Core.{Logic.dite, Option.{some, none}}
 use mathlib.Core.Option as maybe
 use native.Mathlib.Decide.{ℕ_discrete}
 use lib.ListN.{get_elem?}
@@ -11,8 +10,7 @@ use Rattle.arachne_weights.specs.declared.token.Token.{Token}
 use Rattle.arachne_exec.specs.declared.view.Notes.{Notes}
 use Rattle.arachne_exec.specs.Board.{one, one_at, places_in, times_at, in_slot, in_hands, Board, HasOneKeeper}
 use Rattle.arachne_exec.specs.Promises.{lives_at}
-use Rattle.arachne_exec.proofs.Bits.{one-same, one-apart}
-use Rattle.arachne_exec.proofs.Balancing.{at-here, at-else}
+use Rattle.arachne_exec.proofs.{Bits.{one-same, one-apart}, Balancing.{at-here, at-else}}
 
 -- two counts are within a third
 sums-within : {X : Type 0} (f g h : X → ℕ) → ((x : X) → f x + g x ≤ h x) → (xs : List X) → sum_by f xs + sum_by g xs ≤ sum_by h xs

@@ -1,26 +1,21 @@
 -- The rule at first, and where seats are split and joined.
-use Rattle.std.proofs.Common.{◌≡◌, ◌≢◌, inl, inr, ⊎_elim, ℕ, zero, suc, ◌+◌, ◌-◌, ◌*◌, ◌/◌, ◌%◌, ◌^◌, ◌≤◌, ◌==◌, min, if◌then◌else◌, List, [], ◌∷◌, ◌++◌, length, get_or, set, sym, refl, ap, ◌∙◌, subst, arith, ◌<◌, map}
-use Rattle.std.proofs.lemmas.List.{length-map}
-use Rattle.std.proofs.lemmas.List.Sums.{sum_by-cons, sum_by-append}
+use Rattle.std.proofs.Common.{◌≡◌, ◌≢◌, inl, inr, ⊎_elim, ℕ, zero, suc, ◌+◌, ◌-◌, ◌*◌, ◌/◌, ◌%◌, ◌^◌, ◌≤◌, ◌==◌, min, if◌then◌else◌, List, [], ◌∷◌, ◌++◌, length, get_or, set, sym, refl, ap, ◌∙◌, subst, arith, ◌<◌, map, eq-eqb, ne_eqb}
+use Rattle.std.proofs.lemmas.List.{length-map, Sums.{sum_by-cons, sum_by-append}}
 use Rattle.std.specs.Int.{bit_at}
 use Rattle.std.proofs.lemmas.Nat.Bits.{bit_at-zero, bit_at_ones}
-use Rattle.std.proofs.lemmas.Bool.{eq-eqb, ne_eqb}
 use mathlib.Core.Option.{some, some-injective, some-ne-none}
 use mathlib.Core.Option as maybe
 use lib.ListN.{get_elem?}
 use Rattle.atomic_table.specs.Table.{opening, Splits, Joins}
 use Rattle.atomic_table.proofs.Lists.{set_else, at_set, at_snoc, some_there}
-use Rattle.arachne_weights.specs.declared.token.Token.{Token}
-use Rattle.arachne_weights.specs.Tokens.{held, spent}
+use Rattle.arachne_weights.specs.{declared.token.Token.Token, Tokens.{held, spent}}
 use Rattle.arachne_weights.proofs.Totals.{total-set, total-snoc}
-use Rattle.arachne_exec.specs.declared.view.Notes.{Notes}
-use Rattle.arachne_exec.specs.declared.view.SleepDeed.{SleepDeed}
+use Rattle.arachne_exec.specs.declared.view.{Notes.Notes, SleepDeed.SleepDeed}
 use Rattle.arachne_exec.specs.Layout.{idle_at, ready_at, free_at, mark_at, last_generation}
 use Rattle.arachne_exec.specs.Board.{is_free, is_ready, is_blocked, one, times, one_at, places_in, jobs_in, times_at, is_at_home, by_all, in_hands, unspawned_by, seats_of, is_idle, lies, rises, rouses, ends_at, FoundLast, Board, IsLawful, is_number, at_home, lies_by, rises_by, rouses_by, lies_in, rises_in, rouses_in, begins, splits, joins}
 use Rattle.arachne_exec.specs.Changes.{blank, first_view, splitting, first_of, second_of, together, both_of}
 use Rattle.arachne_exec.specs.First.{first_word, AreFirstWords}
-use Rattle.arachne_exec.proofs.Bits.{one-apart}
-use Rattle.arachne_exec.proofs.Naming.{found-longer}
+use Rattle.arachne_exec.proofs.{Bits.one-apart, Naming.found-longer}
 
 full : first_word 8 ≡ 2 ^ 64 - 1
 full = refl

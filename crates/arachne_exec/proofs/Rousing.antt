@@ -1,11 +1,8 @@
 -- A worker that looks for a job, and clears no idle bit but its own.
 use Rattle.std.proofs.Common.{◌≡◌, inl, inr, ⊎_elim, ℕ, zero, suc, ◌+◌, ◌*◌, Bool, true, false, List, [], ◌∷◌, ◌++◌, append_assoc, refl, sym, ap, ◌∙◌, subst}
-use Rattle.arachne_exec.specs.declared.view.Notes.{Notes}
-use Rattle.arachne_exec.specs.declared.view.SleepDeed.{SleepDeed}
-use Rattle.arachne_exec.specs.declared.view.SleepDeed.TheVariants.{Roused}
-use Rattle.arachne_exec.specs.declared.answers.HeldJob.{HeldJob}
+use Rattle.arachne_exec.specs.declared.view.{Notes.Notes, SleepDeed.SleepDeed, SleepDeed.TheVariants.Roused}
+use Rattle.arachne_exec.specs.{declared.answers.HeldJob.HeldJob, Layout.{summary_at, ready_at, worker_of}}
 use Rattle.arachne_exec.specs.declared.answers.Next.TheVariants as next
-use Rattle.arachne_exec.specs.Layout.{summary_at, ready_at, worker_of}
 use Rattle.arachne_exec.specs.Changes.{noted, rousing, often}
 use Rattle.arachne_exec.specs.Calls.{HasMissed, HasTakenNone, AreForJobs, HasLooked, IsAmong, HasLost, HasNoJob, IsSearched, HasTakenInShard, HasAnswered}
 

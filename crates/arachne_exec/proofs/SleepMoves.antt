@@ -1,26 +1,21 @@
 -- What a seat may do with summary words, the idle word and worker numbers: each kind of step is allowed, and tells what
 -- it says.
 use Rattle.std.proofs.Common.{◌≡◌, inl, inr, ℕ, ◌+◌, ◌*◌, ◌/◌, ◌%◌, ◌^◌, ◌<◌, true, List, [], length, get_or, set, sym, refl, ap, ◌∙◌, subst, arith, get_or-set_same, get_or-set_other}
-use Rattle.std.specs.Int.{bit_at}
-use Rattle.std.specs.Int.RustNames.{bit_and, bit_or}
-use mathlib.Core.Logic.{dite}
-use mathlib.Core.Option.{some, none}
+use Rattle.std.specs.Int.{bit_at, RustNames.{bit_and, bit_or}}
+use mathlib.Core.{Logic.dite, Option.{some, none}}
 use native.Mathlib.Decide.{ℕ_discrete}
 use lib.ListN.{get_elem?}
 use Rattle.atomic_table.specs.Table.{step, keeps, Allows, stepped}
 use Rattle.arachne_weights.specs.Tokens.{held}
-use Rattle.arachne_exec.specs.declared.view.Notes.{Notes}
-use Rattle.arachne_exec.specs.declared.view.SleepDeed.TheVariants.{Roused}
+use Rattle.arachne_exec.specs.declared.view.{Notes.Notes, SleepDeed.TheVariants.Roused}
 use Rattle.arachne_exec.specs.Layout.{idle_at, numbers_at, summary_at, ready_at, worker_of, others, in_word}
 use Rattle.std.proofs.lemmas.Nat.Bits.{bit_at-lt}
 use Rattle.arachne_exec.specs.Board.{one, is_idle, Board, IsShown, WakesSleepers, HasChanged, IsTold, IsLawful}
 use Rattle.arachne_exec.specs.Changes.{noted, rousing, unshowing, owing, having_seen, lying, rising, working}
 use Rattle.arachne_exec.specs.Steps.{Mine, knowing, FindsShown, Shows, Hides, LooksAgain, LooksIdle, Unparks, Rises, Rests, LooksNext, Registers, Leaves}
 use Rattle.arachne_exec.proofs.Bits.{one-same, one-apart, same_others, clear_same, clear_other, clear_le, unset, set_same, set_other, not_one, clear_counts, set_counts, elsewhere, here}
-use Rattle.arachne_exec.proofs.Keeping.{keeps-aside, keeps-summary, keeps-view}
-use Rattle.arachne_exec.proofs.Balancing.{balanced-same}
-use Rattle.arachne_exec.proofs.Hearing.{KeepsMarks, hears-on}
-use Rattle.arachne_exec.proofs.Naming.{Knows, found-word, names-on}
+use Rattle.arachne_exec.proofs.{Keeping.{keeps-aside, keeps-summary, keeps-view}, Balancing.balanced-same}
+use Rattle.arachne_exec.proofs.{Hearing.{KeepsMarks, hears-on}, Naming.{Knows, found-word, names-on}}
 use Rattle.arachne_exec.proofs.Debts.{with-same, with-more, with-less, with-others}
 use Rattle.arachne_exec.proofs.KeepsShown.{shows-on, shows-owing, shows-paid}
 use Rattle.arachne_exec.proofs.Coming.{adds-risen, adds-lain, clears-none, changes-elsewhere, told-found, told-nothing, comes, comes-still}

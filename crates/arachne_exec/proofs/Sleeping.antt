@@ -8,14 +8,12 @@ use lib.ListN.{get_elem?}
 use Rattle.atomic_table.proofs.Lists.{at_set}
 use Rattle.arachne_weights.specs.declared.token.Token.{Token}
 use Rattle.arachne_weights.proofs.Totals.{total-set, two-le-total}
-use Rattle.arachne_exec.specs.declared.view.Notes.{Notes}
-use Rattle.arachne_exec.specs.declared.view.SleepDeed.{SleepDeed}
+use Rattle.arachne_exec.specs.declared.view.{Notes.Notes, SleepDeed.SleepDeed}
 use Rattle.arachne_exec.specs.declared.view.SleepDeed.TheVariants.{LayDown, LayOn, Rose, Roused}
 use Rattle.arachne_exec.specs.Layout.{idle_at, numbers_at, summary_at}
 use Rattle.arachne_exec.specs.Board.{one, lies_by, rises_by, rouses_by, lies_in, rises_in, rouses_in, owed, seats_of, is_idle, Board, WakesSleepers}
 use Rattle.arachne_exec.specs.Changes.{lain_more, risen_more}
-use Rattle.arachne_exec.proofs.Bits.{one-same}
-use Rattle.arachne_exec.proofs.Debts.{with-same}
+use Rattle.arachne_exec.proofs.{Bits.one-same, Debts.with-same}
 
 -- what one deed more counts
 deed-counts : (w : ℕ) (d : SleepDeed) (xs : List SleepDeed) → (lies_in w (d ∷ xs) ≡ lies_by w d + lies_in w xs) × (rises_in w (d ∷ xs) ≡ rises_by w d + rises_in w xs) × (rouses_in w (d ∷ xs) ≡ rouses_by w d + rouses_in w xs)

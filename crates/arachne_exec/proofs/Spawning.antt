@@ -1,17 +1,13 @@
 -- Each kind of step keeps that a place which isn't free has a job that was spawned there, or is owed one.
 use Rattle.std.proofs.Common.{◌≡◌, ℕ, ◌+◌, List, ◌∷◌, set, ap, ◌∙◌, arith}
-use mathlib.Core.Logic.{dite}
-use mathlib.Core.Option.{some}
+use mathlib.Core.{Logic.dite, Option.some}
 use mathlib.Core.Option as maybe
 use native.Mathlib.Decide.{ℕ_discrete}
 use lib.ListN.{get_elem?}
 use Rattle.arachne_weights.specs.declared.token.Token.{Token}
 use Rattle.arachne_weights.proofs.Totals.{total-set}
-use Rattle.arachne_exec.specs.declared.view.Notes.{Notes}
-use Rattle.arachne_exec.specs.Board.{one, times, places_in, is_free, Board, HasJobOrIsFree}
-use Rattle.arachne_exec.proofs.Bits.{one-same, one-apart}
-use Rattle.arachne_exec.proofs.Keeping.{places-cons}
-use Rattle.arachne_exec.proofs.Balancing.{more-times}
+use Rattle.arachne_exec.specs.{declared.view.Notes.Notes, Board.{one, times, places_in, is_free, Board, HasJobOrIsFree}}
+use Rattle.arachne_exec.proofs.{Bits.{one-same, one-apart}, Keeping.places-cons, Balancing.more-times}
 use Rattle.arachne_exec.proofs.Debts.{with-same, with-more, with-less}
 
 -- it has spawned no job and freed no place, and owes what it owed

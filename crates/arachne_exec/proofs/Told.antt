@@ -5,9 +5,7 @@ use mathlib.Core.Logic.{dite}
 use native.Mathlib.Decide.{ℕ_discrete}
 use Rattle.atomic_table.specs.Seated.{TableId}
 use Rattle.arachne_weights.specs.Tokens.{held}
-use Rattle.arachne_exec.specs.declared.view.Notes.{Notes}
-use Rattle.arachne_exec.specs.Steps.{Mine, IsLive}
-use Rattle.arachne_exec.specs.Seats.{CallView}
+use Rattle.arachne_exec.specs.{declared.view.Notes.Notes, Steps.{Mine, IsLive}, Seats.CallView}
 use Rattle.arachne_exec.proofs.Bits.{not_one}
 
 pub live-told : (me : Mine) (w : ℕ) (k : Notes) (slots : List (ℕ × ℕ)) → me ≡ (held w k, slots) → IsLive me

@@ -1,12 +1,8 @@
 -- The first bit that is set, from an index on, round a word.
-use Rattle.std.proofs.Common.{◌≡◌, ℕ, ◌+◌, ◌-◌, ◌/◌, ◌%◌, ◌^◌, ◌<◌, ◌≤◌, ap, sym, ◌∙◌, inl, inr, arith}
-use Rattle.std.specs.Int.{bit_at}
-use Rattle.std.specs.Int.RustNames.{bit_and}
-use Rattle.std.proofs.lemmas.Bool.{cases_lt}
-use Rattle.std.proofs.lemmas.Nat.{shr-shr}
-use Rattle.std.proofs.lemmas.Nat.Bits.{bit_at_above, bit_at-zero}
-use Rattle.arachne_exec.specs.Layout.{others}
-use Rattle.arachne_exec.specs.Turns.{IsFirstFrom}
+use Rattle.std.proofs.Common.{◌≡◌, ℕ, ◌+◌, ◌-◌, ◌/◌, ◌%◌, ◌^◌, ◌<◌, ◌≤◌, ap, sym, ◌∙◌, inl, inr, arith, shr-shr}
+use Rattle.std.specs.Int.{bit_at, RustNames.bit_and}
+use Rattle.std.proofs.lemmas.{Bool.cases_lt, Nat.Bits.{bit_at_above, bit_at-zero}}
+use Rattle.arachne_exec.specs.{Layout.others, Turns.IsFirstFrom}
 use Rattle.arachne_exec.proofs.Bits.{clear_same, clear_le}
 
 -- the bits of a word that is shifted down

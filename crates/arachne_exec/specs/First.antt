@@ -1,4 +1,4 @@
--- The words of an executor at first.
+-- The initial values of an executor's words.
 use Rattle.std.specs.Prelude.{◌≡◌, ℕ, ◌-◌, ◌%◌, ◌^◌, ◌<◌, ◌==◌, if◌then◌else◌, List, length, slice_index}
 use Rattle.arachne_exec.specs.Layout.{words_of}
 

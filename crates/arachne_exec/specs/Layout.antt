@@ -1,4 +1,4 @@
--- Where the words of an executor lie.
+-- The indexes of an executor's words.
 use Rattle.std.specs.Prelude.{◌≡◌, ℕ, zero, suc, [], ◌∷◌, ◌+◌, ◌-◌, ◌*◌, ◌/◌, ◌%◌, ◌^◌, ◌==◌, max, List, take, slice_index, if◌then◌else◌}
 use Rattle.std.specs.Int.{bit_at}
 
@@ -27,11 +27,11 @@ mark_at place = 48 + 96 * (place / 64) + place % 64
 abbrev pub words_of : ℕ → ℕ
 words_of blocks = 16 + 96 * blocks
 
--- which worker looks after a shard
+-- the number of the worker that runs a shard's jobs
 abbrev pub worker_of : ℕ → ℕ
 worker_of shard = shard % 64
 
--- all bits but that one
+-- all bits but this one
 abbrev pub others : ℕ → ℕ
 others i = 2 ^ 64 - 1 - 2 ^ i
 
@@ -39,7 +39,7 @@ others i = 2 ^ 64 - 1 - 2 ^ i
 abbrev pub in_word : (ℕ → ℕ) → List ℕ → ℕ → ℕ
 in_word at words place = bit_at (slice_index words (at (place / 64))) (place % 64)
 
--- the places of a block whose bits are set in a word, of so many indices from this one on
+-- the places of a block whose bits are set in a word, of the next bits from this index on
 abbrev pub places_from : ℕ → ℕ → ℕ → ℕ → List ℕ
 places_from block word i zero = []
 places_from block word i (suc more) = if bit_at word i == 1 then (64 * block + i) ∷ places_from block word (suc i) more else places_from block word (suc i) more
@@ -47,12 +47,12 @@ places_from block word i (suc more) = if bit_at word i == 1 then (64 * block + i
 abbrev pub places_in_word : ℕ → ℕ → List ℕ
 places_in_word block word = places_from block word 0 64
 
--- the places of a block that are picked are the first of those that a word says: so many, at least one, or all
+-- the picked places of a block are the lowest of those whose bits are set in a word: `most`, at least one, or all
 pub record PicksLowest (block word most pick : ℕ) : Type 0 where
   pub first : places_in_word block pick ≡ take (max 1 most) (places_in_word block word)
 
--- A mark is four times the number of jobs that have ended at the place, and 1 more where its job was woken since it was
--- taken, 2 more where it is blocked. A place where so many have ended as a name can't say is blocked for ever.
+-- A mark is four times the number of jobs that have ended at the place. It is 1 more if a wake of its job is recorded,
+-- and 2 more if its job is blocked. A place is blocked for ever once no name can hold this number.
 abbrev pub last_generation : ℕ
 last_generation = 2 ^ 44 - 1
 

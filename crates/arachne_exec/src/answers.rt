@@ -1,8 +1,6 @@
-//! The results of an executor's calls: which job the caller's seat now holds, why a call was refused, or if the caller
-//! must unpark a worker.
+//! The results of an executor's calls.
 
-/// A job that a seat (a thread's right to call the executor) holds: its slot (`place`), its unique `name`, and the
-/// number that was passed to `spawn` for it (`job`).
+/// A job that a seat holds. `place` is its slot, `name` is unique, and `job` is the number that its spawner passed.
 #[derive(Clone, Copy, Debug, PartialEq, Eq)]
 pub struct HeldJob {
     pub place: usize,
@@ -10,9 +8,8 @@ pub struct HeldJob {
     pub job: u64,
 }
 
-/// The slot (`place`) into which `spawn` has put a job, and the job's unique name.
-///
-/// If `unpark` is true, the caller must unpark the worker `worker_of_place(place)`.
+/// A job that `spawn` put into slot `place`. `name` is unique. If `unpark` is true, the caller must unpark the slot's
+/// worker.
 #[derive(Clone, Copy, Debug, PartialEq, Eq)]
 pub struct PlacedJob {
     pub place: usize,
@@ -20,72 +17,73 @@ pub struct PlacedJob {
     pub unpark: bool,
 }
 
-/// The result of `spawn`: the job's slot and name, or the reason why no job was spawned.
+/// The result of `spawn`: the new job, or the reason why no job was spawned.
 #[derive(Clone, Copy, Debug, PartialEq, Eq)]
 pub enum JobSpawned {
     Placed(PlacedJob),
     /// No slot of the block was free.
     Full,
-    /// Another thread claimed the free slot first. The caller may try again.
+    /// Another kernel thread claimed the free slot first. The caller may try again.
     Lost,
 }
 
-/// The result of `spawn_here`: the job, which the caller's seat (a thread's right to call the executor) then holds, or
-/// the reason why no job was spawned.
+/// The result of `spawn_here`: the new job, which the caller then holds, or the reason why no job was spawned.
 #[derive(Clone, Copy, Debug, PartialEq, Eq)]
 pub enum SpawnedHere {
     Held(HeldJob),
     /// No slot of the block was free.
     Full,
-    /// Another thread claimed the free slot first. The caller may try again.
+    /// Another kernel thread claimed the free slot first. The caller may try again.
     Lost,
 }
 
-/// The result of `rest_blocked`: the job is blocked, or it is ready again because it was woken while it ran.
+/// The result of `rest_blocked`.
 #[derive(Clone, Copy, Debug, PartialEq, Eq)]
 pub enum JobRested {
     Blocked,
-    /// The job is ready, because it was woken while it ran. If `unpark` is true, the caller must unpark the job's
+    /// The job is ready again, since a wake of it was recorded. If `unpark` is true, the caller must unpark the job's
     /// worker.
     Ready { unpark: bool },
 }
 
-/// The result of `next`: the worker must run a job, call `next` again, or park.
+/// The result of `next`, which is a worker's next action.
 #[derive(Clone, Copy, Debug, PartialEq, Eq)]
 pub enum Next {
     Run(HeldJob),
-    /// The worker must park. `next` has set the worker's idle bit, and after that each of the worker's summary words
-    /// (which show the blocks with ready jobs) was 0.
+    /// The worker must park. `next` has marked the worker as asleep, and has then found no ready job.
     Park,
-    /// No job was taken, but the worker must not park yet: it must call `next` again.
+    /// `next` has taken no job, but the worker must not park before it has called `next` again.
     Again,
 }
 
-/// The result of `wake`: how it changed the job with the given name.
+/// The result of `wake`.
 #[derive(Clone, Copy, Debug, PartialEq, Eq)]
 pub enum JobWoken {
     /// The job was blocked, and is ready now. If `unpark` is true, the caller must unpark the job's worker.
     Ready { unpark: bool },
-    /// The job isn't blocked, so the mark of its slot (an atomic word) now records the wake. The record is cleared when
-    /// the job is taken, started or ended. If the name is the one that the next job of a free slot will have, the wake
-    /// is recorded in the same way.
+    /// The job isn't blocked, so the wake is recorded until the job is taken, started or ended. Also the result for the
+    /// name that a free slot's next job will get.
     Marked,
-    /// The mark of the job's slot (an atomic word) already records a wake.
+    /// The wake changed nothing, since an earlier wake of the job is still recorded.
     Already,
     /// No job has that name at present.
     Gone,
-    /// Another thread changed the mark of the job's slot (an atomic word) during the call. The caller may try again.
+    /// Another kernel thread changed the job's state during the call. The caller may try again.
     Lost,
 }
 
-/// The result of `wake_here`, which wakes a job. If the job was blocked, the caller's seat (a thread's right to call
-/// the executor) then holds it.
+/// The result of `wake_here`.
 #[derive(Clone, Copy, Debug, PartialEq, Eq)]
 pub enum WokenHere {
-    /// The job was blocked, and the caller's seat holds it now.
+    /// The job was blocked, and the caller holds it now.
     Held(HeldJob),
+    /// The job isn't blocked, so the wake is recorded until the job is taken, started or ended. Also the result for the
+    /// name that a free slot's next job will get.
     Marked,
+    /// The wake changed nothing, since an earlier wake of the job is still recorded.
     Already,
+    /// No job has that name at present.
     Gone,
+    /// Another kernel thread changed the job's state during the call. The caller may try again.
     Lost,
 }

@@ -26,9 +26,8 @@ impl Executor {
         Ok(self.close_into(seat, left))
     }
 
-    /// Ends the executor like `close`, but puts the numbers of the jobs that haven't ended into `list`.
-    ///
-    /// The caller must pass an empty `list` with capacity for all slots.
+    /// Ends the executor. Puts the numbers of the jobs that haven't ended into `list`, in the order of their slots, and
+    /// returns it. `list` must be empty, and must have room for a number for each slot.
     pub fn close_into(self, seat: ExecSeat, list: Vec<u64>) -> Vec<u64>
         requires own { seat.table ≡ self.table }
         requires whole { seat.weight ≡ whole }

@@ -1,4 +1,4 @@
-//! The executor, with the calls that create it with its first seat, split a seat for another thread, and join seats.
+//! The executor, and the calls that create it, split a seat for another thread, and join seats.
 ghost use Rattle.std.specs.Prelude.{◌≡◌, ◌*◌, ◌↔◌, ◌≤◌, [], IsTrue, IfOk};
 ghost use Rattle.arachne_weights.specs.Weight.{whole, first_part, second_part, joined};
 ghost use Rattle.arachne_exec.specs.Changes.{blank, splitting, together};
@@ -13,14 +13,11 @@ use atomic_table::Table;
 use std::alloc::{AllocError, Global};
 use std::marker::Model;
 
-/// An executor: it knows which jobs are ready or blocked, and gives each ready job to one thread.
+/// An executor, which knows the ready and the blocked jobs, and gives each ready job to one kernel thread.
 ///
-/// A job is a number that the host (the program that uses the executor) chooses; the executor doesn't interpret it. It
-/// is stored in one of the slots: 64 slots are a block, and 64 blocks a shard, whose jobs one worker runs. A block's
-/// ready word has a bit for each ready job, a shard's summary word a bit for each block that perhaps has ready jobs,
-/// and the idle word a bit for each worker that sleeps or is about to. Threads call the executor through seats, which
-/// are values of [`ExecSeat`]. Contracts refer to the executor's table of atomic words, which each of its seats has
-/// too, and to its number of shards.
+/// A job is a number that the host (the program that uses the executor) chooses, and that the executor doesn't
+/// interpret. Each job is in a slot. A block is 64 slots, and a shard is 64 blocks, whose jobs one worker runs. Threads
+/// call the executor through seats ([`ExecSeat`]).
 // In methods of this type, the line `let _ = self.shards;` gives the prover the invariant of this type, with the sizes
 // of the table.
 #[derive(Drop)]
@@ -40,10 +37,11 @@ impl Model for Executor {
 }
 
 impl Executor {
-    /// Creates an executor with `shards` shards of 4,096 free slots each. Returns the executor with its first seat (a
-    /// thread's right to call it), which has the whole weight.
+    /// Creates an executor with `shards` shards of 4,096 free slots each, and its first seat. Returns an error if
+    /// memory is refused.
     ///
-    /// A split halves a seat's weight and a join adds two, so a seat with the whole weight is the only one.
+    /// Each seat has a *weight*. The first seat has the whole, a split halves a weight, and a join adds two weights. So
+    /// a seat with the whole weight is the only one left, as `close` requires.
     pub fn new(alloc: Global, shards: usize) -> Result<(Executor, ExecSeat), AllocError>
         requires { shards ≤ 256 }
         ensures shards { IfOk result (λ made. made.0.shards ≡ shards) }
@@ -78,7 +76,7 @@ impl Executor {
         4096 * self.shards
     }
 
-    /// Does nothing. Its contract states that an executor has at most 256 shards.
+    /// Does nothing, but its contract tells the prover that an executor has at most 256 shards.
     pub(crate) fn few(&self)
         ensures { self.now.shards ≤ 256 }
     {
@@ -105,9 +103,9 @@ impl Executor {
         self.table.shared.join_seat::<Halve>(&mut seat.seat, spent);
     }
 
-    /// Splits off a seat for another thread. The new seat gets half of the weight of `seat`, and holds no job.
+    /// Splits off a seat for another kernel thread. The new seat holds no job, and gets half of the weight of `seat`.
     ///
-    /// If the weight of `seat` is 1 or 0, both seats then have weight 0.
+    /// If the weight of `seat` is 1 (of 2^127) or 0, both seats get weight 0, and the executor can never be closed.
     pub fn split(&self, seat: &mut ExecSeat) -> ExecSeat
         requires own { seat.old.table ≡ self.now.table }
         ensures first { seat.new ≡ record seat.old { weight = first_part seat.old.weight; known = splitting seat.old.known } }
@@ -124,9 +122,7 @@ impl Executor {
         }
     }
 
-    /// Joins `other` into `seat`: adds the weight of `other` (up to the whole) and its record to those of `seat`.
-    ///
-    /// The caller must pass an `other` that holds no job and has no worker number.
+    /// Joins the seat `other` into `seat`, and adds its weight. `other` must hold no job and have no worker number.
     pub fn join_seats(&self, seat: &mut ExecSeat, other: ExecSeat)
         requires own { (seat.old.table ≡ self.now.table) × (other.table ≡ self.now.table) }
         requires nothing_in_hand { other.known.hand ≡ [] }
@@ -142,7 +138,7 @@ impl Executor {
         seat.weight = seat.weight.join(added);
     }
 
-    /// Returns true if `seat` has the whole weight, which means that all other seats were joined into it.
+    /// Returns true if `seat` is the only seat left, since all others were joined into it.
     pub fn is_whole(&self, seat: &ExecSeat) -> bool
         ensures { IsTrue result ↔ (seat.now.weight ≡ whole) }
     {

@@ -1,4 +1,4 @@
-//! The calls that spawn a job, take one to run it, make it ready or block it again, and end it.
+//! The calls that spawn, take, block and end jobs, and make jobs ready.
 ghost use Rattle.std.specs.Prelude.{◌≡◌, ℕ, ◌+◌, ◌*◌, ◌%◌, ◌<◌, IsTrue, IsFalse, IfSome, IfNone};
 ghost use Rattle.arachne_exec.specs.Layout.{mark_at, name_of};
 ghost use Rattle.arachne_exec.specs.Changes.{laying_down, noted, rousing, using_up};
@@ -11,7 +11,6 @@ use crate::layout::{LAST_GENERATION, free_word, mark_word, name_at, ready_word};
 use crate::seat::{ExecSeat, SeatInCall};
 use crate::turns::{TakenJob, first_from, has_more, lowest_index};
 
-/// Returns the job with number `job` in slot `place`. The job's name consists of `place` and the generation in `mark`.
 #[inline(always)]
 pub(crate) fn job_at(place: usize, mark: u64, job: u64) -> HeldJob
     requires { place < 1048576 }
@@ -25,10 +24,7 @@ pub(crate) fn job_at(place: usize, mark: u64, job: u64) -> HeldJob
 }
 
 impl Executor {
-    /// Clears the record of a wake, if there is one, in the mark of slot `place` (an atomic word). Returns the mark as
-    /// it was before the call.
-    ///
-    /// The caller must pass the slot of the job that `seat` got last of those that it holds.
+    /// Returns the mark (atomic word) of slot `place`, and clears the record of a wake of the slot's job.
     pub(crate) fn refresh(&self, seat: &mut SeatInCall, place: usize) -> u64
         requires own { seat.old.table ≡ self.now.table }
         requires place { place < 4096 * self.now.shards }
@@ -45,7 +41,7 @@ impl Executor {
         mark
     }
 
-    /// Tries once to put `job` into a free one of the 64 slots of `block`, ready to be run by any thread.
+    /// Tries once to put `job` into a free slot of `block` (64 slots), ready to be run by any kernel thread.
     pub fn spawn(&self, seat: &mut ExecSeat, block: usize, job: u64) -> JobSpawned
         requires own { seat.old.table ≡ self.now.table }
         requires block { block < 64 * self.now.shards }
@@ -72,8 +68,7 @@ impl Executor {
         })
     }
 
-    /// Tries once to put `job` into a free one of the 64 slots of `block`. The caller's seat then holds the job: no
-    /// other thread can take it.
+    /// Tries once to put `job` into a free slot of `block` (64 slots). The caller then holds the job.
     pub fn spawn_here(&self, seat: &mut ExecSeat, block: usize, job: u64) -> SpawnedHere
         requires own { seat.old.table ≡ self.now.table }
         requires block { block < 64 * self.now.shards }
@@ -95,8 +90,8 @@ impl Executor {
         SpawnedHere::Held(job_at(place, mark, job))
     }
 
-    /// Tries once to take a ready job of `block`. The search goes from slot `from` to the block's last slot, and then
-    /// from its first slot. Together with the job, records if another ready slot lies behind the job's.
+    /// Tries once to take a ready job of `block` (64 slots). Searches from the slot with index `from` on, then from
+    /// slot 0.
     pub(crate) fn take_from(
         &self,
         seat: &mut ExecSeat,
@@ -130,11 +125,9 @@ impl Executor {
         })
     }
 
-    /// Tries once to take a ready job from one of the 64 slots of `block`, which may be any worker's. Returns `None` if
-    /// there is none, or if another thread took the job first.
+    /// Tries once to take a ready job of `block` (64 slots, of any worker). Returns `None` if it takes none.
     ///
-    /// The search goes through all slots of the block, and begins behind the slot index at which this seat's last
-    /// `take` found its job.
+    /// The search goes round the block, and begins behind the index at which this seat's last `take` found a job.
     pub fn take(&self, seat: &mut ExecSeat, block: usize) -> Option<HeldJob>
         requires own { seat.old.table ≡ self.now.table }
         requires block { block < 64 * self.now.shards }
@@ -153,7 +146,7 @@ impl Executor {
 
     /// Makes the job in slot `place` ready again. Returns true if the caller must unpark the worker of that slot.
     ///
-    /// The caller must pass the slot of the job that `seat` got last of those that it holds.
+    /// Of the jobs that the caller holds, the job in slot `place` must be the one that it took last.
     pub fn rest_ready(&self, seat: &mut ExecSeat, place: usize) -> bool
         requires own { seat.old.table ≡ self.now.table }
         requires place { place < 4096 * self.now.shards }
@@ -163,8 +156,7 @@ impl Executor {
         self.publish(&mut seat.at, place)
     }
 
-    /// Blocks the job in slot `place`, unless a wake of the job is recorded in the slot's mark (an atomic word).
-    /// Returns true if it blocked the job.
+    /// Blocks the job in slot `place`, and returns true. If a wake of the job is recorded, only returns false.
     fn try_block(&self, seat: &mut SeatInCall, place: usize) -> bool
         requires own { seat.old.table ≡ self.now.table }
         requires place { place < 4096 * self.now.shards }
@@ -181,9 +173,9 @@ impl Executor {
         self.put_blocked(seat, place, mark)
     }
 
-    /// Blocks the job in slot `place`. If the job was woken while it ran, makes it ready instead.
+    /// Blocks the job in slot `place`. If a wake of the job is recorded, makes the job ready instead.
     ///
-    /// The caller must pass the slot of the job that `seat` got last of those that it holds.
+    /// Of the jobs that the caller holds, the job in slot `place` must be the one that it took last.
     pub fn rest_blocked(&self, seat: &mut ExecSeat, place: usize) -> JobRested
         requires own { seat.old.table ≡ self.now.table }
         requires place { place < 4096 * self.now.shards }
@@ -200,9 +192,9 @@ impl Executor {
     }
 
     /// Ends the job in slot `place`, and frees the slot for another job, which gets another name. After 2^44 - 1 jobs,
-    /// the slot is retired instead, and takes no more jobs.
+    /// the slot is not freed but retired, and takes no more jobs.
     ///
-    /// The caller must pass the slot of the job that `seat` got last of those that it holds.
+    /// Of the jobs that the caller holds, the job in slot `place` must be the one that it took last.
     pub fn finish(&self, seat: &mut ExecSeat, place: usize)
         requires own { seat.old.table ≡ self.now.table }
         requires place { place < 4096 * self.now.shards }

@@ -1,5 +1,5 @@
-//! The laws that hold for an executor between any two atomic operations. Each law is the contract of a function that
-//! does nothing.
+//! Laws that hold for an executor between any two atomic operations. Each law is the contract of a function that does
+//! nothing.
 ghost use Rattle.std.specs.Prelude.{◌≡◌, ◌≢◌, Bool, ℕ, ◌+◌, ◌*◌, ◌/◌, ◌<◌, ◌≤◌, min, List, ◌∷◌};
 ghost use mathlib.Core.Option.{some};
 ghost use lib.ListN.{get_elem?};
@@ -23,23 +23,20 @@ ghost use Rattle.arachne_exec.specs.Promises.{spawns, ends, times_in_hand, spawn
 use crate::executor::Executor;
 use crate::seat::ExecSeat;
 
-/// An executor reaches each of its states by single atomic operations (*steps*). The state, a *board*, consists of the
-/// values of the atomic words, and of the record that proofs keep of each seat (a thread's right to call the executor).
-/// Each step found the value that was in its word, and kept the table's invariant, the *rule*.
+/// Each change of an executor is one atomic operation (*step*). The laws below hold at first and after each step.
 ///
-/// A seat records only a value that its step found in a word, or that its step stored in a mark, and never forgets a
-/// record. While a call through the seat must still set a bit of a summary word, the seat records nothing of summary
-/// words. A seat records each change of the worker numbers, each ready bit that it clears, and why it no longer holds a
-/// job. So each recorded value was in its word, whatever kind of step recorded it. A record of a worker's sleep says
-/// exactly how the step changed the worker's idle bit. A seat that has claimed a slot must, before its call ends, read
-/// the slot's mark and then spawn a job there.
+/// For proofs only, each seat (right to call) has a record: each change that it made to a worker number or an idle bit,
+/// each ready job that it took, and why it no longer holds a job. A record never loses an entry.
+///
+/// A call that has claimed a slot spawns a job there before it returns.
 pub fn boards_come_by_steps()
     ensures { (shards : ℕ) (b : Board) → IsLawful shards b → HasCome shards b }
 {}
 
-/// Each slot is exactly one of these: free, ready, blocked (or retired), or held by one seat (a thread's right to call
-/// the executor). So if a job is neither blocked nor held by a seat, its bit is set in the ready word of its block (64
-/// slots). If a block's ready word is 0, each job of the block is blocked or held by a seat.
+/// Each slot is free, or its job is ready, blocked, or held by one seat.
+///
+/// So each job that is neither blocked nor held has its bit in a ready word, in which workers search for jobs. A
+/// retired slot (it takes no more jobs) counts as blocked.
 pub fn ready_jobs_are_shown()
     ensures shown { (shards : ℕ) (b : Board) → IsLawful shards b → (place : ℕ) → place < 4096 * shards → IsReadyJob place b → is_ready b.words place ≡ 1 }
     ensures one_keeper { (shards : ℕ) (b : Board) → IsLawful shards b → (place : ℕ) → place < 4096 * shards
@@ -51,37 +48,36 @@ pub fn free_places_are_empty()
     ensures { (shards : ℕ) (b : Board) → IsLawful shards b → (place : ℕ) → place < 4096 * shards → is_free b.words place ≡ 1 → IsEmptyPlace place b }
 {}
 
-/// If a job was spawned in a slot, that slot was freed since, or isn't free. If a slot isn't free, a job was spawned
-/// there since the slot was freed last, or a call in progress must still spawn one. So each ready job was spawned, and
-/// a call that spawns no job takes no free slot, not even for a short time.
+/// If a slot isn't free, a job was spawned there since the slot was last freed, or a call in progress must still spawn
+/// one. A ready job was therefore spawned.
 pub fn jobs_are_spawned()
     ensures { (shards : ℕ) (b : Board) → IsLawful shards b → (place : ℕ) → place < 4096 * shards
         → spawns_at place b + unspawned_by place b.views + is_free b.words place ≡ frees_at place b + 1 }
 {}
 
-/// If a block (64 slots) has a ready job, which means that its ready word isn't 0, the block's bit in the summary word
-/// of its shard (64 blocks) is set, or a call in progress must still set the bit.
+/// A block with a ready job is on its worker's list of blocks to search, or a call in progress must still add it.
 pub fn ready_blocks_are_shown()
     ensures { (shards : ℕ) (b : Board) → IsLawful shards b → (block : ℕ) → block < 64 * shards → HasReady block b → IsShownOrOwed block b }
 {}
 
-/// If a worker is parked although one of its blocks (64 slots each) has a ready job, a call in progress must still set
-/// the block's bit in the summary word, or read the idle word and wake the worker.
+/// If a block of a parked worker has a ready job, a call in progress must still add the block to the worker's list of
+/// blocks to search, or wake the worker.
 pub fn sleepers_are_woken()
     ensures { (shards : ℕ) (b : Board) → IsLawful shards b → (worker : ℕ) → IsParked shards worker b → AreOwedTo shards worker b }
 {}
 
-/// A worker's idle bit changed from set to clear as often as from clear to set, or once less if it is still set. The
-/// worker itself cleared it, or a seat (a thread's right to call the executor) that then wakes the worker. So if the
-/// idle bit of a worker is clear, a call of its own seat or of another has ended each of its sleeps.
+/// A worker's idle bit (set while it sleeps or is about to) was cleared as often as it was set, or once less if it is
+/// set now.
 pub fn sleepers_are_told()
     ensures { (shards : ℕ) (b : Board) → IsLawful shards b → (worker : ℕ) → worker < 64
         → lies worker b.views ≡ rises worker b.views + rouses worker b.views + is_idle b.words worker }
 {}
 
-/// The calls' results say which workers must be unparked. Each time that a call clears a worker's idle bit to wake it,
-/// exactly one result says that this worker must be unparked, unless the worker's own `next` cleared the bit; no other
-/// result says so. Only a worker's own `next` and `may_park` set its idle bit.
+/// The result of a call says that a worker must be unparked exactly if the call has cleared this worker's idle bit to
+/// wake it.
+///
+/// Only a worker's own calls of `next` and `may_park` set the bit. Its own calls of `next` may also clear it, and then
+/// no worker need be unparked.
 pub fn calls_say_whom_they_rouse()
     ensures spawn { (answer : JobSpawned) (block job : ℕ) (k after : Notes) → HasSpawned answer block job k after → Rouses (spawn_unparks answer) (worker_of (block / 64)) k after }
     ensures rest_ready { (unpark : Bool) (place : ℕ) (k : Notes) → Rouses unpark (worker_at place) k (rousing unpark (worker_at place) (laying_down k)) }
@@ -97,9 +93,9 @@ pub fn calls_say_whom_they_rouse()
     ensures finish { (place : ℕ) (k after : Notes) → HasFinished place k after → RousesNobody k after }
 {}
 
-/// For each job number except 0, the number of jobs that were spawned with it is the number of those that have ended,
-/// are held by a seat (a thread's right to call the executor), or are stored in a slot. This is so for all slots
-/// together, and for each slot.
+/// Jobs are neither lost nor doubled, in the executor and in each slot.
+///
+/// Each job that was spawned with a number other than 0 has ended, is held by a seat, or is stored in a slot.
 pub fn jobs_are_conserved()
     ensures all { (shards : ℕ) (b : Board) → IsLawful shards b → (job : ℕ) → 0 < job
         → spawns job b ≡ ends job b + times_in_hand job b + at_home job b.homes }
@@ -107,27 +103,26 @@ pub fn jobs_are_conserved()
         → spawned_at place job b ≡ ended_at place job b + lives_at place job b }
 {}
 
-/// A slot was blocked or retired as often as it was unblocked, and once more if it is blocked or retired now. So no
-/// atomic operation blocks or wakes a job without being counted.
+/// A slot's jobs were blocked as often as they were unblocked, and once more if the slot's job is blocked now.
+///
+/// A retired slot counts as blocked.
 pub fn blocks_are_counted()
     ensures { (shards : ℕ) (b : Board) → IsLawful shards b → (place : ℕ) → place < 4096 * shards
         → blocks place b ≡ unblocks place b + is_blocked b.words place }
 {}
 
-/// Each wake that was recorded in a slot's mark was cleared once, or is still recorded. The clauses of the calls show
-/// that only a take, a `start` or a `finish` of the slot clears it. While a job is blocked, no wake is recorded for it.
-/// So a job blocks only after each wake that was recorded for it was cleared.
+/// Wakes aren't lost: each recorded wake of a slot's job was cleared once, or is still recorded. A blocked job has
+/// none.
 pub fn wakes_are_heard()
     ensures blocked { (shards : ℕ) (b : Board) → IsLawful shards b → (place : ℕ) → place < 4096 * shards → is_blocked b.words place ≡ 1 → is_marked b.words place ≡ 0 }
     ensures heard { (shards : ℕ) (b : Board) → IsLawful shards b → (place : ℕ) → place < 4096 * shards
         → wakes place b ≡ wakes_heard place b + is_marked b.words place }
 {}
 
-/// The generation in a slot's mark is the number of jobs that have ended in the slot, up to the largest generation that
-/// a name can hold. At most one job is in the slot. As long as a seat (a thread's right to call the executor) holds the
-/// slot, the mark keeps the generation that the seat last found in it. So a name, which contains the generation,
-/// belongs to one job forever: after that job's end the mark never has this generation again, and a wake by the old
-/// name does nothing.
+/// At most one job is in a slot, and a name belongs to one job forever.
+///
+/// A name contains the slot's generation, which is the number of jobs that have ended there, up to the largest that a
+/// name can hold. While a seat holds the slot's job, the generation stays the same.
 pub fn names_are_of_one_job()
     ensures generation { (shards : ℕ) (b : Board) → IsLawful shards b → (place : ℕ) → place < 4096 * shards
         → generation_at place b ≡ min last_generation (ends_at place b.views) }
@@ -137,8 +132,7 @@ pub fn names_are_of_one_job()
         → lives_at place job b + lives_at place other b ≤ 1 }
 {}
 
-/// No two seats have the same worker number. If the bit of a worker number is clear in the word of unused numbers, a
-/// seat (a thread's right to call the executor) has that number.
+/// No two seats have the same worker number, and each worker number in use belongs to a seat.
 pub fn workers_are_one()
     ensures one { (shards : ℕ) (b : Board) → IsLawful shards b → (worker : ℕ) → worker < 64 → seats_of worker b.views ≤ 1 }
     ensures taken { (shards : ℕ) (b : Board) → IsLawful shards b → (worker : ℕ) → worker < 64 → is_unused b.words worker ≡ 0 → seats_of worker b.views ≡ 1 }
@@ -146,8 +140,7 @@ pub fn workers_are_one()
 
 fn may_be_shared<T: Send + Sync>() {}
 
-/// Threads may share an executor, a seat (a thread's right to call the executor) may be sent to another thread, and
-/// threads may share a reference to a seat.
+/// An executor and a seat are `Send` and `Sync`.
 pub fn executors_cross_threads() {
     may_be_shared::<Executor>();
     may_be_shared::<ExecSeat>();

@@ -1,4 +1,4 @@
-//! The index of each atomic word in an executor's table, and its initial value.
+//! The indexes and the initial values of the atomic words in an executor's table.
 ghost use Rattle.std.specs.Prelude.{◌≡◌, ℕ, ◌+◌, ◌*◌, ◌/◌, ◌%◌, ◌^◌, ◌<◌, ◌≤◌, IfOk, vec_len, slice_index};
 ghost use Rattle.arachne_exec.specs.Layout.{summary_at, ready_at, free_at, mark_at, others, name_of, worker_of};
 ghost use Rattle.arachne_exec.specs.First.{AreFirstWords, first_word};
@@ -10,21 +10,20 @@ pub const PLACES_PER_BLOCK: usize = 64;
 
 pub const BLOCKS_PER_SHARD: usize = 64;
 
-/// The greatest number of workers. Worker `w` runs the jobs of the shards (64 blocks of 64 slots each) `w`, `w + 64`,
-/// `w + 128` and so on.
+/// The greatest number of workers of an executor. Worker `w` runs the jobs of shards `w`, `w + 64`, and so on.
 pub const WORKERS: usize = 64;
 
-/// The greatest number of shards (64 blocks of 64 job slots each) of an executor.
+/// The greatest number of shards (4,096 slots each) of an executor.
 pub const MOST_SHARDS: usize = 256;
 
 pub(crate) const IDLE: usize = 0;
 
 pub(crate) const NUMBERS: usize = 8;
 
-/// The last generation of a slot. After 2^44 - 1 jobs have ended in a slot, it is retired: no other job is put there.
+/// The number of jobs after which a slot is retired: it never gets another job.
 pub(crate) const LAST_GENERATION: u64 = (1 << 44) - 1;
 
-/// Returns the slot in which the job of this name is, or was.
+/// Returns the slot in which the job with this name is, or was before it ended.
 pub fn place_of(name: u64) -> usize
     ensures { result ≡ name % 2 ^ 20 }
 {
@@ -99,7 +98,6 @@ fn first_word_at(index: usize) -> u64
     }
 }
 
-/// Returns the initial values of the atomic words: all slots are free, and all worker numbers are unused.
 pub(crate) fn first_words(alloc: Global, blocks: usize) -> Result<Vec<u64>, AllocError>
     requires { blocks ≤ 16384 }
     ensures { IfOk result (λ words. AreFirstWords blocks words.items) }
@@ -112,7 +110,6 @@ pub(crate) fn first_words(alloc: Global, blocks: usize) -> Result<Vec<u64>, Allo
     Ok(words)
 }
 
-/// Returns the job number of each slot in `blocks` blocks, all 0, which means that no job is there.
 pub(crate) fn empty_slots(alloc: Global, blocks: usize) -> Result<Vec<u64>, AllocError>
     requires { blocks ≤ 16384 }
     ensures { IfOk result (λ slots. (vec_len slots ≡ 64 * blocks) × ((i : ℕ) → slice_index slots.items i ≡ 0)) }

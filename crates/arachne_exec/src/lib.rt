@@ -1,17 +1,17 @@
-//! The core of an executor, on atomic words: which jobs are ready, which thread holds each job that runs, and which
-//! worker must be woken.
+//! The core of an executor, on atomic words. The executor knows which jobs are ready, which thread has each running
+//! job, and which worker must be woken.
 //!
-//! From its spawn to its end, a job stays in one slot, in the code a *place*. The *mark* of a slot is an atomic word
-//! with the number of jobs that have ended there (the *generation*); the mark also says if the job is blocked or was
-//! woken. Slot and generation are the job's *name*. A *block* has 64 slots, and a *ready word* with a bit for each slot
-//! whose job is ready. A *shard* has 64 blocks, and a *summary word* with a bit for each block that perhaps has ready
-//! jobs. The *idle word* has a bit for each worker that sleeps or is about to.
+//! From its spawn to its end, a job stays in one *slot* (a *place* in the code). The *mark* of a slot is an atomic word
+//! that says whether the job is blocked or was woken. The mark also counts the jobs that have ended in the slot (the
+//! *generation*). Slot and generation together are the job's *name*. A *block* is 64 slots, and has a *ready word* with
+//! a bit for each ready job. A *shard* is 64 blocks, and has a *summary word* with a bit for each block that may have
+//! ready jobs. The *idle word* has a bit for each worker that sleeps or is about to.
 //!
-//! A *seat* is one thread's right to call the executor. A seat *holds* a job from the call that takes the job until a
-//! call ends it or makes it ready or blocked again; meanwhile no other thread can take it. If a seat holds several
-//! jobs, such calls concern only the *newest*, the one that the seat got last. A call that has made a job ready must
-//! then set the block's bit in the summary word, and read the idle word for a worker to wake. Until the call has done
-//! both, the seat *owes* them.
+//! A *seat* is one kernel thread's right to call the executor. A seat *holds* a job from the call that takes the job
+//! until a call ends the job, or makes it ready or blocked again. During this time no other thread can take the job. If
+//! a seat holds several jobs, such calls are possible only for the job that the seat took last. A call that makes the
+//! first job of a block ready must also set the block's bit in the summary word, if it isn't set. If that word was 0,
+//! the call must also read the idle word, to wake the shard's worker if it sleeps. Until then the seat *owes* this.
 #![tactic(auto)]
 
 mod answers;

@@ -8,10 +8,9 @@ use crate::layout::{ready_word, summary_word};
 use crate::seat::ExecSeat;
 
 impl Executor {
-    /// Returns a bit for each of the 64 blocks of `shard` that perhaps has ready jobs, by one load.
+    /// Returns a bit for each of the 64 blocks of `shard`, which is set if the block may have ready jobs.
     ///
-    /// A block whose bit is clear has no ready job, unless a call in progress has yet to set that bit, or to find that
-    /// another call has set it.
+    /// A block whose bit is clear has no ready job, unless a call that makes a job ready there is still in progress.
     pub fn shown(&self, seat: &mut ExecSeat, shard: usize) -> u64
         requires own { seat.old.table ≡ self.now.table }
         requires shard { shard < self.now.shards }
@@ -21,7 +20,7 @@ impl Executor {
         self.look(&mut seat.at, summary_word(shard))
     }
 
-    /// Returns a bit for each of the 64 slots of `block` that has a ready job, by one load.
+    /// Returns a bit for each of the 64 slots of `block`, which is set if the slot has a ready job.
     pub fn ready(&self, seat: &mut ExecSeat, block: usize) -> u64
         requires own { seat.old.table ≡ self.now.table }
         requires block { block < 64 * self.now.shards }

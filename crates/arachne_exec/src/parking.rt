@@ -12,7 +12,6 @@ use crate::rounds::Round;
 use crate::seat::{ExecSeat, SeatInCall};
 use crate::turns::SearchTurn;
 
-/// Returns how many of the executor's `shards` shards belong to `worker`.
 fn shards_of(worker: usize, shards: usize) -> usize
     requires { worker < 64 }
     ensures all { (j : ℕ) → worker + 64 * j < shards → j < result }
@@ -26,7 +25,7 @@ fn shards_of(worker: usize, shards: usize) -> usize
 }
 
 impl Executor {
-    /// Makes the thread of `seat` the worker with number `worker`. Returns false if another seat has that number.
+    /// Makes the caller the worker with the number `worker`. Returns false if another seat has that number.
     pub fn register(&self, seat: &mut ExecSeat, worker: usize) -> bool
         requires own { seat.old.table ≡ self.now.table }
         requires worker { (seat.old.known.worker ≡ 0) × (worker < 64) }
@@ -37,7 +36,7 @@ impl Executor {
         self.take_number(&mut seat.at, worker)
     }
 
-    /// Gives the worker number of `seat` back, so that another seat can get it.
+    /// Gives the seat's worker number back, so that another seat can get this number.
     pub fn leave(&self, seat: &mut ExecSeat, worker: usize)
         requires own { seat.old.table ≡ self.now.table }
         requires worker { (seat.old.known.worker ≡ worker + 1) × (worker < 64) }
@@ -46,9 +45,7 @@ impl Executor {
         self.give_number(&mut seat.at, worker);
     }
 
-    /// Clears the worker's idle bit. A worker calls this if it stops sleeping without having been unparked.
-    ///
-    /// Other threads unpark a worker only if its idle bit is set.
+    /// Marks the worker as awake, so that other threads don't unpark it. A worker that wakes by itself calls this.
     pub fn wake_up(&self, seat: &mut ExecSeat, worker: usize)
         requires own { seat.old.table ≡ self.now.table }
         requires worker { (seat.old.known.worker ≡ worker + 1) × (worker < 64) }
@@ -57,8 +54,6 @@ impl Executor {
         self.clear_idle(&mut seat.at, worker);
     }
 
-    /// Sets the worker's idle bit, and then reads the summary words of its shards. Returns true if all of them are 0;
-    /// otherwise clears the idle bit, and returns false.
     fn lie_down(&self, seat: &mut SeatInCall, worker: usize) -> bool
         requires own { seat.old.table ≡ self.now.table }
         requires worker { (seat.old.known.worker ≡ worker + 1) × (worker < 64) }
@@ -78,10 +73,8 @@ impl Executor {
         true
     }
 
-    /// Returns true if the worker may park: its idle bit was set, and after that each of its summary words (which show
-    /// the blocks with ready jobs) was 0.
-    ///
-    /// If one of these words isn't 0, clears the worker's idle bit, and returns false.
+    /// Marks the worker as asleep, and then looks for blocks of the worker that may have ready jobs. Returns true if
+    /// there is none, so that the worker may park. Otherwise marks the worker as awake again, and returns false.
     pub fn may_park(&self, seat: &mut ExecSeat, worker: usize) -> bool
         requires own { seat.old.table ≡ self.now.table }
         requires worker { (seat.old.known.worker ≡ worker + 1) × (worker < 64) }
@@ -92,8 +85,8 @@ impl Executor {
         self.lie_down(&mut seat.at, worker)
     }
 
-    /// Takes the first ready job of `shard`, beginning with the slot at which the seat's search begins. Clears the
-    /// summary bit of each block in which it finds no ready job.
+    /// Takes a ready job of `shard` (64 blocks). Removes the blocks in which it finds no ready job from the worker's
+    /// list of blocks to search.
     fn take_in_shard(&self, seat: &mut ExecSeat, shard: usize) -> Option<HeldJob>
         requires own { seat.old.table ≡ self.now.table }
         requires shard { shard < self.now.shards }
@@ -120,7 +113,7 @@ impl Executor {
         None
     }
 
-    /// Returns the worker's next action: run the job that this call has taken, park, or call `next` again.
+    /// Returns the worker's next action: to run the job that this call has taken, to park, or to call `next` again.
     pub fn next(&self, seat: &mut ExecSeat, worker: usize) -> Next
         requires own { seat.old.table ≡ self.now.table }
         requires worker { (seat.old.known.worker ≡ worker + 1) × (worker < 64) }

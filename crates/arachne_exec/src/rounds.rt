@@ -3,8 +3,8 @@ ghost use Rattle.std.specs.Prelude.{◌≡◌, ℕ, ◌+◌, ◌*◌, ◌/◌, �
 
 use crate::turns::{SearchTurn, shard_in_turn};
 
-/// The shards that a worker's search has yet to visit. A search goes from its first shard upwards, and then from the
-/// worker's lowest shard up to the one before the first.
+/// The shards (64 blocks of job slots each) that a worker must still search: from its shard at position `first` to its
+/// highest, and then on from its lowest.
 #[derive(Drop)]
 pub(crate) struct Round {
     worker: usize,
@@ -17,7 +17,6 @@ pub(crate) struct Round {
 }
 
 impl Round {
-    /// Returns the search of all `count` shards of `worker`. It begins at the shard that `turn` selects.
     #[inline(always)]
     pub(crate) fn of(turn: &SearchTurn, worker: usize, count: usize) -> Round
         requires { worker + 64 * count ≤ 512 }
@@ -34,7 +33,6 @@ impl Round {
         }
     }
 
-    /// Returns the next shard to search, or `None` after the last.
     #[inline(always)]
     pub(crate) fn next(&mut self) -> Option<usize>
         ensures same { (self.new.worker ≡ self.old.worker) × (self.new.count ≡ self.old.count) × (self.new.first ≡ self.old.first) }

@@ -5,8 +5,8 @@ use arachne_weights::Weight;
 use atomic_table::Seat;
 use std::marker::Model;
 
-/// A seat (a thread's right to call the executor) while a call runs. Contracts refer to the seat's table and weight, to
-/// the record of the seat's operations, and to the job number stored in each slot that it holds.
+/// A seat (right to call the executor) in the middle of a call. Before it returns, the call may have to add a block to
+/// the list of blocks to search, or to wake a worker.
 #[derive(Drop)]
 pub(crate) struct SeatInCall {
     pub(crate) seat: Seat<u64, View>,
@@ -23,19 +23,17 @@ impl Model for SeatInCall {
     ghost invariant = { λ s. IsLive s.seat.me };
 }
 
-/// One thread's right to call an executor, with the jobs that the thread holds.
+/// One kernel thread's right to call an executor. A seat *holds* the jobs that were taken with it and have neither
+/// ended nor been put back.
 ///
 /// Only one thread at a time can use a seat, and only with the executor that created it. If a seat is dropped, the jobs
-/// that it holds are lost, and so is its weight: then no seat can have the whole weight, and the executor can't be
-/// closed. Contracts refer to the seat's table, its weight, its record, and the slot index in a block (64 slots) at
-/// which its next `take` begins.
+/// that it holds are lost, and the executor can never be closed.
 #[derive(Drop)]
 pub struct ExecSeat {
     pub(crate) at: SeatInCall,
     pub(crate) weight: Weight,
-    /// The slot at which the next search of the worker's blocks begins.
     pub(crate) turn: SearchTurn,
-    /// The slot index in a block, modulo 64, at which the seat's next `take` begins.
+    /// The index, modulo 64, at which the next `take` begins to search its block.
     pub(crate) take_turn: usize,
 }
 

@@ -1,5 +1,4 @@
-//! Makes a job ready: sets the job's bit in the ready word and the block's bit in the summary word, and then checks
-//! whether a sleeping worker must be woken.
+//! Makes jobs ready, and finds out whether the worker that must run them sleeps.
 ghost use Rattle.std.specs.Prelude.{◌≡◌, ◌≢◌, ℕ, ◌+◌, ◌*◌, ◌/◌, ◌<◌};
 ghost use Rattle.atomic_table.specs.Table.{rest};
 ghost use Rattle.arachne_exec.specs.Board.{IsLast};
@@ -11,9 +10,8 @@ use crate::executor::Executor;
 use crate::seat::SeatInCall;
 
 impl Executor {
-    /// Sets the bit of `block` in its shard's summary word. Returns true if the caller must unpark the block's worker.
-    ///
-    /// A call that has set the first bit of a block's ready word must call this for that block.
+    /// Adds `block` to the list of blocks that its worker searches, as each call must that makes the block's first job
+    /// ready. Returns true if the caller must unpark the worker.
     pub(crate) fn show(&self, seat: &mut SeatInCall, block: usize) -> bool
         requires own { seat.old.table ≡ self.now.table }
         requires block { block < 64 * self.now.shards }
@@ -32,9 +30,9 @@ impl Executor {
         self.unpark(seat, block / 64)
     }
 
-    /// Makes the job in slot `place` ready. Returns true if the caller must unpark the worker of that slot.
+    /// Makes the job in slot `place` ready.
     ///
-    /// The caller must pass the slot of the job that `seat` got last of those that it holds.
+    /// Returns true if the caller must unpark the worker of that slot.
     pub(crate) fn publish(&self, seat: &mut SeatInCall, place: usize) -> bool
         requires own { seat.old.table ≡ self.now.table }
         requires place { place < 4096 * self.now.shards }
@@ -48,8 +46,8 @@ impl Executor {
         self.show(seat, place / 64)
     }
 
-    /// Makes the new job `job` ready in slot `place`, which the seat has just claimed. Returns true if the caller must
-    /// unpark the worker of that slot.
+    /// Makes `job` ready in slot `place`, which the caller has claimed. Returns true if the caller must unpark the
+    /// worker of that slot.
     pub(crate) fn publish_new(&self, seat: &mut SeatInCall, place: usize, job: u64) -> bool
         requires own { seat.old.table ≡ self.now.table }
         requires place { place < 4096 * self.now.shards }
@@ -65,8 +63,9 @@ impl Executor {
         self.show(seat, place / 64)
     }
 
-    /// Clears the bit of `block` in its summary word, unless the block has a ready job. Returns true if the caller must
-    /// unpark the block's worker.
+    /// Removes `block` from its worker's list of blocks to search, if it has no ready job.
+    ///
+    /// Returns true if a job has become ready there meanwhile, and the caller must unpark the worker.
     pub(crate) fn tidy(&self, seat: &mut SeatInCall, block: usize) -> bool
         requires own { seat.old.table ≡ self.now.table }
         requires block { block < 64 * self.now.shards }

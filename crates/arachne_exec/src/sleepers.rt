@@ -1,5 +1,4 @@
-//! One function for each atomic operation on the words by which workers sleep and are woken: the summary words (which
-//! blocks perhaps have ready jobs), the idle word, and the word of unused worker numbers.
+//! One function for each atomic operation by which workers sleep and are woken.
 ghost use Rattle.std.specs.Prelude.{◌≡◌, ◌≢◌, ℕ, ◌+◌, ◌*◌, ◌/◌, ◌%◌, ◌<◌, IsTrue, IsFalse};
 ghost use Rattle.std.specs.Int.{bit_at};
 ghost use Rattle.arachne_exec.specs.Layout.{numbers_at, summary_at, worker_of};
@@ -14,7 +13,7 @@ use crate::steps::{
 };
 
 impl Executor {
-    /// Returns true if the bit of `block` is set in its shard's summary word. Then the call needn't set the bit.
+    /// Returns true if `block` is on the list of blocks that its worker searches.
     pub(crate) fn finds_shown(&self, seat: &mut SeatInCall, block: usize) -> bool
         requires own { seat.old.table ≡ self.now.table }
         requires block { block < 64 * self.now.shards }
@@ -28,8 +27,8 @@ impl Executor {
         found >> (block % 64) as u32 & 1 == 1
     }
 
-    /// Sets the bit of `block` in its shard's summary word. Returns true if that word was 0 before. The call must then
-    /// read the idle word, since the shard's worker perhaps sleeps.
+    /// Adds `block` to the list of blocks that its worker searches. Returns true if no block of its shard (64 blocks)
+    /// was on the list: the caller must then find out whether the worker sleeps.
     pub(crate) fn put_shown(&self, seat: &mut SeatInCall, block: usize) -> bool
         requires own { seat.old.table ≡ self.now.table }
         requires block { block < 64 * self.now.shards }
@@ -42,7 +41,6 @@ impl Executor {
         shared.fetch_or::<Show>(&mut seat.seat, summary_word(block / 64), bit(block % 64)) == 0
     }
 
-    /// Clears the bit of `block` in its shard's summary word.
     pub(crate) fn hide(&self, seat: &mut SeatInCall, block: usize)
         requires own { seat.old.table ≡ self.now.table }
         requires block { block < 64 * self.now.shards }
@@ -58,7 +56,6 @@ impl Executor {
         );
     }
 
-    /// Returns true if `block` has no ready job. Then the call needn't set the block's bit in the summary word.
     pub(crate) fn has_none(&self, seat: &mut SeatInCall, block: usize) -> bool
         requires own { seat.old.table ≡ self.now.table }
         requires block { block < 64 * self.now.shards }
@@ -71,8 +68,7 @@ impl Executor {
         shared.load::<LookAgain>(&mut seat.seat, ready_word(block)) == 0
     }
 
-    /// Returns true if the idle bit of the worker of `shard` is set. If it is clear, no thread needs to wake the
-    /// worker.
+    /// Returns true if the worker of `shard` is marked as asleep, so that the caller must call `unpark`.
     pub(crate) fn finds_idle(&self, seat: &mut SeatInCall, shard: usize) -> bool
         requires own { seat.old.table ≡ self.now.table }
         requires owed { seat.old.known.owes ≡ shard + 1 }
@@ -84,8 +80,7 @@ impl Executor {
         found >> (shard % 64) as u32 & 1 == 1
     }
 
-    /// Clears the idle bit of the worker of `shard`. Returns true if the bit was set; the caller must then unpark the
-    /// worker.
+    /// Marks the worker of `shard` as awake, and returns true if it was asleep: the caller must unpark it.
     pub(crate) fn unpark(&self, seat: &mut SeatInCall, shard: usize) -> bool
         requires own { seat.old.table ≡ self.now.table }
         requires owed { seat.old.known.owes ≡ shard + 1 }
@@ -97,7 +92,6 @@ impl Executor {
         found >> (shard % 64) as u32 & 1 == 1
     }
 
-    /// Sets the worker's idle bit, by which other threads know that they must unpark the worker.
     pub(crate) fn set_idle(&self, seat: &mut SeatInCall, worker: usize)
         requires own { seat.old.table ≡ self.now.table }
         requires worker { (seat.old.known.worker ≡ worker + 1) × (worker < 64) }
@@ -108,7 +102,6 @@ impl Executor {
         shared.fetch_or::<SetIdle>(&mut seat.seat, IDLE, bit(worker));
     }
 
-    /// Clears the worker's idle bit.
     pub(crate) fn clear_idle(&self, seat: &mut SeatInCall, worker: usize)
         requires own { seat.old.table ≡ self.now.table }
         requires worker { (seat.old.known.worker ≡ worker + 1) × (worker < 64) }
@@ -119,7 +112,7 @@ impl Executor {
         shared.fetch_and::<Rise>(&mut seat.seat, IDLE, all_but(worker));
     }
 
-    /// Loads the summary word of the worker's shard with index `next` among its shards. Returns true if the word is 0.
+    /// Returns true if the shard at position `next` among the worker's shards has no block to search.
     pub(crate) fn sees_none(&self, seat: &mut SeatInCall, worker: usize, next: usize) -> bool
         requires own { seat.old.table ≡ self.now.table }
         requires worker { (seat.old.known.worker ≡ worker + 1) × (worker + 64 * next < self.now.shards) }
@@ -133,8 +126,6 @@ impl Executor {
         shared.load::<LookNext>(&mut seat.seat, summary_word(worker + 64 * next)) == 0
     }
 
-    /// Gives the seat (a thread's right to call) the worker number `worker`. Returns false if another seat has that
-    /// number.
     pub(crate) fn take_number(&self, seat: &mut SeatInCall, worker: usize) -> bool
         requires own { seat.old.table ≡ self.now.table }
         requires worker { (seat.old.known.worker ≡ 0) × (worker < 64) }
@@ -147,7 +138,6 @@ impl Executor {
         found >> worker as u32 & 1 == 1
     }
 
-    /// Gives the worker number of `seat` back, so that another seat can get it.
     pub(crate) fn give_number(&self, seat: &mut SeatInCall, worker: usize)
         requires own { seat.old.table ≡ self.now.table }
         requires worker { (seat.old.known.worker ≡ worker + 1) × (worker < 64) }

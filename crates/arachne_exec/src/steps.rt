@@ -1,11 +1,8 @@
-//! The invariant (*rule*) of the executor's table, and the kinds of atomic operation on the table. These types exist
-//! only for proofs.
+//! Types for proofs only: what always holds for an executor's words and slots, and the kinds of atomic operation.
 use crate::view::View;
 use atomic_table::{Join, Play, Split, TableRule};
 
-/// The invariant: each slot is free, ready, blocked or held by one seat (a thread's right to call the executor). If a
-/// block (64 slots) of a parked worker has a ready job, a call in progress will wake the worker. The table's constant
-/// key is the number of shards.
+/// Names, in proofs, what holds for an executor's words and slots between any two atomic operations.
 pub struct Lawful;
 
 impl TableRule<u64, View, usize> for Lawful {
@@ -217,8 +214,7 @@ impl Play<u64, View> for Unregister {
     ghost then = { Leaves };
 }
 
-/// The kind of atomic operation that splits a seat (a thread's right to call the executor): the new seat gets half the
-/// weight, and holds no job.
+/// Names, in proofs, the split of a seat (right to call). The new seat holds no job.
 pub(crate) struct Halve;
 
 impl Split<View> for Halve {

@@ -12,7 +12,6 @@ use crate::layout::{all_but, bit, ready_word};
 use crate::seat::ExecSeat;
 use crate::turns::lowest_index;
 
-/// Returns the lowest `most` set bits of `word`, or all of them if fewer are set. If `most` is 0, returns one bit.
 fn lowest(word: u64, most: u32) -> u64
     requires { 0 < word }
     ensures some { 0 < result }
@@ -35,10 +34,9 @@ fn lowest(word: u64, most: u32) -> u64
 
 impl Executor {
     /// Tries once to take up to `most` ready jobs of `block`, in one atomic operation. Returns a bit for each of the
-    /// block's 64 slots whose job was taken.
+    /// block's 64 slots whose job this call took. A `most` of 0 counts as 1.
     ///
-    /// If `most` is 0, takes up to one. The seat then holds these jobs; the one in the lowest slot counts as the one
-    /// that it got last.
+    /// The caller then holds these jobs. It must start and end (or give back) each, from the lowest slot upwards.
     pub fn take_many(&self, seat: &mut ExecSeat, block: usize, most: u32) -> u64
         requires own { seat.old.table ≡ self.now.table }
         requires block { block < 64 * self.now.shards }
@@ -55,10 +53,10 @@ impl Executor {
         self.take_bits(&mut seat.at, block, pick)
     }
 
-    /// Prepares the job in slot `place` to be run. Returns the job's name and number.
+    /// Prepares a job that `take_many` took, so that the caller can run it. Returns the job with its name and number.
     ///
-    /// If a wake was recorded since the job became ready, clears that record. The caller must pass the slot of the job
-    /// that `seat` got last of those that it holds.
+    /// Clears a recorded wake of the job, since the job runs after the wake. Of the jobs that the caller holds, the job
+    /// in slot `place` must be the one that it took last.
     pub fn start(&self, seat: &mut ExecSeat, place: usize) -> HeldJob
         requires own { seat.old.table ≡ self.now.table }
         requires place { place < 4096 * self.now.shards }

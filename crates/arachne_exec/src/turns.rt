@@ -1,5 +1,4 @@
-//! Decides at which slot each search for a job begins, so that jobs that become ready again and again don't keep other
-//! jobs waiting.
+//! Decides at which slot each search for a job begins, so that jobs that are often ready don't keep other jobs waiting.
 ghost use Rattle.std.specs.Prelude.{◌≡◌, ◌≢◌, ◌⊎◌, ◌↔◌, ℕ, ◌+◌, ◌-◌, ◌*◌, ◌/◌, ◌%◌, ◌^◌, ◌<◌, ◌≤◌, false, true, IsTrue, IfSome, IfNone};
 ghost use Rattle.std.specs.Int.{bit_at};
 ghost use Rattle.std.specs.Int.RustNames.{bit_and};
@@ -9,7 +8,6 @@ ghost use Rattle.arachne_exec.specs.Turns.{IsFirstFrom, HasMoreBehind};
 use crate::answers::HeldJob;
 use crate::layout::all_but;
 
-/// Returns the index of the lowest set bit of `word`.
 pub(crate) fn lowest_index(word: u64) -> usize
     requires { 0 < word }
     ensures low { result < 64 }
@@ -19,7 +17,6 @@ pub(crate) fn lowest_index(word: u64) -> usize
     word.trailing_zeros() as usize
 }
 
-/// Returns the index of the first set bit of `word`, searched from `from` to the highest bit, and then from bit 0.
 pub(crate) fn first_from(word: u64, from: usize) -> usize
     requires { 0 < word }
     ensures { IsFirstFrom word from result }
@@ -33,7 +30,6 @@ pub(crate) fn first_from(word: u64, from: usize) -> usize
     }
 }
 
-/// Returns true if a bit of `word` above the bit `index` is set.
 pub(crate) fn has_more(word: u64, index: usize) -> bool
     requires { index < 64 }
     ensures { IsTrue result ↔ (2 * 2 ^ index ≤ word) }
@@ -41,8 +37,7 @@ pub(crate) fn has_more(word: u64, index: usize) -> bool
     word >> index as u32 > 1
 }
 
-/// Returns the shard at position `index` of a search that goes from shard `first` up to shard `count - 1`, and then
-/// from shard 0 up to the one before `first`.
+/// Returns the shard at position `index` of a search from shard `first` upwards, and then from shard 0.
 pub(crate) fn shard_in_turn(first: usize, index: usize, count: usize) -> usize
     requires first { first < count }
     requires index { index < count }
@@ -56,8 +51,7 @@ pub(crate) fn shard_in_turn(first: usize, index: usize, count: usize) -> usize
     }
 }
 
-/// The blocks of a shard that a search has yet to visit, as a bit for each block, and the index of the block at which
-/// the search began.
+/// The blocks of a shard that a search must still visit, one bit each, and the block at which the search began.
 #[derive(Drop)]
 pub(crate) struct Unsearched {
     blocks: u64,
@@ -65,7 +59,6 @@ pub(crate) struct Unsearched {
 }
 
 impl Unsearched {
-    /// Returns the index of the block to visit next, or `None` after the last.
     pub(crate) fn next(&self) -> Option<usize>
         ensures some { IfSome result (λ index. IsFirstFrom self.now.blocks self.now.from index) }
         ensures none { IfNone result (self.now.blocks ≡ 0) }
@@ -76,14 +69,12 @@ impl Unsearched {
         Some(first_from(self.blocks, self.from))
     }
 
-    /// Removes `block` from the search.
     pub(crate) fn pass(&mut self, block: usize)
         ensures { self.new ≡ record self.old { blocks = bit_and self.old.blocks (others (block % 64)) } }
     {
         self.blocks &= all_but(block % 64);
     }
 
-    /// Returns true if the search has yet to visit a block with a greater index than `index`.
     pub(crate) fn has_more(&self, index: usize) -> bool
         requires { index < 64 }
         ensures { IsTrue result ↔ HasMoreBehind self.now index }
@@ -92,14 +83,13 @@ impl Unsearched {
     }
 }
 
-/// A job that was taken, with a flag that says if its block had another ready slot behind the job's slot.
+/// A job that a search has taken. `more` is true if a higher slot of the job's block (64 slots) had a ready job too.
 #[derive(Drop)]
 pub(crate) struct TakenJob {
     pub(crate) job: HeldJob,
     pub(crate) more: bool,
 }
 
-/// The slot at which a worker's next search for ready jobs begins.
 #[derive(Clone, Copy, Drop)]
 pub(crate) struct SearchTurn {
     place: usize,
@@ -112,10 +102,8 @@ impl SearchTurn {
         SearchTurn { place: 0 }
     }
 
-    /// Returns the start of the next search, after a job was taken from slot `place`.
-    ///
-    /// `in_block` is true if a slot behind `place` in its block was ready too; `in_shard` is true if the search of the
-    /// shard has yet to visit a block behind that block.
+    /// Returns where the next search begins after a job was taken from slot `place`: at the next slot if `in_block`, at
+    /// the next block if `in_shard`, and otherwise at the worker's next shard.
     pub(crate) fn behind(place: usize, in_block: bool, in_shard: bool) -> SearchTurn
         requires { place < 1048576 }
         ensures in_block { in_block ≡ true → result.place ≡ place + 1 }
@@ -132,7 +120,6 @@ impl SearchTurn {
         SearchTurn { place }
     }
 
-    /// Returns the position, among the worker's `count` shards, of the shard at which the search begins.
     pub(crate) fn first_shard(&self, count: usize) -> usize
         ensures within { (result ≡ 0) ⊎ (result < count) }
         ensures turn { self.now.place / 262144 < count → result ≡ self.now.place / 262144 }
@@ -142,8 +129,6 @@ impl SearchTurn {
         if first < count { first } else { 0 }
     }
 
-    /// Returns a search of those blocks of `shard` whose bits are set in `shown`. If this turn's slot lies in `shard`,
-    /// the search begins at that slot's block, otherwise at block 0.
     pub(crate) fn unsearched(&self, shard: usize, shown: u64) -> Unsearched
         ensures blocks { result.blocks ≡ shown }
         ensures turn { self.now.place / 4096 ≡ shard → result.from ≡ self.now.place / 64 % 64 }
@@ -160,8 +145,6 @@ impl SearchTurn {
         }
     }
 
-    /// Returns the slot index at which the search of `block` begins: the index of this turn's slot if that slot lies in
-    /// `block`, otherwise 0.
     pub(crate) fn first_place(&self, block: usize) -> usize
         ensures turn { self.now.place / 64 ≡ block → result ≡ self.now.place % 64 }
         ensures other { self.now.place / 64 ≢ block → result ≡ 0 }

@@ -7,8 +7,7 @@ use crate::executor::Executor;
 use crate::layout::{LAST_GENERATION, mark_word, place_of};
 use crate::seat::{ExecSeat, SeatInCall};
 
-/// The result of `rouse`. `Held`: the job was blocked, and the seat (a thread's right to call the executor) now holds
-/// it.
+/// The result of `rouse`. `Held` has the slot of the woken job, which the caller now holds.
 enum RouseResult {
     Held(usize),
     Marked,
@@ -18,8 +17,8 @@ enum RouseResult {
 }
 
 impl Executor {
-    /// Wakes the job in slot `place` that has this generation (the number of jobs that had ended there before). If the
-    /// job is blocked, the caller's seat then holds it.
+    /// Wakes the job in slot `place`, if exactly `generation` jobs have ended there before. If the job was blocked, the
+    /// caller then holds it.
     fn rouse(&self, seat: &mut SeatInCall, place: usize, generation: u64) -> RouseResult
         requires own { seat.old.table ≡ self.now.table }
         requires calm { seat.old.known.unshown ≡ 0 }
@@ -48,7 +47,7 @@ impl Executor {
         RouseResult::Lost
     }
 
-    /// Tries once to wake the job with this name. The caller may pass any number as `name`.
+    /// Tries once to wake the job with this name. Any number may be passed as `name`.
     pub fn wake(&self, seat: &mut ExecSeat, name: u64) -> JobWoken
         requires own { seat.old.table ≡ self.now.table }
         ensures seat { seat.new ≡ record seat.old { known = seat.new.known } }
@@ -67,8 +66,7 @@ impl Executor {
         }
     }
 
-    /// Tries once to wake the job with this name. If the job was blocked, the caller's seat then holds it, and no other
-    /// thread can take it.
+    /// Tries once to wake the job with this name. If the job was blocked, the caller then holds it.
     pub fn wake_here(&self, seat: &mut ExecSeat, name: u64) -> WokenHere
         requires own { seat.old.table ≡ self.now.table }
         ensures seat { seat.new ≡ record seat.old { known = seat.new.known } }

@@ -1,5 +1,4 @@
-//! One function for each atomic operation on the words of a slot: its free bit, its ready bit and its mark. The
-//! contract of each function says which jobs the seat then holds, and what its record then says.
+//! One function for each atomic operation on the words of a slot (its free bit, its ready bit and its mark).
 ghost use Rattle.std.specs.Prelude.{◌≡◌, ◌≢◌, ℕ, ◌+◌, ◌-◌, ◌*◌, ◌/◌, ◌%◌, ◌^◌, ◌<◌, ◌≤◌, ◌∷◌, IsTrue, IsFalse};
 ghost use Rattle.std.specs.Int.{bit_at};
 ghost use Rattle.atomic_table.specs.Table.{rest};
@@ -18,7 +17,6 @@ use crate::steps::{
 };
 
 impl Executor {
-    /// Loads the word with index `word`, and returns its value.
     pub(crate) fn look(&self, seat: &mut SeatInCall, word: usize) -> u64
         requires own { seat.old.table ≡ self.now.table }
         requires inside { word < words_of (64 * self.now.shards) }
@@ -29,8 +27,8 @@ impl Executor {
         self.table.shared.load::<LookAtWord>(&mut seat.seat, word)
     }
 
-    /// Stores `new` as the job number of slot `place`, the one that the seat got last. Returns the job number that was
-    /// stored there before.
+    /// Stores `new` as the job number in slot `place`, which only the caller may access now, and returns the old
+    /// number.
     pub(crate) fn lay(&self, seat: &mut SeatInCall, place: usize, new: u64) -> u64
         requires own { seat.old.table ≡ self.now.table }
         requires out { (old : ℕ) × (seat.old.slots ≡ (place, old) ∷ rest seat.old.slots) }
@@ -41,7 +39,7 @@ impl Executor {
         self.table.shared.exchange(&mut seat.seat, place, new)
     }
 
-    /// Clears the ready bit of slot `place`. Returns true if the bit was set: the caller's seat then holds the slot.
+    /// Takes the ready job in slot `place`, or returns false if the job was no longer ready.
     pub(crate) fn take_bit(&self, seat: &mut SeatInCall, place: usize) -> bool
         requires own { seat.old.table ≡ self.now.table }
         requires place { place < 4096 * self.now.shards }
@@ -59,9 +57,8 @@ impl Executor {
         found >> index as u32 & 1 == 1
     }
 
-    /// Clears those ready bits of `block` that are set in `pick`. Returns the bits that were set.
-    ///
-    /// The seat then holds their slots; the lowest of these counts as the one that it got last.
+    /// Takes the jobs of `block` (64 slots) that are ready and whose slot's bit is set in `pick`. Returns the bits of
+    /// the jobs taken.
     pub(crate) fn take_bits(&self, seat: &mut SeatInCall, block: usize, pick: u64) -> u64
         requires own { seat.old.table ≡ self.now.table }
         requires block { block < 64 * self.now.shards }
@@ -77,8 +74,7 @@ impl Executor {
         found & pick
     }
 
-    /// Clears the free bit of slot `place`. Returns true if the bit was set: then the seat holds the slot, and the
-    /// caller must spawn a job there.
+    /// Claims slot `place`, in which the caller must then spawn a job, or returns false if the slot was no longer free.
     pub(crate) fn claim_bit(&self, seat: &mut SeatInCall, place: usize) -> bool
         requires own { seat.old.table ≡ self.now.table }
         requires place { place < 4096 * self.now.shards }
@@ -97,7 +93,6 @@ impl Executor {
         found >> index as u32 & 1 == 1
     }
 
-    /// Frees slot `place`, the one that the seat got last, after the job in it has ended.
     pub(crate) fn put_free(&self, seat: &mut SeatInCall, place: usize)
         requires own { seat.old.table ≡ self.now.table }
         requires place { place < 4096 * self.now.shards }
@@ -109,8 +104,8 @@ impl Executor {
         shared.fetch_or::<PutFree>(&mut seat.seat, free_word(place / 64), bit(place % 64));
     }
 
-    /// Sets the ready bit of slot `place`, the one that the seat got last. Returns true if the caller must then set the
-    /// bit of the slot's block in the summary word.
+    /// Makes the job in slot `place` ready. Returns true if no other job of its block (64 slots) is ready: the caller
+    /// must then add the block to the list of blocks to search (`show`).
     pub(crate) fn put_ready(&self, seat: &mut SeatInCall, place: usize) -> bool
         requires own { seat.old.table ≡ self.now.table }
         requires place { place < 4096 * self.now.shards }
@@ -124,8 +119,6 @@ impl Executor {
         shared.fetch_or::<PutReady>(&mut seat.seat, ready_word(place / 64), bit(place % 64)) == 0
     }
 
-    /// Sets the ready bit of slot `place`, which the seat has claimed for the new job `job`. Returns true if the caller
-    /// must then set the bit of the slot's block in the summary word.
     pub(crate) fn put_spawned(&self, seat: &mut SeatInCall, place: usize, job: u64) -> bool
         requires own { seat.old.table ≡ self.now.table }
         requires place { place < 4096 * self.now.shards }
@@ -141,8 +134,8 @@ impl Executor {
         shared.fetch_or::<PutSpawned>(&mut seat.seat, ready_word(place / 64), bit(place % 64)) == 0
     }
 
-    /// Records that the new job `job` is in slot `place`, which the seat has claimed. The seat still holds the slot.
-    /// Returns the slot's mark (an atomic word).
+    /// Returns the mark (atomic word) of slot `place`. In proofs, this step also spawns `job`, which the caller then
+    /// holds.
     pub(crate) fn begin(&self, seat: &mut SeatInCall, place: usize, job: u64) -> u64
         requires own { seat.old.table ≡ self.now.table }
         requires place { place < 4096 * self.now.shards }
@@ -156,10 +149,7 @@ impl Executor {
             .load::<Begin>(&mut seat.seat, mark_word(place))
     }
 
-    /// Blocks the job in slot `place`, if the slot's mark (an atomic word) is `old`. Returns true if it blocked the
-    /// job.
-    ///
-    /// The caller must pass an `old` in which no wake is recorded.
+    /// Blocks the job in slot `place`, and returns true, if the slot's mark is still `old`.
     pub(crate) fn put_blocked(&self, seat: &mut SeatInCall, place: usize, old: u64) -> bool
         requires own { seat.old.table ≡ self.now.table }
         requires place { place < 4096 * self.now.shards }
@@ -179,7 +169,6 @@ impl Executor {
         found == old
     }
 
-    /// Clears the record of a wake in the mark (an atomic word) of slot `place`, the one that the seat got last.
     pub(crate) fn hear(&self, seat: &mut SeatInCall, place: usize)
         requires own { seat.old.table ≡ self.now.table }
         requires place { place < 4096 * self.now.shards }
@@ -191,8 +180,7 @@ impl Executor {
         shared.fetch_and::<Hear>(&mut seat.seat, mark_word(place), u64::MAX - 3);
     }
 
-    /// Ends the job in slot `place`: stores a mark (the slot's atomic word) with the next `generation`, in which no
-    /// wake is recorded.
+    /// Sets the mark of slot `place`, whose job ends, to the new `generation` without a recorded wake.
     pub(crate) fn renew(&self, seat: &mut SeatInCall, place: usize, generation: u64)
         requires own { seat.old.table ≡ self.now.table }
         requires place { place < 4096 * self.now.shards }
@@ -205,7 +193,6 @@ impl Executor {
         shared.swap::<Renew>(&mut seat.seat, mark_word(place), 4 * generation);
     }
 
-    /// Retires slot `place`, in which the job of the last generation has ended: no other job is put there.
     pub(crate) fn retire(&self, seat: &mut SeatInCall, place: usize)
         requires own { seat.old.table ≡ self.now.table }
         requires place { place < 4096 * self.now.shards }
@@ -218,10 +205,7 @@ impl Executor {
         shared.swap::<RetirePlace>(&mut seat.seat, mark_word(place), 4 * LAST_GENERATION + 2);
     }
 
-    /// Takes the blocked job of slot `place`, if the slot's mark (an atomic word) is `old`. Returns true if it took the
-    /// job.
-    ///
-    /// The caller must pass an `old` that is the mark of a blocked job.
+    /// Takes the blocked job in slot `place`, and returns true, if the slot's mark is still `old`.
     pub(crate) fn wake_mark(&self, seat: &mut SeatInCall, place: usize, old: u64) -> bool
         requires own { seat.old.table ≡ self.now.table }
         requires place { place < 4096 * self.now.shards }
@@ -235,10 +219,7 @@ impl Executor {
         found == old
     }
 
-    /// Records a wake in the mark of slot `place` (an atomic word), if the mark is `old`. Returns true if it recorded
-    /// the wake.
-    ///
-    /// The caller must pass an `old` that is the mark of a job that isn't blocked, with no wake recorded.
+    /// Records a wake for the job in slot `place`, and returns true, if the slot's mark is still `old`.
     pub(crate) fn mark(&self, seat: &mut SeatInCall, place: usize, old: u64) -> bool
         requires own { seat.old.table ≡ self.now.table }
         requires place { place < 4096 * self.now.shards }

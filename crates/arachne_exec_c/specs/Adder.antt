@@ -32,11 +32,11 @@ MayRead ledger adder = HasLedger ledger adder × IsWhole adder.share
 abbrev pub total_of : ℕ → Adder → ℕ
 total_of ledger adder = slice_index adder.share.sums ledger % 2 ^ 64
 
--- the share keeps the number that it has read last
+-- the share records the total that it has read last
 abbrev pub with_reading : ℕ → Adder → Adder
 with_reading ledger adder = record adder { share = record adder.share { last_read = Some (record { ledger = ledger; number = total_of ledger adder }) } }
 
--- this is the total of the ledger, and the share keeps it
+-- this is the total of the ledger, and the share records it
 abbrev pub HasRead : (ledger total : ℕ) → Option Adder → Option Adder → Type 0
 HasRead ledger total old new = IsSomeAnd old (λ adder. total ≡ total_of ledger adder) × (new ≡ option_map (with_reading ledger) old)
 
@@ -54,7 +54,7 @@ second_of adder = record adder {
   };
 }
 
--- a share into which another was joined
+-- a share after another was joined into it
 abbrev pub joined_with : Adder → Adder → Adder
 joined_with adder other = record adder {
   share = record adder.share {
@@ -73,14 +73,14 @@ refused = 1
 abbrev pub no_memory : ℕ
 no_memory = 2
 
--- A handle that holds nothing gets new ledgers. One that is in use is refused. If memory is refused, nothing changes.
+-- An empty handle gets new ledgers. A handle in use is refused. If memory is refused, nothing changes.
 abbrev pub IsMade : ℕ → Option Adder → Option Adder → ℕ → Type 0
 IsMade count (Some old) new answer = (answer ≡ refused) × (new ≡ Some old)
 IsMade count None None answer = answer ≡ no_memory
 IsMade count None (Some new) answer = (answer ≡ done) × IsNew count new
 
--- If the first handle holds a share and the second nothing, the share is split, and the second handle gets the second
--- part. If memory is refused, nothing changes.
+-- If the first handle holds a share and the second is empty, the share is split, and the second handle gets the new
+-- share. If memory is refused, nothing changes.
 abbrev pub IsSplit : Option Adder → Option Adder → Option Adder → Option Adder → ℕ → Type 0
 IsSplit None other new other_new answer = (answer ≡ refused) × (new ≡ None) × (other_new ≡ other)
 IsSplit (Some old) (Some other) new other_new answer = (answer ≡ refused) × (new ≡ Some old) × (other_new ≡ Some other)

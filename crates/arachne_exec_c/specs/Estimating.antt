@@ -1,4 +1,4 @@
--- The state and the sample that the caller's memory stands for.
+-- The estimator and the sample in the caller's memory.
 use Rattle.std.specs.Prelude.{◌≡◌, ℕ, ◌≤◌, List, ◌∷◌, true}
 use Rattle.arachne_policy.specs.declared.samples.Advice.{Advice}
 use Rattle.arachne_policy.specs.declared.samples.Advice.TheVariants.{Add, Stay, Remove}
@@ -29,7 +29,7 @@ refused = 1
 abbrev pub MayJudge : ArachneEstimator → ArachneSample → Type 0
 MayJudge e s = (e.max ≤ most_cores) × (is_good e.max (sample_of s) ≡ true)
 
--- the answer is the advice on this sample after those, and the estimator then stands for those and this one
+-- the result is the advice on this sample after the earlier ones, and the estimator then stands for all of them
 abbrev pub HasJudged : List Sample → ArachneEstimator → ArachneSample → ℕ → ArachneEstimator → Type 0
 HasJudged past before s answer after =
     (answer ≡ number_of (advice (state_of before).settings past (sample_of s))) × StandsFor (state_of after) (sample_of s ∷ past)

@@ -1,4 +1,4 @@
--- The end of an executor, and the answer that C gets.
+-- The end of an executor, and the result that C gets.
 use Rattle.std.specs.Prelude.{◌≡◌, ◌≢◌, ◌⊎◌, ℕ, ◌*◌, ◌<◌, ◌≤◌, List, length, drop, ◌++◌}
 use Rattle.std.specs.declared.option.Option.{Option}
 use Rattle.std.specs.declared.option.Option.TheVariants.{None, Some}
@@ -8,15 +8,15 @@ use Rattle.arachne_exec_c.specs.Codes.{done, refused, no_memory}
 use Rattle.arachne_exec_c.specs.Executing.{Exec, IsEmptyHanded}
 use Rattle.arachne_exec_c.specs.declared.exec_told.ArachneExecLeft.{ArachneExecLeft}
 
--- The executor has ended: of the jobs that were spawned these are left, and the rule allows a board on which this seat
--- knows what it knows.
+-- The executor has ended. These are the jobs that were spawned and haven't ended, and the invariant allows a board on
+-- which the seat has this record.
 pub record HasEnded (exec : Exec) (jobs : List ℕ) : Type 0 where
   pub empty : IsEmptyHanded exec
   pub whole_seat : exec.seat.weight ≡ whole
   pub settled : IsSettled exec.seat.known jobs
   pub lawful : IsLawfulEnd exec.executor.shards exec.seat.known
 
--- the jobs that are left stand at the beginning of the array, and the rest of it is unchanged
+-- the numbers of the jobs left are at the beginning of the array, whose rest is unchanged
 pub record IsHandedBack (jobs room written : List ℕ) (told : ArachneExecLeft) : Type 0 where
   pub code : told.code ≡ done
   pub count : told.count ≡ length jobs

@@ -1,4 +1,4 @@
--- The executor's answers as C gets them, and the change of a handle's seat by each call.
+-- The executor's results as C gets them, and the change of a handle's seat by each call.
 use Rattle.std.specs.Prelude.{◌≡◌, ◌⊎◌, ℕ, ◌+◌, ◌*◌, ◌/◌, ◌%◌, ◌^◌, ◌<◌, Bool, true, false, if◌then◌else◌}
 use Rattle.std.specs.Int.{bit_at}
 use Rattle.std.specs.Option.{MatchOption}
@@ -74,7 +74,7 @@ told_woken_here here.Already = code_alone code.already_marked
 told_woken_here here.Gone = code_alone code.gone
 told_woken_here here.Lost = code_alone code.lost
 
--- ---- the job that comes into the hand
+-- ---- the job that the seat holds after a call
 
 abbrev pub place_of_job : Option HeldJob → Option ℕ
 place_of_job None = None
@@ -107,7 +107,7 @@ pub record SpawnsHere (block job : ℕ) (old new : Exec) (answer : SpawnedHere) 
   pub stays : new ≡ now old new.seat.known (place_of_job (job_spawned answer))
   pub did : HasSpawnedHere answer block job old.seat.known new.seat.known
 
--- the word was read, with this answer
+-- the word was read, and this was its value
 abbrev pub LooksAt : ℕ → Exec → Exec → ℕ → Type 0
 LooksAt word old new answer = new ≡ now old (noted word answer old.seat.known) old.hand
 
@@ -132,7 +132,7 @@ pub record Rests (place : ℕ) (old new : Exec) (answer : JobRested) : Type 0 wh
   pub stays : new ≡ holding old new.seat.known (place / 64) old.more
   pub did : HasRested answer place old.seat.known new.seat.known
 
--- the job in hand is ready again
+-- the job that the seat took last is ready again
 abbrev pub Yields : ℕ → Exec → Exec → Bool → Type 0
 Yields place old new unpark = new ≡ holding old (rousing unpark (worker_at place) (laying_down old.seat.known)) (place / 64) old.more
 
@@ -148,30 +148,30 @@ pub record WakesHere (name : ℕ) (old new : Exec) (answer : WokenHere) : Type 0
   pub stays : new ≡ now old new.seat.known (place_of_job (job_woken answer))
   pub did : HasWokenHere answer (4096 * old.executor.shards) (name % 2 ^ 20) (name / 2 ^ 20) old.seat.known new.seat.known
 
--- the word of worker numbers was found so, and the seat is the worker of this number less one, or no worker if it is 0
+-- the seat found this word of worker numbers, and is now the worker `number` - 1, or no worker if `number` is 0
 abbrev pub as_worker : Exec → (number numbers : ℕ) → Exec
 as_worker exec number numbers = record { executor = exec.executor; seat = record exec.seat { known = working number (noted numbers_at numbers exec.seat.known) }; hand = exec.hand; more = exec.more; worker = number }
 
 -- ---- a call by the seat that a handle holds, if it holds one
 
--- the call was made, and C gets its answer
+-- the call was made, and C gets its result
 abbrev pub Tells : {R A : Type 0} → (Exec → Exec → R → Type 0) → (R → A) → Exec → Exec → A → Type 0
 Tells {R} Does tell old new told = (answer : R) × Does old new answer × (told ≡ tell answer)
 
--- a call that the seat may make is made, and C gets its answer; otherwise nothing changes, and C gets the refusal
+-- a call that the seat may make is made, and C gets its result; otherwise nothing changes, and C gets the refusal
 abbrev pub IsTold : {A : Type 0} → (Exec → Type 0) → (Exec → Exec → A → Type 0) → A → Option Exec → Option Exec → A → Type 0
 IsTold May Does refusal None new told = (new ≡ None) × (told ≡ refusal)
 IsTold May Does refusal (Some old) new told = (May old → (after : Exec) × (new ≡ Some after) × Does old after told)
     × ((May old → ⊥) → (new ≡ Some old) × (told ≡ refusal))
 
--- the same for a call on the job in hand
+-- like `IsTold`, for a call on the job that the seat took last
 abbrev pub IsToldOf : {A : Type 0} → (ℕ → Exec → Exec → A → Type 0) → A → Option Exec → Option Exec → A → Type 0
 IsToldOf Does refusal None new told = (new ≡ None) × (told ≡ refusal)
 IsToldOf Does refusal (Some old) new told = MatchOption old.hand ((new ≡ Some old) × (told ≡ refusal))
     (λ place. (after : Exec) × (new ≡ Some after) × Does place old after told)
 
--- Park: the worker has set its idle bit, and then found all of its summary words empty. Again: one was not, and the bit
--- was cleared again.
+-- Park: the worker has set its idle bit, and then found all of its summary words 0. Again: one was not 0, and the
+-- worker has cleared the bit again.
 abbrev pub ParksOrNot : Exec → Exec → ℕ → Type 0
 ParksOrNot old new told = (new ≡ now old new.seat.known old.hand)
     × (((told ≡ code.park) × ((worker : ℕ) → old.worker ≡ worker + 1 → HasFoundNone old.executor.shards worker old.seat.known new.seat.known))
@@ -195,11 +195,11 @@ IsTaken worker old new = (numbers : ℕ) × (bit_at numbers worker ≡ 0) × (ne
 abbrev pub IsGiven : ℕ → Exec → Exec → Type 0
 IsGiven worker old new = (numbers : ℕ) × (bit_at numbers worker ≡ 1) × (new ≡ as_worker old (worker + 1) numbers)
 
--- Lost: another seat has that number
+-- Lost: another seat has this number.
 abbrev pub Registers : ℕ → Exec → Exec → ℕ → Type 0
 Registers worker old new told = ((told ≡ code.done) × IsGiven worker old new) ⊎ ((told ≡ code.lost) × IsTaken worker old new)
 
--- the seat is no worker any more
+-- the seat has no worker number any more
 abbrev pub HasLeft : Exec → Exec → Type 0
 HasLeft old new = (numbers : ℕ) × (new ≡ as_worker old 0 numbers)
 

@@ -1,4 +1,4 @@
--- The answers of a lock, as C gets them.
+-- The results of a lock, as C gets them.
 use Rattle.std.specs.Prelude.{◌≡◌, ℕ, ◌<◌, ◌≤◌}
 use Rattle.std.specs.declared.option.Option.{Option}
 use Rattle.std.specs.declared.option.Option.TheVariants.{None, Some}
@@ -35,7 +35,7 @@ told_asked (Answered (Ok (Queued at))) = code_at code.queued at
 told_asked (Answered (Err AlreadyIn)) = code_alone code.already_in
 told_asked (Answered (Err Memory)) = code_alone code.no_memory
 
--- a free, and the one to which it handed the lock on
+-- a free, and the task to which it handed the lock on, if any
 abbrev pub told_handed : ℕ → Option ℕ → ArachneLockTold
 told_handed at None = code_at code.freed at
 told_handed at (Some next) = record { at = at; next = next; code = code.handed_on }
@@ -56,9 +56,8 @@ told_checked Contended = code_alone code.contended
 told_checked (Answered None) = code_alone code.not_holder
 told_checked (Answered (Some at)) = code_at code.granted at
 
--- The lock gave an answer to the seat, as `arachne_lock` defines it, and C gets that answer; the rule of these locks
--- allows a board on which the seat has done and seen what it has. If there is no such lock, nothing changes, and C gets
--- the refusal.
+-- The lock gave the seat a result, as `arachne_lock` defines it, and C gets this result. The invariant of these locks
+-- allows a board on which the seat has this record. If there is no such lock, nothing changes, and C gets the refusal.
 pub record IsTold {A : Type 0} (answers : SeatView → A → SeatView → Type 0) (tell : A → ArachneLockTold) (lock : ℕ) (old : Seating) (new : Option Seating) (told : ArachneLockTold) : Type 0 where
   pub known : HasLock lock old → (seat : SeatView) × (answer : A) × (new ≡ Some (with_seat old seat)) × answers old.seat answer seat × IsLawfulSeat old.locks.count seat.log × (told ≡ tell answer)
   pub unknown : ¬ HasLock lock old → (new ≡ Some old) × (told ≡ code_alone code.refused)

@@ -32,14 +32,14 @@ second_of seating = with_seat seating (second_half seating.seat)
 abbrev pub joined_of : Seating → Seating → Seating
 joined_of seating other = with_seat seating (joined_with seating.seat other.seat)
 
--- A handle that holds nothing gets new locks. One that is in use is refused. If memory is refused, nothing changes.
+-- An empty handle gets new locks. A handle in use is refused. If memory is refused, nothing changes.
 abbrev pub IsMade : ℕ → Option Seating → Option Seating → ℕ → Type 0
 IsMade count (Some old) new answer = (answer ≡ refused) × (new ≡ Some old)
 IsMade count None None answer = answer ≡ no_memory
 IsMade count None (Some new) answer = (answer ≡ done) × IsNew count new
 
--- If the first handle holds a seat and the second nothing, the seat is split, and the second handle gets the second
--- part. If memory is refused, nothing changes.
+-- If the first handle holds a seat and the second is empty, the seat is split, and the second handle gets the new seat.
+-- If memory is refused, nothing changes.
 abbrev pub IsSplit : Option Seating → Option Seating → Option Seating → Option Seating → ℕ → Type 0
 IsSplit None other new other_new answer = (answer ≡ refused) × (new ≡ None) × (other_new ≡ other)
 IsSplit (Some old) (Some other) new other_new answer = (answer ≡ refused) × (new ≡ Some old) × (other_new ≡ Some other)

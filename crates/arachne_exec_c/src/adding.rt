@@ -1,4 +1,4 @@
-//! The value behind C's handle on ledgers (counters): a share, which is a thread's right to add, with its ledgers.
+//! The value to which C's handle on ledgers (counters) points: a share (a thread's right to add), with its ledgers.
 ghost use Rattle.std.specs.Prelude.{◌≡◌, ◌↔◌, IfOk, IfErr, IfSome, IfNone, IsSome, MatchBool, IsTrue};
 ghost use Rattle.std.specs.Option.{ForSome};
 ghost use Rattle.std.specs.declared.option.Option.TheVariants.{None, Some};
@@ -9,7 +9,7 @@ use std::alloc::{AllocError, Global};
 use std::marker::Model;
 use std::sync::Arc;
 
-/// The value behind C's handle on ledgers: a share, and the ledgers to which it may add.
+/// The value to which C's handle on ledgers points: a share (a thread's right to add), and the ledgers.
 #[derive(Drop)]
 pub struct Adding {
     ledgers: Arc<Ledgers>,
@@ -29,8 +29,9 @@ impl Model for Adding {
 }
 
 impl Adding {
-    /// Creates `count` ledgers, each of total 0. Returns their first share (a right to add), which has the whole weight
-    /// (each split halves it).
+    /// Creates `count` ledgers, each of total 0, and returns their first share (a right to add).
+    ///
+    /// A split halves a share's weight, and totals can be read only with the whole.
     pub(crate) fn new(alloc: Global, count: usize) -> Result<Adding, AllocError>
         ensures { IfOk result (IsNew count) }
     {
@@ -52,8 +53,9 @@ impl Adding {
         self.ledgers.add(&mut self.share, ledger, amount);
     }
 
-    /// Returns the sum of all amounts added to `ledger`. Returns `None` if another share (a right to add) wasn't joined
-    /// into this one, or if there is no such ledger.
+    /// Returns the sum of all amounts added to `ledger`.
+    ///
+    /// Returns `None` if another share (a right to add) wasn't joined into this one, or if there is no such ledger.
     pub(crate) fn total(&mut self, ledger: usize) -> Option<u64>
         ensures read { IsSome result ↔ MayRead ledger self.old }
         ensures some { IfSome result (λ total. (total ≡ total_of ledger self.old) × (self.new ≡ with_reading ledger self.old)) }
@@ -65,8 +67,7 @@ impl Adding {
         Some(self.ledgers.read(&mut self.share, ledger))
     }
 
-    /// Splits the share (a right to add) into two. If the reference count of the ledgers can't grow, returns `self`
-    /// unchanged as an error.
+    /// Splits the share (a right to add), or returns it as the error if the ledgers' reference count can't grow.
     pub(crate) fn split(self) -> Result<(Adding, Adding), Adding>
         ensures ok { IfOk result (λ parts. (parts.0 ≡ first_of self) × (parts.1 ≡ second_of self)) }
         ensures err { IfErr result (λ same. same ≡ self) }
@@ -105,9 +106,9 @@ impl Adding {
     }
 }
 
-/// Splits the share (a right to add) in `mine` into two, and puts the second one into `theirs`.
+/// Splits the share (a right to add) in `mine`, and puts the second half into `theirs`.
 ///
-/// Returns false, and changes nothing, if `mine` is empty or if the reference count of the ledgers can't grow.
+/// Returns false, and changes nothing, if `mine` is empty or if the ledgers' reference count can't grow.
 pub(crate) fn cut(mine: &mut Option<Adding>, theirs: &mut Option<Adding>) -> bool
     requires { theirs.old ≡ None }
     ensures cut { ForSome mine.old (λ old. MatchBool result
@@ -131,8 +132,9 @@ pub(crate) fn cut(mine: &mut Option<Adding>, theirs: &mut Option<Adding>) -> boo
     }
 }
 
-/// Joins the share (a right to add) in `theirs` into the one in `mine`. Returns false, and changes nothing, if either
-/// of them is empty.
+/// Joins the share (a right to add) in `theirs` into the one in `mine`.
+///
+/// Returns false, and changes nothing, if either of them is empty.
 pub(crate) fn join_held(mine: &mut Option<Adding>, theirs: &mut Option<Adding>) -> bool
     requires { (a b : Adder) → mine.old ≡ Some a → theirs.old ≡ Some b → b.ledgers.table ≡ a.ledgers.table }
     ensures { IsJoined mine.old theirs.old mine.new theirs.new result }

@@ -3,78 +3,76 @@
 /// The call succeeded.
 pub(crate) const DONE: u32 = 0;
 
-/// The call was refused, and has changed nothing: the handle is empty, or is in use although it must be empty; or its
-/// seat (a thread's right to call the executor) may not make this call now; or there is no such block, lock or ledger.
+/// The call was refused, and has changed nothing. The comment of each call lists the possible reasons.
 pub(crate) const REFUSED: u32 = 1;
 
 /// The allocator refused memory. Nothing has changed.
 pub(crate) const NO_MEMORY: u32 = 2;
 
-/// Another thread was in a call on the same lock. Nothing has changed: try again.
+/// Another thread was in a call on the same lock. Nothing has changed, and the call may be made again.
 pub(crate) const CONTENDED: u32 = 3;
 
-/// Another thread was first: it has claimed the slot, changed the job, or has the worker number. This call has changed
-/// nothing: try again, or register with another number.
+/// Another thread was first: it has claimed the slot, has changed the job's state, or has the worker number. The call
+/// has changed nothing, and may be made again, or with another worker number.
 pub(crate) const LOST: u32 = 4;
 
-/// `who` holds the lock now.
+/// The task `who` holds the lock now.
 pub(crate) const GRANTED: u32 = 5;
 
-/// `who` waits for the lock, and will hold it after all tasks before it in the queue have freed it or left the queue.
+/// The task `who` waits for the lock, and gets it after all tasks before it in the queue.
 pub(crate) const QUEUED: u32 = 6;
 
-/// `who` already holds the lock or waits for it.
+/// The task `who` already holds the lock or waits for it.
 pub(crate) const ALREADY_IN: u32 = 7;
 
-/// `who` has freed the lock, and nobody waited for it.
+/// The task `who` has freed the lock, and no task waited for it.
 pub(crate) const FREED: u32 = 8;
 
-/// `who` has freed the lock, and the task that had waited longest holds it now: wake that task.
+/// The task `who` has freed the lock, and the longest waiter holds it now. The caller must wake that task.
 pub(crate) const HANDED_ON: u32 = 9;
 
-/// `who` doesn't hold the lock. As the result of a withdrawal: `who` neither holds the lock nor waits for it.
+/// The task `who` doesn't hold the lock. If a task that wanted to leave the lock's queue gets this, it isn't in the
+/// queue.
 pub(crate) const NOT_HOLDER: u32 = 10;
 
-/// `who` has left the queue of the lock, and will not get the lock unless it asks again.
+/// The task `who` has left the queue of the lock, and will not get the lock unless it asks again.
 pub(crate) const LEFT: u32 = 11;
 
 /// No slot of the block is free.
 pub(crate) const FULL: u32 = 12;
 
-/// The handle holds a job now: run it.
+/// The handle holds a job now, which the caller must run.
 pub(crate) const RUN: u32 = 13;
 
-/// The worker's idle bit is set, and after that no block of its shards was found that perhaps has a ready job: sleep
-/// until another thread unparks you.
+/// The worker must sleep until another thread unparks it. No ready job was found.
 pub(crate) const PARK: u32 = 14;
 
-/// The call took no job, or found a block that perhaps has a ready one: try again.
+/// The call took no job, or the worker must not sleep, since it may have a ready job. The caller may try again.
 pub(crate) const AGAIN: u32 = 15;
 
-/// The job is ready to be run.
+/// The job is ready, so that a thread can take and run it.
 pub(crate) const READY: u32 = 16;
 
 /// The job is blocked until it is woken.
 pub(crate) const BLOCKED: u32 = 17;
 
-/// The job isn't blocked, so the wake is recorded. If the job is then taken or started, that clears the record. If not,
-/// then the next time it would block, it becomes ready instead. A wake is recorded in the same way if the name is the
-/// one that the next job of a free slot will have.
+/// The job isn't blocked, so the wake is recorded: the job becomes ready instead of blocked. A take or a start of the
+/// job clears the record. Also the result for the name that a free slot's next job will get.
 pub(crate) const MARKED: u32 = 18;
 
-/// An earlier wake of the job is still recorded.
+/// The wake changed nothing, since an earlier wake of the job is still recorded.
 pub(crate) const ALREADY_MARKED: u32 = 19;
 
 /// No job has this name at present.
 pub(crate) const GONE: u32 = 20;
 
-/// The advice on a sample: keep the number of cores as it is.
+/// The advice on a sample of the load: keep the number of cores as it is.
 pub(crate) const STAY: u32 = 21;
 
-/// The advice on a sample: ask for one core more.
+/// The advice on a sample of the load: ask for one core more.
 pub(crate) const ADD: u32 = 22;
 
-/// The advice on a sample: give one core back.
+/// The advice on a sample of the load: give one core back.
 pub(crate) const REMOVE: u32 = 23;
 
 /// The value of a result's field `unpark` if no worker must be unparked.

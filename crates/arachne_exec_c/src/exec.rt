@@ -1,4 +1,4 @@
-//! The C functions by which a host creates an executor, and spawns, takes, rests, wakes and finishes jobs.
+//! The C functions by which a host (the program that uses the library) calls an executor.
 ghost use Rattle.std.specs.Prelude.{◌≡◌, ◌%◌, ◌^◌};
 ghost use Rattle.std.specs.declared.option.Option.TheVariants.{None};
 ghost use Rattle.arachne_exec.specs.Layout.{summary_at, ready_at};
@@ -19,11 +19,11 @@ use crate::executing::Executing;
 use arachne_exec::{MOST_SHARDS, WORKERS};
 use std::alloc::Global;
 
-/// Creates an executor with `shards` shards of 4,096 job slots, and puts its first seat (a thread's right to call it)
-/// into `exec`, which must be empty.
+/// Creates an executor with `shards` shards of 4,096 job slots. Puts the first seat (a thread's right to call the
+/// executor) into `exec`, which must be empty.
 ///
-/// Shard s has the blocks 64 s to 64 s + 63, each with 64 slots of one job each; worker s % 64 runs these jobs. Returns
-/// DONE; REFUSED if the handle is in use, or if `shards` is greater than 256; NO_MEMORY if memory is refused.
+/// Shard s has the blocks 64 s to 64 s + 63, each of 64 slots, and worker s % 64 runs the jobs in them. Returns DONE;
+/// REFUSED if the handle is in use, or if `shards` is greater than 256; NO_MEMORY if memory is refused.
 #[unsafe(no_mangle)]
 pub extern "C" fn arachne_exec_new(alloc: Global, exec: &mut ArachneExec, shards: usize) -> u32
     ensures { IsMade shards (held exec.old) (held exec.new) result }
@@ -41,14 +41,14 @@ pub extern "C" fn arachne_exec_new(alloc: Global, exec: &mut ArachneExec, shards
     DONE
 }
 
-/// Splits the seat of `exec` (a thread's right to call the executor) for another thread: puts a new seat, without a job
-/// or a worker number, into `other`.
+/// Splits the seat of `exec` (a thread's right to call the executor), and puts a new seat for another thread into
+/// `other`. The new seat has no job and no worker number.
 ///
 /// Returns DONE; REFUSED if `exec` is empty or `other` is in use; NO_MEMORY if memory is refused or the reference count
 /// can't grow.
 ///
-/// If each split halves a seat that the split before resulted in (such as that of `exec` each time), then after more
-/// than 127 splits in a row further splits succeed, but the executor can't be ended any more.
+/// More than 127 splits one after another, each of a seat from the last split, still succeed, but then the executor
+/// can't be ended.
 #[unsafe(no_mangle)]
 #[tactic(auto, using(crate::proofs::ExecCut::is_split))]
 pub extern "C" fn arachne_exec_split(
@@ -79,9 +79,9 @@ pub extern "C" fn arachne_exec_split(
 
 /// Joins the seat of `other` (a thread's right to call the executor) into that of `exec`, and leaves `other` empty.
 ///
-/// Returns DONE, or REFUSED if one of the handles is empty, or if `other` holds a job or has a worker number. The
-/// caller must pass two handles of one executor; the library doesn't check this. If they are of two executors, the
-/// executor of `other` can't be ended any more, and the end of the executor of `exec` perhaps returns too few jobs.
+/// Returns DONE, or REFUSED if one of the handles is empty, or if `other` holds a job or has a worker number. Both
+/// handles must be of one executor, which the library doesn't check. If they are not, the executor of `other` can't be
+/// ended any more, and `arachne_exec_end` for `exec` may return too few jobs.
 #[unsafe(no_mangle)]
 pub extern "C" fn arachne_exec_join(
     alloc: Global,
@@ -106,10 +106,9 @@ pub extern "C" fn arachne_exec_join(
     code
 }
 
-/// Ends the executor, writes the numbers of the jobs that haven't ended to the beginning of `left`, and empties the
-/// handle.
+/// Ends the executor, writes the numbers of the unfinished jobs to the beginning of `left`, and empties the handle.
 ///
-/// If several of these jobs have the same number, it is written once for each of them; the number 0 is never written.
+/// A number that several of these jobs have is written once for each of them, but the number 0 is never written.
 /// Returns DONE with the count of numbers written; REFUSED if the handle is empty or holds a job, if not all other
 /// handles were joined into this one, or if `left` has room for fewer than 4,096 numbers for each shard; NO_MEMORY if
 /// memory is refused. Unless the code is DONE, the count is 0, and the executor and `left` are unchanged.
@@ -129,11 +128,11 @@ pub extern "C" fn arachne_exec_end(
     told
 }
 
-/// Frees the seat of a handle (a thread's right to call an executor), if it has one. The last handle of an executor
-/// frees the executor too.
+/// Empties a handle, and frees its seat (a thread's right to call an executor). The last handle also frees the
+/// executor.
 ///
-/// If the handle holds a job, that job can never be run again. If this handle had a seat, the executor can't be ended
-/// any more after this call.
+/// A job that the handle holds never runs again. If the handle was not empty, its seat is lost, so that
+/// `arachne_exec_end` returns REFUSED for each other handle of the executor.
 #[unsafe(no_mangle)]
 pub extern "C" fn arachne_exec_close(alloc: Global, exec: &mut ArachneExec)
     ensures { held exec.new ≡ None }
@@ -141,11 +140,10 @@ pub extern "C" fn arachne_exec_close(alloc: Global, exec: &mut ArachneExec)
     drop(exec.take(alloc));
 }
 
-/// Makes the calling thread the worker with the number `worker`, from 0 to 63: the handle's seat (a thread's right to
-/// call the executor) gets that number.
+/// Gives the handle the worker number `worker`, from 0 to 63. The handle's thread is then this worker.
 ///
-/// Returns DONE; LOST if another seat has that number; REFUSED if the handle is empty, if its seat already has a worker
-/// number, or if `worker` is greater than 63.
+/// Returns DONE; LOST if another handle has that number; REFUSED if the handle is empty or already has a worker number,
+/// or if `worker` is greater than 63.
 #[unsafe(no_mangle)]
 pub extern "C" fn arachne_exec_register(alloc: Global, exec: &mut ArachneExec, worker: u32) -> u32
     ensures { IsTold (MayRegister worker) (Registers worker) refused (held exec.old) (held exec.new) result }
@@ -167,10 +165,9 @@ pub extern "C" fn arachne_exec_register(alloc: Global, exec: &mut ArachneExec, w
     told
 }
 
-/// Gives the worker number of the handle's seat (a thread's right to call the executor) back, so that another seat can
-/// get it.
+/// Gives the handle's worker number back, so that another handle can get this number.
 ///
-/// Returns DONE, or REFUSED if the handle is empty or its seat has no worker number.
+/// Returns DONE, or REFUSED if the handle is empty or has no worker number.
 #[unsafe(no_mangle)]
 pub extern "C" fn arachne_exec_leave(alloc: Global, exec: &mut ArachneExec) -> u32
     ensures { IsTold IsWorker Leaves refused (held exec.old) (held exec.new) result }
@@ -189,11 +186,11 @@ pub extern "C" fn arachne_exec_leave(alloc: Global, exec: &mut ArachneExec) -> u
     told
 }
 
-/// Tries once to put `job` into a free one of the 64 slots of `block`, ready to be run by any thread.
+/// Tries once to put `job` into a free slot of `block` (64 slots), ready to be run by any thread.
 ///
 /// Returns READY with the job's name, and the worker to unpark; FULL if no slot of the block is free; LOST if another
 /// thread claimed the slot first; REFUSED if the handle is empty or there is no such block. If `job` is 0,
-/// `arachne_exec_end` doesn't write its number.
+/// `arachne_exec_end` never writes its number.
 #[unsafe(no_mangle)]
 pub extern "C" fn arachne_exec_spawn(
     alloc: Global,
@@ -214,7 +211,7 @@ pub extern "C" fn arachne_exec_spawn(
     told
 }
 
-/// Tries once to put `job` into a free one of the 64 slots of `block`. The handle then holds the job, so no other
+/// Tries once to put `job` into a free slot of `block` (64 slots). The handle then holds the job, so that no other
 /// thread can take it.
 ///
 /// Returns RUN with the job's name and number; FULL if no slot of the block is free; LOST if another thread claimed the
@@ -241,10 +238,10 @@ pub extern "C" fn arachne_exec_spawn_here(
     told
 }
 
-/// Returns a bit for each of the 64 blocks of `shard` that perhaps has ready jobs, by one load.
+/// Returns a bit for each of the 64 blocks of `shard`, which is set if the block may have ready jobs.
 ///
-/// A block whose bit is clear has no ready job, unless a call in progress has yet to set that bit, or to find that
-/// another call has set it. Returns 0 also if the handle is empty or there is no such shard.
+/// A block whose bit is clear has no ready job, unless a call that makes a job ready there is still in progress.
+/// Returns 0 also if the handle is empty or there is no such shard.
 #[unsafe(no_mangle)]
 pub extern "C" fn arachne_exec_shown(alloc: Global, exec: &mut ArachneExec, shard: usize) -> u64
     ensures { IsTold (HasShard shard) (LooksAt (summary_at shard)) 0 (held exec.old) (held exec.new) result }
@@ -260,7 +257,7 @@ pub extern "C" fn arachne_exec_shown(alloc: Global, exec: &mut ArachneExec, shar
     told
 }
 
-/// Returns a bit for each of the 64 slots of `block` that has a ready job, by one load.
+/// Returns a bit for each of the 64 slots of `block`, which is set if the slot has a ready job.
 ///
 /// Returns 0 also if the handle is empty or there is no such block.
 #[unsafe(no_mangle)]
@@ -278,10 +275,9 @@ pub extern "C" fn arachne_exec_ready(alloc: Global, exec: &mut ArachneExec, bloc
     told
 }
 
-/// Tries once to take a ready job from one of the 64 slots of `block`, so that the handle holds the job. The block may
-/// be any worker's.
+/// Tries once to take a ready job of `block` (64 slots, of any worker), so that the handle holds the job.
 ///
-/// Returns RUN with the job's name and number; AGAIN if no job was taken; REFUSED if the handle is empty or holds a
+/// Returns RUN with the job's name and number; AGAIN if the call took no job; REFUSED if the handle is empty or holds a
 /// job, or if there is no such block.
 #[unsafe(no_mangle)]
 pub extern "C" fn arachne_exec_take(
@@ -304,13 +300,14 @@ pub extern "C" fn arachne_exec_take(
     told
 }
 
-/// Takes up to `most` ready jobs of `block` in one atomic operation. The handle then holds them, so no other thread can
-/// take them. If `most` is 0, takes up to one.
+/// Takes up to `most` ready jobs of `block` in one atomic operation. The handle then holds these jobs, so that no other
+/// thread can take them. A `most` of 0 counts as 1.
 ///
-/// Returns a bit for each of the block's 64 slots whose job was taken. The next calls concern the job in the lowest of
-/// these slots; when that job rests (is made ready or blocked again) or ends, the next calls concern the job in the
-/// next slot, and so on. `arachne_exec_start` returns the number and the name of that job. Returns 0 if no job was
-/// taken, if the handle is empty or holds a job already, or if there is no such block.
+/// Returns a bit for each of the block's 64 slots whose job this call took. Calls on the handle's job, such as
+/// `arachne_exec_finish`, then concern the job in the lowest of these slots. After that job has ended or rests (is made
+/// ready or blocked again), they concern the job in the next of these slots. `arachne_exec_start` returns the number
+/// and the name of the current job. Returns 0 if the call took no job, if the handle is empty or holds a job already,
+/// or if there is no such block.
 #[unsafe(no_mangle)]
 pub extern "C" fn arachne_exec_take_many(
     alloc: Global,
@@ -333,8 +330,8 @@ pub extern "C" fn arachne_exec_take_many(
     told
 }
 
-/// Prepares the next of the jobs that `arachne_exec_take_many` has taken, so that the caller can run it. If a wake of
-/// that job is recorded, clears the record: the run answers that wake.
+/// Prepares the current job (the one in the lowest slot) of those that `arachne_exec_take_many` has taken, so that the
+/// caller can run it. Clears a recorded wake of the job, since the job runs after the wake.
 ///
 /// Returns RUN with the job's name and number, or REFUSED if the handle holds no job.
 #[unsafe(no_mangle)]
@@ -355,12 +352,10 @@ pub extern "C" fn arachne_exec_start(alloc: Global, exec: &mut ArachneExec) -> A
     told
 }
 
-/// Takes the next job that is ready in the blocks (64 job slots each) of the handle's worker, or says that the worker
-/// must park.
+/// Takes the next ready job of the handle's worker, or says that the worker must park.
 ///
 /// Returns RUN with the job's name and number; PARK if the worker must sleep; AGAIN if the caller must call again;
-/// REFUSED if the handle is empty or holds a job, or if its seat (a thread's right to call the executor) has no worker
-/// number.
+/// REFUSED if the handle is empty, holds a job, or has no worker number.
 #[unsafe(no_mangle)]
 pub extern "C" fn arachne_exec_next(alloc: Global, exec: &mut ArachneExec) -> ArachneExecTold
     ensures { IsTold MayGoOn (Tells GoesOn told_next) (code_alone refused) (held exec.old) (held exec.new) result }
@@ -376,11 +371,11 @@ pub extern "C" fn arachne_exec_next(alloc: Global, exec: &mut ArachneExec) -> Ar
     told
 }
 
-/// Sets the worker's idle bit, by which other threads know that they must unpark the worker; then looks for blocks (64
-/// job slots each) of the worker that perhaps have ready jobs. `arachne_exec_next` does the same if it finds no job.
+/// Marks the worker as asleep, by which other threads know that they must unpark the worker. Then looks for blocks (64
+/// job slots each) of the worker that may have ready jobs. `arachne_exec_next` does the same if it finds no job.
 ///
-/// Returns PARK if there is no such block; AGAIN if there is one, after clearing the idle bit; REFUSED if the handle is
-/// empty or its seat (a thread's right to call the executor) has no worker number.
+/// Returns PARK if there is no such block; AGAIN if there is one, and the worker is marked as awake again; REFUSED if
+/// the handle is empty or has no worker number.
 #[unsafe(no_mangle)]
 pub extern "C" fn arachne_exec_may_park(alloc: Global, exec: &mut ArachneExec) -> u32
     ensures { IsTold IsWorker ParksOrNot refused (held exec.old) (held exec.new) result }
@@ -393,10 +388,10 @@ pub extern "C" fn arachne_exec_may_park(alloc: Global, exec: &mut ArachneExec) -
     told
 }
 
-/// Clears the worker's idle bit. The worker must call it when it stops sleeping without having been unparked.
+/// Marks the worker as awake, so that other threads don't unpark it. A worker must call this function when it wakes by
+/// itself.
 ///
-/// Returns DONE, or REFUSED if the handle is empty or its seat (a thread's right to call the executor) has no worker
-/// number.
+/// Returns DONE, or REFUSED if the handle is empty or has no worker number.
 #[unsafe(no_mangle)]
 pub extern "C" fn arachne_exec_wake_up(alloc: Global, exec: &mut ArachneExec) -> u32
     ensures { IsTold IsWorker WakesUp refused (held exec.old) (held exec.new) result }
@@ -436,7 +431,7 @@ pub extern "C" fn arachne_exec_rest_ready(alloc: Global, exec: &mut ArachneExec)
     told
 }
 
-/// Blocks the job that the handle holds until it is woken.
+/// Blocks the job that the handle holds, until the job is woken.
 ///
 /// Returns BLOCKED; READY with the worker to unpark, if the job was woken since it was taken or started, and so is
 /// ready again; REFUSED if the handle holds no job.
@@ -487,9 +482,9 @@ pub extern "C" fn arachne_exec_finish(alloc: Global, exec: &mut ArachneExec) -> 
 
 /// Tries once to wake the job with this name.
 ///
-/// Returns READY with the worker to unpark, if the job was blocked; MARKED if it wasn't, and this wake is recorded;
-/// ALREADY_MARKED if an earlier wake is still recorded; GONE if no job has the name; LOST if another thread changed the
-/// job's slot first; REFUSED if the handle is empty.
+/// Returns READY with the worker to unpark, if the job was blocked; MARKED if the job wasn't blocked, so that the wake
+/// is recorded; ALREADY_MARKED if an earlier wake is still recorded; GONE if no job has the name; LOST if another
+/// thread changed the job's slot first; REFUSED if the handle is empty.
 #[unsafe(no_mangle)]
 pub extern "C" fn arachne_exec_wake(
     alloc: Global,
@@ -509,7 +504,7 @@ pub extern "C" fn arachne_exec_wake(
     told
 }
 
-/// Tries once to wake the job with this name. If the job was blocked, the handle then holds it.
+/// Tries once to wake the job with this name. If the job was blocked, the handle then holds the job.
 ///
 /// Returns RUN with the job's name and number, if the job was blocked. MARKED, ALREADY_MARKED, GONE and LOST are as in
 /// `arachne_exec_wake`; REFUSED if the handle is empty or holds a job.

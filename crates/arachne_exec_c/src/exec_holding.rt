@@ -1,4 +1,4 @@
-//! Splits, joins and ends the executor's seat that a handle has, if it has one, and lets its worker park.
+//! The calls on a handle that split, join or end its executor, or let its worker park.
 ghost use Rattle.std.specs.Prelude.{◌≡◌, ◌↔◌, MatchBool, IsTrue};
 ghost use Rattle.std.specs.Option.{ForSome, IsSomeAnd};
 ghost use Rattle.std.specs.declared.option.Option.TheVariants.{None, Some};
@@ -21,7 +21,7 @@ pub(crate) fn may_park_held(held: &mut Option<Executing>) -> u32
     }
 }
 
-/// Splits the seat in `mine` (a thread's right to call the executor) into two, and puts the second one into `theirs`.
+/// Splits the seat in `mine`, and puts the second one into `theirs`.
 ///
 /// Returns false, and changes nothing, if `mine` is empty or if the executor's reference count can't grow.
 pub(crate) fn cut_held(mine: &mut Option<Executing>, theirs: &mut Option<Executing>) -> bool
@@ -68,7 +68,6 @@ pub(crate) fn end_held(
     }
 }
 
-/// Returns true if `held` has a seat (a thread's right to call) that holds no job and has no worker number.
 fn is_idle_held(held: &Option<Executing>) -> bool
     ensures { IsTrue result ↔ IsSomeAnd held.now IsIdle }
 {
@@ -78,8 +77,9 @@ fn is_idle_held(held: &Option<Executing>) -> bool
     }
 }
 
-/// Joins the seat (a thread's right to call the executor) in `theirs` into the one in `mine`, and returns DONE. Returns
-/// REFUSED if either of them is empty, or if the seat in `theirs` holds a job or has a worker number.
+/// Joins the seat in `theirs` into the one in `mine`, and returns DONE.
+///
+/// Returns REFUSED if either of them is empty, or if the seat in `theirs` holds a job or has a worker number.
 #[tactic(auto, using(crate::proofs::ExecCut::not_joined))]
 pub(crate) fn join_held(mine: &mut Option<Executing>, theirs: &mut Option<Executing>) -> u32
     requires { (a b : Exec) → mine.old ≡ Some a → theirs.old ≡ Some b → b.executor ≡ a.executor }

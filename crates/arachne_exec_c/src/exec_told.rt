@@ -1,4 +1,4 @@
-//! Turns the result of a call on an executor into a C struct: a code, a job, and the worker to unpark.
+//! Turns the results of calls on an executor into C structs.
 ghost use Rattle.std.specs.Prelude.{◌≡◌, ◌%◌, ◌^◌};
 ghost use Rattle.arachne_exec_c.specs.ExecTold.{code_alone, code_unparking, told_job, told_next, told_rested, told_spawned, told_spawned_here, told_taken, told_woken, told_woken_here, whom};
 
@@ -14,21 +14,21 @@ use arachne_exec::{
 #[repr(C)]
 #[derive(Clone, Copy)]
 pub struct ArachneExecTold {
-    /// The name of the job that was spawned, or that the handle holds: 20 bits for its slot, and 44 for the slot's
-    /// generation (the number of jobs that had ended there when this job was spawned).
+    /// The name of the job that was spawned, or that the handle holds. The low 20 bits are the job's slot, and the
+    /// other 44 bits are the number of jobs that had ended there before.
     pub name: u64,
-    /// The number of the job that the handle holds, as it was passed to the spawn.
+    /// The number of the job that the handle holds, as its spawner passed it.
     pub job: u64,
     pub code: u32,
     /// The worker whose thread the caller must unpark, or NOBODY.
     pub unpark: u32,
 }
 
-/// The result of ending an executor: a code, and the number of jobs that had not ended.
+/// The result of ending an executor: a code, and a count of unfinished jobs.
 #[repr(C)]
 #[derive(Clone, Copy)]
 pub struct ArachneExecLeft {
-    /// The number of jobs that had not ended. Their numbers were written to the caller's array.
+    /// The count of numbers that the call wrote to the caller's array: those of the unfinished jobs, except 0.
     pub count: u64,
     pub code: u32,
 }

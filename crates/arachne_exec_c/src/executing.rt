@@ -1,5 +1,4 @@
-//! The value behind C's handle on an executor: a seat with its executor, its worker number, and the slots of the jobs
-//! that it holds.
+//! The value to which C's handle on an executor points.
 ghost use Rattle.std.specs.Prelude.{◌≡◌, ◌↔◌, ℕ, ◌+◌, ◌*◌, ◌/◌, ◌^◌, ◌<◌, ◌≤◌, IsTrue, IsFalse, IfOk, IfErr, IfSome};
 ghost use Rattle.std.specs.declared.option.Option.TheVariants.{None, Some};
 ghost use Rattle.std.specs.Prelude.{◌⊎◌, vec_len};
@@ -21,20 +20,18 @@ use std::alloc::{AllocError, Global};
 use std::marker::Model;
 use std::sync::Arc;
 
-/// The value behind C's handle on an executor.
+/// The value to which C's handle on an executor points: a seat (a thread's right to call it), and the jobs it holds.
 ///
-/// Each call on the handle writes to this value. The 64 unused bytes at its end keep it off the cache lines of other
-/// handles' values.
+/// Each call writes to this value, so 64 unused bytes keep it off the cache lines of other handles' values.
 #[derive(Drop)]
 #[repr(C)]
 pub struct Executing {
     executor: Arc<Executor>,
     seat: ExecSeat,
-    /// The slot of the job that the calls concern: of the jobs that the seat holds, the one that it got last.
+    /// The slot of the job that calls such as `arachne_exec_finish` concern: the job that the seat took last.
     hand: Option<usize>,
-    /// A bit for each other slot of the same block whose job the seat holds.
+    /// A bit for each slot of its block, besides the one in `hand`, whose job the seat also holds.
     more: u64,
-    /// One more than the seat's worker number; 0 if the seat has none.
     worker: usize,
     apart: [u64; 8],
 }
@@ -50,7 +47,6 @@ impl Model for Executing {
     ghost invariant = { λ e. IsKept (record { executor = arc_value e.executor; seat = e.seat; hand = e.hand; more = e.more; worker = e.worker }) };
 }
 
-/// Takes the lowest set bit out of `word`, a bit set of `block`'s slots. Returns that bit's slot, and the other bits.
 fn in_hand(block: usize, word: u64) -> (Option<usize>, u64)
     requires { block < 2 ^ 58 }
     ensures { result ≡ (lowest_place block word, without_lowest word) }
@@ -66,8 +62,6 @@ fn in_hand(block: usize, word: u64) -> (Option<usize>, u64)
 }
 
 impl Executing {
-    /// Creates an executor with `shards` shards. Returns its first seat (a thread's right to call the executor), which
-    /// has the whole weight (each split halves it).
     pub(crate) fn new(alloc: Global, shards: usize) -> Result<Executing, AllocError>
         requires { shards ≤ 256 }
         ensures { IfOk result (IsNew shards) }
@@ -108,8 +102,6 @@ impl Executing {
         self.worker > 0
     }
 
-    /// Returns the slot of the job that the seat (a thread's right to call the executor) got last of those that it
-    /// holds, or `None` if it holds none.
     pub(crate) fn hand(&self) -> Option<usize>
         ensures { result ≡ self.now.hand }
     {
@@ -134,7 +126,6 @@ impl Executing {
         spawned
     }
 
-    /// Returns a bit for each block of `shard` that perhaps has ready jobs.
     pub(crate) fn shown(&mut self, shard: usize) -> u64
         requires { HasShard shard self.old }
         ensures { LooksAt (summary_at shard) self.old self.new result }
@@ -142,7 +133,6 @@ impl Executing {
         self.executor.shown(&mut self.seat, shard)
     }
 
-    /// Returns a bit for each slot of `block` that has a ready job.
     pub(crate) fn ready(&mut self, block: usize) -> u64
         requires { HasBlock block self.old }
         ensures { LooksAt (ready_at block) self.old self.new result }
@@ -161,9 +151,6 @@ impl Executing {
         taken
     }
 
-    /// Takes up to `most` ready jobs of `block` in one atomic operation. Returns a bit for each slot whose job was
-    /// taken. The job in the lowest slot counts as the one that the seat (a thread's right to call the executor) got
-    /// last.
     pub(crate) fn take_many(&mut self, block: usize, most: u32) -> u64
         requires { MayTake block self.old }
         ensures { TakesMany block most self.old self.new result }
@@ -174,8 +161,6 @@ impl Executing {
         bits
     }
 
-    /// Prepares the job in slot `place` to be run. The caller must pass the slot of the job that the seat (a thread's
-    /// right to call the executor) got last of those that it holds.
     pub(crate) fn start(&mut self, place: usize) -> HeldJob
         requires { self.old.hand ≡ Some place }
         ensures { Starts place self.old self.new result }
@@ -275,8 +260,7 @@ impl Executing {
         self.worker = 0;
     }
 
-    /// Splits the seat (a thread's right to call the executor) into two, and returns the second one. Returns an error,
-    /// and changes nothing, if the executor's reference count can't grow.
+    /// Splits off a seat, or changes nothing and returns an error if the executor's reference count can't grow.
     pub(crate) fn split(&mut self) -> Result<Executing, AllocError>
         ensures ok { IfOk result (λ other. (self.new ≡ first_of self.old) × (other ≡ second_of self.old)) }
         ensures err { IfErr result (λ _. self.new ≡ self.old) }
@@ -293,19 +277,14 @@ impl Executing {
         })
     }
 
-    /// Returns true if this seat (a thread's right to call the executor) is the only one of the executor (it has the
-    /// whole weight), and holds no job.
     fn may_end(&self) -> bool
         ensures { IsTrue result → IsEmptyHanded self.now × (self.now.seat.weight ≡ whole) }
     {
         self.hand.is_none() && self.executor.is_whole(&self.seat)
     }
 
-    /// Ends the executor, if this seat (a thread's right to call the executor) is the only one, holds no job, and
-    /// `room` suffices for one job in each slot.
-    ///
-    /// Returns the numbers of the jobs that have not ended. As an error, returns the unchanged value with the code for
-    /// C.
+    /// Ends the executor, if this seat is the only one and holds no job, and if `room` suffices for one job in each
+    /// slot. Otherwise returns the unchanged value with the code for C, REFUSED or NO_MEMORY.
     pub(crate) fn end(self, alloc: Global, room: usize) -> Result<Vec<u64>, (Executing, u32)>
         ensures ended { IfOk result (λ jobs. HasEnded self jobs.items × (vec_len jobs ≤ room)) }
         ensures same { IfErr result (λ back. (back.0 ≡ self) × ((back.1 ≡ refused) ⊎ (back.1 ≡ no_memory))) }

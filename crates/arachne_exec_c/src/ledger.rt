@@ -10,10 +10,10 @@ use crate::adding::{Adding, cut, join_held};
 use crate::codes::{DONE, NO_MEMORY, REFUSED};
 use std::alloc::Global;
 
-/// Creates `count` ledgers (counters), each of total 0, and puts their first share into `adder`, which must be empty.
+/// Creates `count` ledgers (counters), each of total 0. Puts the first share (a thread's right to add to the ledgers)
+/// into `adder`, which must be empty.
 ///
-/// A share is one thread's right to add to the ledgers. Returns DONE; REFUSED if the handle is in use; NO_MEMORY if
-/// memory is refused.
+/// Returns DONE; REFUSED if the handle is in use; NO_MEMORY if memory is refused.
 #[unsafe(no_mangle)]
 pub extern "C" fn arachne_ledgers_new(alloc: Global, adder: &mut ArachneAdder, count: usize) -> u32
     ensures { IsMade count (held adder.old) (held adder.new) result }
@@ -58,8 +58,8 @@ pub extern "C" fn arachne_ledger_add(
     known
 }
 
-/// Writes the sum of all amounts added to a ledger, modulo 2^64, to `total`. The caller must first have joined all
-/// other handles into this one.
+/// Writes the sum of all amounts added to a ledger, modulo 2^64, to `total`. All other handles must have been joined
+/// into this one.
 ///
 /// Returns false, and changes nothing, if another handle was not joined into this one, if the handle is empty, or if
 /// there is no such ledger.
@@ -92,14 +92,13 @@ pub extern "C" fn arachne_ledger_total(
     }
 }
 
-/// Splits the share of `adder` (a thread's right to add) for another thread: puts a new share into `other`, by which
-/// nothing was added yet.
+/// Splits the share of `adder` (a thread's right to add), and puts a new share for another thread into `other`.
 ///
 /// Returns DONE; REFUSED if `adder` is empty or `other` is in use; NO_MEMORY if memory is refused or the reference
 /// count can't grow.
 ///
-/// If each split halves a share that the split before resulted in (such as that of `adder` each time), then after more
-/// than 127 splits in a row further splits succeed, but no total can be read any more.
+/// More than 127 splits one after another, each of a share from the last split, still succeed, but then no total can be
+/// read.
 #[unsafe(no_mangle)]
 #[tactic(auto, using(crate::proofs::AdderCut::is_split))]
 pub extern "C" fn arachne_ledger_split(
@@ -130,9 +129,9 @@ pub extern "C" fn arachne_ledger_split(
 
 /// Joins the share of `other` (a thread's right to add) into that of `adder`, and leaves `other` empty.
 ///
-/// Returns false, and changes nothing, if one of the handles is empty. The caller must pass two handles of one set of
-/// ledgers; the library doesn't check this. If they are of two sets, the totals of `adder`'s ledgers can perhaps be
-/// read before all of their handles were joined, and the totals of `other`'s ledgers can't be read any more.
+/// Returns false, and changes nothing, if one of the handles is empty. Both handles must be of one set of ledgers,
+/// which the library doesn't check. If they are not, totals of `adder`'s ledgers may be read before all of their
+/// handles were joined, and totals of `other`'s ledgers can never be read.
 #[unsafe(no_mangle)]
 pub extern "C" fn arachne_ledger_join(
     alloc: Global,
@@ -157,10 +156,9 @@ pub extern "C" fn arachne_ledger_join(
     is_joined
 }
 
-/// Frees the share of a handle (a thread's right to add), if it has one. The last handle of a set of ledgers frees the
-/// ledgers too.
+/// Empties a handle, and frees its share (a thread's right to add). The last handle also frees the ledgers.
 ///
-/// If this handle had a share, no other handle can read a total after this call.
+/// If the handle was not empty, its share is lost, so that no other handle can ever read a total.
 #[unsafe(no_mangle)]
 pub extern "C" fn arachne_ledger_close(alloc: Global, adder: &mut ArachneAdder)
     ensures { held adder.new ≡ None }

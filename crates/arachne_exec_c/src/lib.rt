@@ -1,9 +1,10 @@
 //! The executor, locks, ledgers and the core policy for hosts in C or Rust, as one static library.
 //!
-//! A *handle* is empty, or has a seat (one thread's right to call an executor or a set of locks), or a share (one
-//! thread's right to add to ledgers). An empty handle is one null pointer, with which C begins. A handle *holds* a job
-//! that was taken through it until the job rests or ends. Calls synchronize by atomics only: none waits, sleeps or
-//! yields, and only C's allocator may lock. `scripts/declarations` makes `examples/c/arachne_exec.h` and
+//! C calls the library through *handles*, each of which is one pointer. A handle has one thread's right to call an
+//! executor or a set of locks (a *seat*), or to add to ledgers (a *share*). An empty handle is a null pointer, with
+//! which C begins. A handle *holds* a job from the call that takes the job until the job ends or rests (is made ready
+//! or blocked again). The calls synchronize by atomic operations only, and never wait, sleep or yield; only C's
+//! allocator may lock. The script `scripts/declarations` makes the header `examples/c/arachne_exec.h` and
 //! `examples/rust/arachne_exec/declared.rs` from these files.
 #![tactic(auto)]
 

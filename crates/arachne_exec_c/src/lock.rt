@@ -1,4 +1,4 @@
-//! The C functions by which a host creates a set of locks, and asks for a lock and frees it.
+//! The C functions by which a host (the program that uses the library) uses locks.
 ghost use Rattle.std.specs.Prelude.{◌≡◌};
 ghost use Rattle.std.specs.declared.option.Option.TheVariants.{None};
 ghost use Rattle.arachne_exec_c.specs.LockTold.{IsAskTold, IsFreeTold, IsWithdrawTold, IsCheckTold};
@@ -13,7 +13,7 @@ use crate::told::{
 };
 use std::alloc::Global;
 
-/// Creates `count` locks, and puts their first seat, a thread's right to use them, into `locks`, which must be empty.
+/// Creates `count` locks. Puts the first seat (a thread's right to use the locks) into `locks`, which must be empty.
 ///
 /// Returns DONE; REFUSED if the handle is in use; NO_MEMORY if memory is refused.
 #[unsafe(no_mangle)]
@@ -33,7 +33,7 @@ pub extern "C" fn arachne_locks_new(alloc: Global, locks: &mut ArachneLocks, cou
     DONE
 }
 
-/// Splits the seat of `locks` (a thread's right to use them) for another thread: puts a new seat into `other`.
+/// Splits the seat of `locks` (a thread's right to use the locks), and puts a new seat for another thread into `other`.
 ///
 /// Returns DONE; REFUSED if `locks` is empty or `other` is in use; NO_MEMORY if memory is refused or the reference
 /// count can't grow.
@@ -67,8 +67,8 @@ pub extern "C" fn arachne_locks_split(
 
 /// Joins the seat of `other` (a thread's right to use the locks) into that of `locks`, and leaves `other` empty.
 ///
-/// Returns DONE, or REFUSED if one of the handles is empty. The caller must pass two handles of one set of locks; the
-/// library doesn't check this. If they are of two sets, the seat of `other` is only freed, as by `arachne_locks_close`.
+/// Returns DONE, or REFUSED if one of the handles is empty. Both handles must be of one set of locks, which the library
+/// doesn't check. If they are not, the seat of `other` is only freed, as by `arachne_locks_close`.
 #[unsafe(no_mangle)]
 pub extern "C" fn arachne_locks_join(
     alloc: Global,
@@ -93,8 +93,7 @@ pub extern "C" fn arachne_locks_join(
     code
 }
 
-/// Frees the seat of a handle (a thread's right to use the locks), if it has one. The last handle of a set of locks
-/// frees the locks too.
+/// Empties a handle, and frees its seat (a thread's right to use the locks). The last handle also frees the locks.
 #[unsafe(no_mangle)]
 pub extern "C" fn arachne_locks_close(alloc: Global, locks: &mut ArachneLocks)
     ensures { held locks.new ≡ None }
@@ -104,9 +103,9 @@ pub extern "C" fn arachne_locks_close(alloc: Global, locks: &mut ArachneLocks)
 
 /// Tries once to ask for a lock for the task with the number `who`.
 ///
-/// Returns GRANTED if `who` holds the lock now; QUEUED if `who` now waits for it; ALREADY_IN if `who` already held it
-/// or waited; NO_MEMORY if memory is refused, which happens only if `who` would have to wait; CONTENDED if another
-/// thread was in a call on the lock; REFUSED if the handle is empty or there is no such lock.
+/// Returns GRANTED if `who` holds the lock now; QUEUED if `who` now waits for the lock; ALREADY_IN if `who` already
+/// held the lock or waited; NO_MEMORY if memory is refused, which happens only if `who` would have to wait; CONTENDED
+/// if another thread was in a call on the lock; REFUSED if the handle is empty or there is no such lock.
 #[unsafe(no_mangle)]
 pub extern "C" fn arachne_lock_ask(
     alloc: Global,
@@ -129,9 +128,9 @@ pub extern "C" fn arachne_lock_ask(
 
 /// Tries once to free the lock with index `lock`, which the task `who` holds.
 ///
-/// Returns FREED if nobody waited; HANDED_ON if the longest waiter, `next`, holds the lock now; NOT_HOLDER if `who`
-/// didn't hold it; CONTENDED if another thread was in a call on the lock; REFUSED if the handle is empty or there is no
-/// such lock.
+/// Returns FREED if nobody waited; HANDED_ON if the longest waiter (field `next`) holds the lock now; NOT_HOLDER if
+/// `who` didn't hold the lock; CONTENDED if another thread was in a call on the lock; REFUSED if the handle is empty or
+/// there is no such lock.
 #[unsafe(no_mangle)]
 pub extern "C" fn arachne_lock_free(
     alloc: Global,
@@ -154,9 +153,9 @@ pub extern "C" fn arachne_lock_free(
 
 /// Tries once to take `who` out of the queue of a lock, for example because the future of `who` is dropped.
 ///
-/// Returns LEFT if `who` waits no longer; GRANTED if `who` was granted the lock meanwhile, so that the caller must free
-/// it; NOT_HOLDER if `who` neither waited nor held it; CONTENDED if another thread was in a call on the lock; REFUSED
-/// if the handle is empty or there is no such lock.
+/// Returns LEFT if `who` waits no longer; GRANTED if `who` already holds the lock, so that the caller must free it;
+/// NOT_HOLDER if `who` neither waited for the lock nor held it; CONTENDED if another thread was in a call on the lock;
+/// REFUSED if the handle is empty or there is no such lock.
 #[unsafe(no_mangle)]
 pub extern "C" fn arachne_lock_withdraw(
     alloc: Global,
@@ -177,10 +176,10 @@ pub extern "C" fn arachne_lock_withdraw(
     told
 }
 
-/// Tries once to find out if the task `who` holds the lock with index `lock`.
+/// Tries once to find out whether the task `who` holds the lock with index `lock`.
 ///
-/// Returns GRANTED, with the event number of the grant, if `who` holds it; NOT_HOLDER if not; CONTENDED if another
-/// thread was in a call on the lock; REFUSED if the handle is empty or there is no such lock.
+/// Returns GRANTED, with the event number of the grant, if `who` holds the lock; NOT_HOLDER if not; CONTENDED if
+/// another thread was in a call on the lock; REFUSED if the handle is empty or there is no such lock.
 #[unsafe(no_mangle)]
 pub extern "C" fn arachne_lock_check(
     alloc: Global,

@@ -47,7 +47,7 @@ impl ArachneLocks {
         }
     }
 
-    /// Returns the box that the handle holds, if any, and leaves the handle empty.
+    /// Leaves the handle empty, and returns its box, if it held one.
     pub(crate) fn take(&mut self, alloc: Global) -> Option<Box<Option<Seated>>>
         ensures none { IfNone result (self.old.value ≡ None) }
         ensures some { IfSome result (λ taken. self.old.value ≡ Some taken.value) }
@@ -57,14 +57,13 @@ impl ArachneLocks {
         mem::replace(self, empty).into_handle().into_box()
     }
 
-    /// Puts `value` into the handle. If the handle held a box, frees that box.
+    /// Puts `value` into the handle, and frees the box that it held before.
     pub(crate) fn put(&mut self, value: Box<Option<Seated>>)
         ensures { self.new.value ≡ Some value.value }
     {
         *self = ArachneLocks::of_handle(Handle::of(value));
     }
 
-    /// Returns true if the handle holds a seat (a thread's right to use the locks).
     pub(crate) fn is_in_use(&mut self, alloc: Global) -> bool
         ensures used { IsTrue result ↔ IsSome (option_flatten self.old.value) }
         ensures same { self.new.value ≡ self.old.value }

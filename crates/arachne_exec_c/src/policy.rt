@@ -1,7 +1,6 @@
 //! The C functions that advise, from samples of the load, when to ask for a core and when to give one back.
 //!
-//! An estimator lies in the caller's memory, and no call allocates. No call has undefined behaviour, whatever bytes
-//! that memory contains.
+//! An estimator lies in the caller's memory. Whatever that memory holds, no call allocates or has undefined behaviour.
 ghost use Rattle.std.specs.Prelude.{◌≡◌, ◌≢◌, ◌≤◌, ◌↔◌, List, [], IsTrue, MatchBool};
 ghost use Rattle.arachne_policy.specs.declared.samples.Sample.{Sample as Past};
 ghost use Rattle.arachne_policy.specs.State.{most_cores, StandsFor};
@@ -10,8 +9,8 @@ ghost use Rattle.arachne_exec_c.specs.Estimating.{state_of, sample_of, number_of
 use crate::codes::{ADD, REFUSED, REMOVE, STAY};
 use arachne_policy::{Advice, Estimator, MAX_CORES, Sample};
 
-/// An estimator in C's layout: its settings, and for each number of cores from 1 on, the utilisation below which one of
-/// these cores can be given back.
+/// An estimator: its settings, and for each number of cores a threshold. If the utilisation (average number of busy
+/// cores) is below the threshold by more than `hysteresis`, the advice is to give one core back.
 #[repr(C)]
 #[derive(Clone, Copy)]
 pub struct ArachneEstimator {
@@ -21,7 +20,7 @@ pub struct ArachneEstimator {
     pub thresholds: [u64; MAX_CORES],
 }
 
-/// The measurements by a host (the program that uses cores) of its load in one period, on all cores together.
+/// The measured load of a host (the program that uses the cores) in one period, on all its cores together.
 #[repr(C)]
 #[derive(Clone, Copy)]
 pub struct ArachneSample {
@@ -32,8 +31,9 @@ pub struct ArachneSample {
     pub elapsed: u64,
 }
 
-/// Sets `estimator` to one that has judged no sample yet. Returns false, and changes nothing, if `max` is greater than
-/// 64.
+/// Prepares `estimator` for its first sample. Returns false, and changes nothing, if `max`, the greatest number of
+/// cores, is above 64. The advice is ADD if scans of cores see more than `up` / 1000 runnable threads on average.
+/// `hysteresis` is in thousandths of a core.
 #[unsafe(no_mangle)]
 pub extern "C" fn arachne_estimator_new(
     up: u64,
@@ -58,7 +58,7 @@ pub extern "C" fn arachne_estimator_new(
     true
 }
 
-/// Judges `sample`, and returns STAY, ADD or REMOVE.
+/// Returns the advice on `sample`: STAY, ADD or REMOVE.
 ///
 /// Returns REFUSED, and changes nothing, if `sample` has values that no measurement can have, or if the estimator's
 /// `max` is greater than 64.

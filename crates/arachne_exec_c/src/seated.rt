@@ -1,4 +1,4 @@
-//! The value behind C's handle on locks: a seat, which is one thread's right to use them, with the locks.
+//! The value to which C's handle on locks points.
 ghost use Rattle.std.specs.Prelude.{◌≡◌, ◌↔◌, IsTrue, IfOk, IfErr, MatchBool};
 ghost use Rattle.std.specs.Option.{ForSome};
 ghost use Rattle.std.specs.declared.option.Option.TheVariants.{None, Some};
@@ -14,7 +14,7 @@ use std::alloc::{AllocError, Global};
 use std::marker::Model;
 use std::sync::Arc;
 
-/// The value behind C's handle on locks: a seat, and the locks that it may use.
+/// The value to which C's handle on locks points: a seat (one thread's right to use the locks), and the locks.
 #[derive(Drop)]
 pub struct Seated {
     locks: Arc<Locks>,
@@ -34,7 +34,6 @@ impl Model for Seated {
 }
 
 impl Seated {
-    /// Creates `count` locks. Returns their first seat, by which one thread may use them.
     pub(crate) fn new(alloc: Global, count: usize) -> Result<Seated, AllocError>
         ensures { IfOk result (IsNew count) }
     {
@@ -85,8 +84,7 @@ impl Seated {
         self.locks.check(&mut self.seat, lock, who)
     }
 
-    /// Splits off a seat for another thread. Returns an error, and changes nothing, if the locks' reference count can't
-    /// grow.
+    /// Splits off a seat, or changes nothing and returns an error if the locks' reference count can't grow.
     fn split(&mut self) -> Result<Seated, AllocError>
         ensures ok { IfOk result (λ other. (self.new ≡ first_of self.old) × (other ≡ second_of self.old)) }
         ensures err { IfErr result (λ _. self.new ≡ self.old) }
@@ -105,7 +103,7 @@ impl Seated {
     }
 }
 
-/// Splits the seat in `mine` (a thread's right to use the locks), and puts the new seat into `theirs`.
+/// Splits the seat in `mine`, and puts the new seat into `theirs`.
 ///
 /// Returns false, and changes nothing, if `mine` is empty or if the locks' reference count can't grow.
 pub(crate) fn split_held(mine: &mut Option<Seated>, theirs: &mut Option<Seated>) -> bool
@@ -125,7 +123,7 @@ pub(crate) fn split_held(mine: &mut Option<Seated>, theirs: &mut Option<Seated>)
     true
 }
 
-/// Joins the seat in `theirs` into the one in `mine`, and returns DONE. Returns REFUSED if either of them is empty.
+/// Joins the seat in `theirs` into the one in `mine`, and returns DONE, or REFUSED if either of them is empty.
 pub(crate) fn join_held(mine: &mut Option<Seated>, theirs: &mut Option<Seated>) -> u32
     requires { (a b : Seating) → mine.old ≡ Some a → theirs.old ≡ Some b → b.locks ≡ a.locks }
     ensures { IsJoined mine.old theirs.old mine.new theirs.new result }

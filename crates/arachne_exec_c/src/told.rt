@@ -1,4 +1,4 @@
-//! Turns the result of a call on a lock into a C struct: a code, the number of the call's event, and the next holder.
+//! Turns the results of calls on a lock into C structs.
 ghost use Rattle.std.specs.Prelude.{◌≡◌};
 ghost use Rattle.std.specs.declared.option.Option.{Option};
 ghost use Rattle.arachne_exec_c.specs.LockTold.{code_alone, code_at, told_asked, told_freed, told_withdrawn, told_checked};
@@ -8,14 +8,14 @@ use crate::codes::{
 };
 use arachne_lock::{Admitted, AskRefusal, Attempt, NotOwner, Released, Withdrawn};
 
-/// The result of a call on a lock. Each lock numbers its events (grants, asks, frees and leaves) from 0, modulo 2^64.
+/// The result of a call on a lock. Each lock numbers its events (asks, grants, frees, withdrawals) from 0, modulo 2^64.
 #[repr(C)]
 #[derive(Clone, Copy)]
 pub struct ArachneLockTold {
-    /// The number of the event that this call caused, or of an earlier grant if a check or a withdrawal found that
-    /// `who` holds the lock.
+    /// The number of the event that this call caused. If a check or withdrawal returns GRANTED, that of the grant to
+    /// `who`.
     pub at: u64,
-    /// The task that holds the lock now, if a free handed it on. The event number of that grant is `at` + 1.
+    /// If a free has handed the lock on, the task that holds it now. The grant to this task has event number `at` + 1.
     pub next: u64,
     pub code: u32,
 }

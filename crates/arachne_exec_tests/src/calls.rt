@@ -5,7 +5,7 @@ use arachne_exec::{
 };
 use std::test::Fail;
 
-/// The name by which the executor knows the second job that is put into slot 192.
+/// The name of the second job that is put into slot 192.
 const SECOND: u64 = 192 + (1 << 20);
 
 const FIRST: HeldJob = HeldJob {

@@ -3,7 +3,6 @@ use arachne_exec::Executor;
 use arachne_shortage::Hoard;
 use std::test::Fail;
 
-/// The greatest number of attempts. Each attempt has `BYTES` bytes more memory than the one before.
 const TRIES: usize = 200;
 
 const BYTES: usize = 2_000;

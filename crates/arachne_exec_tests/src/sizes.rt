@@ -4,8 +4,7 @@ ghost use Rattle.std.specs.Prelude.{◌<◌, ◌≤◌};
 use arachne_exec::{Executor, JobSpawned};
 use std::alloc::{AllocError, Global};
 
-/// Spawns a job into the last block of slots, and closes the executor. Returns the job's slot, and the jobs that were
-/// left.
+/// Spawns a job into the last block, closes the executor, and returns the job's slot and the jobs that were left.
 fn last_place(alloc: Global, shards: usize) -> Option<(usize, Vec<u64>)>
     requires { (0 < shards) × (shards ≤ 256) }
 {
@@ -17,7 +16,6 @@ fn last_place(alloc: Global, shards: usize) -> Option<(usize, Vec<u64>)>
     Some((placed.place, left))
 }
 
-/// Returns whether the job was put into the slot `wanted`, and was the only job that was left.
 fn is_alone_at(spawned: Option<(usize, Vec<u64>)>, wanted: usize) -> bool {
     match spawned {
         Some((place, left)) => place == wanted && left.len() == 1 && left[0] == 7,

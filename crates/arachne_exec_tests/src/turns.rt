@@ -1,10 +1,12 @@
-//! Tests that jobs which become ready again at once don't keep other jobs waiting.
+//! Tests that jobs that become ready again at once don't make other jobs wait forever.
 ghost use Rattle.std.specs.Prelude.{◌≡◌, ◌*◌, ◌<◌};
 
 use arachne_exec::{ExecSeat, Executor, Next};
 use std::test::Fail;
 
-/// Takes a job of a block of slots, and makes it ready again at once. Returns the bit of the job's slot in the block.
+/// Takes a job of `block`, and makes it ready again at once.
+///
+/// Returns the bit of the job's slot in the block, or 0 if no job was ready.
 fn take_again(executor: &Executor, seat: &mut ExecSeat, block: usize) -> u64
     requires own { seat.old.table ≡ executor.now.table }
     requires block { block < 64 * executor.now.shards }
@@ -17,7 +19,7 @@ fn take_again(executor: &Executor, seat: &mut ExecSeat, block: usize) -> u64
     1 << (job.place % 64) as u32
 }
 
-/// Takes and blocks a job of worker 0, and makes it ready again at once. Returns the job's number.
+/// Takes a job of worker 0, makes it ready again at once, and returns its number, or 0 if no job was ready.
 fn run_again(executor: &Executor, seat: &mut ExecSeat) -> u64
     requires own { seat.old.table ≡ executor.now.table }
     requires worker { seat.old.known.worker ≡ 1 }
@@ -62,7 +64,6 @@ fn each_ready_job_of_a_worker_is_run_in_turn(rt: HostRuntime) -> Result<(), Fail
     Ok(())
 }
 
-/// Takes a job of the block of this number and ends it.
 fn end_one(executor: &Executor, seat: &mut ExecSeat, block: usize)
     requires own { seat.old.table ≡ executor.now.table }
     requires block { block < 64 * executor.now.shards }
@@ -73,8 +74,7 @@ fn end_one(executor: &Executor, seat: &mut ExecSeat, block: usize)
     }
 }
 
-/// Spawns a job in `block`, takes it and ends it, so that the block's bit in the summary word stays set although the
-/// block has no job.
+/// Leaves `block` recorded as one that may have ready jobs, although it has none.
 fn pass_by(executor: &Executor, seat: &mut ExecSeat, block: usize)
     requires own { seat.old.table ≡ executor.now.table }
     requires block { block < 64 * executor.now.shards }

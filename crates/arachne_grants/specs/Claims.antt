@@ -3,7 +3,7 @@ use Rattle.std.specs.Prelude.{ℕ, ◌+◌, Bool, true, false, not, ◌&&◌, �
 use Rattle.arachne_grants.specs.declared.claims.Client.{Client}
 use Rattle.arachne_grants.specs.declared.claims.Claim.{Claim}
 
--- the cores that a client gets before others get more than theirs of this kind
+-- a client's reserve: the cores reserved for it, but no more than it asks for
 abbrev pub reserve_of : Client → ℕ
 reserve_of client = min client.reserved client.asks
 

@@ -33,7 +33,7 @@ AreOf n (Join client thread place floats) =
 AreOf n Wait = (n.kind ≡ 3) × (n.first ≡ 0) × (n.second ≡ 0) × (n.third ≡ 0)
 AreOf n (Ask cores) = (n.kind ≡ 4) × (n.first ≡ cores) × (n.second ≡ 0) × (n.third ≡ 0)
 
--- the first of the four numbers that no message has behind those before it
+-- the fault of the first of the four numbers that no message has after the numbers before it
 abbrev pub IsFirstWrong : Numbers → MessageFault → Type 0
 IsFirstWrong n Short = ⊥
 IsFirstWrong n Kind = (n.kind ≢ 1) × (n.kind ≢ 2) × (n.kind ≢ 3) × (n.kind ≢ 4)

@@ -56,7 +56,7 @@ IsGiven owners targets =
 abbrev pub MovesLeast : List (Option ℕ) → List (Option ℕ) → List ℕ → Type 0
 MovesLeast old new targets = (client : ℕ) → client < 256 → stay_by old new client ≡ min (held_by old client) (target_at targets client)
 
--- a client that has less than its target has the priority over any that a core was given to
+-- if a client has less than its target, no client of lower priority got a core
 abbrev pub IsGivenByPriority : List Client → List (Option ℕ) → List (Option ℕ) → List ℕ → Type 0
 IsGivenByPriority clients old new targets =
     (client other : ℕ) → client < length clients → other < 256 → held_by new client < target_at targets client

@@ -36,7 +36,7 @@ is_waiting (On core) = false
 is_waiting Floats = false
 is_waiting (FloatsOn core) = false
 
--- it is one that may wait, and doesn't
+-- it may begin to wait for a core, as it doesn't wait already and doesn't float
 abbrev pub can_wait : ClientThread → Bool
 can_wait Absent = false
 can_wait Runs = true
@@ -49,7 +49,7 @@ can_wait (FloatsOn core) = false
 abbrev pub is_usable : ClientThread → Bool
 is_usable thread = has_core thread || is_ready thread
 
--- its core may be taken from it: immediately if it floats, and otherwise if its client is late
+-- its core may be taken from it: always if it floats and has one, and otherwise if its client is late
 abbrev pub gives_way : ClientThread → Bool → Bool
 gives_way Absent late = late || false
 gives_way Runs late = late || false

@@ -8,7 +8,7 @@ use Rattle.arachne_grants.specs.declared.state.CoreArbiter.{CoreArbiter}
 use Rattle.arachne_grants.specs.declared.state.Grant.{Grant}
 use Rattle.arachne_grants.specs.declared.state.TakenCore.{TakenCore}
 
--- a place with no threads
+-- a client's record, without threads
 abbrev pub new_session : Bool → ℕ → ℕ → ℕ → Session
 new_session taken priority reserved most = record {
   taken = taken;

@@ -1,34 +1,36 @@
-//! Decides which of several clients that ask for one core more gets it first.
+//! Decides which client gets the next core, if several clients ask for more cores.
 ghost use Rattle.std.specs.Prelude.{◌≡◌};
 ghost use Rattle.arachne_grants.specs.Claims.{before_alike, claim_of, gets_before, goes_before, level_before, reserve_of};
 
-/// A program that asks a daemon for cores: its priority, and the numbers of cores that it reserves, asks for and has.
+/// A program that asks the daemon for cores.
 #[derive(Clone, Copy, Debug, PartialEq, Eq)]
 pub struct Client {
     /// The client's priority. 0 is the highest.
     pub priority: u8,
-    /// The client's reserve: the number of cores that it gets before any client gets more than its reserve.
+    /// The number of cores reserved for the client, which it gets before any client gets more than its own reserve.
     pub reserved: u32,
-    /// The number of cores that the client asks for.
+    /// The number of cores for which the client asks in all, those that it holds included.
     pub asks: u32,
     /// The number of cores that the client has at present.
     pub held: u32,
 }
 
-/// A client's claim to one core more. The order of `goes_before` says which claim is met first.
+/// A client's claim: its request for one core more.
+///
+/// Of two claims, the one that `goes_before` the other gets its core first.
 #[derive(Clone, Copy, Debug, PartialEq, Eq)]
 pub(crate) struct Claim {
-    /// True if the client has been given its whole reserve already.
+    /// True if the client was already given all cores that it has reserved.
     pub beyond: bool,
     pub priority: u8,
-    /// The number of cores that the client was given before this claim is met.
+    /// The number of cores that the client was given before this claim.
     pub gets: u32,
-    /// True if meeting the claim moves a core to the client, because the client has at most `gets` cores at present.
+    /// True if the client doesn't hold the claimed core at present, since it holds at most `gets` cores.
     pub moves: bool,
 }
 
 impl Client {
-    /// A client that doesn't exist: it asks for nothing.
+    /// Stands for a client number that no program has. It asks for no cores.
     pub(crate) const NONE: Client = Client {
         priority: 0,
         reserved: 0,
@@ -36,8 +38,6 @@ impl Client {
         held: 0,
     };
 
-    /// Returns the client's reserve, but at most the number of cores for which it asks. The client gets these cores
-    /// before any client gets more than its reserve.
     fn reserve(&self) -> u32
         ensures { result ≡ reserve_of self.now }
     {
@@ -56,8 +56,7 @@ impl Client {
         }
     }
 
-    /// Returns the number of this client's claims that go before `claim`. The client gets this many cores before that
-    /// claim is met.
+    /// Returns how many cores this client gets before the claim (request for one core) `claim` is met.
     pub(crate) fn gets_before(&self, claim: &Claim) -> u32
         ensures { result ≡ gets_before claim.now self.now }
     {
@@ -68,9 +67,6 @@ impl Client {
         }
     }
 
-    /// Returns how many of this client's first `most` claims go before `claim`.
-    ///
-    /// The result is right only if either all of these claims are below the client's reserve, or none is.
     fn before_alike(&self, claim: &Claim, most: u32) -> u32
         ensures { result ≡ before_alike claim.now self.now most }
     {
@@ -83,8 +79,6 @@ impl Client {
         }
     }
 
-    /// Returns how many cores this client gets by claims that go before `claim`, if it asks for that many. The caller
-    /// must pass a claim of another client of the same priority.
     fn level_before(&self, claim: &Claim) -> u32
         ensures { result ≡ level_before claim.now self.now }
     {
@@ -97,7 +91,7 @@ impl Client {
 }
 
 impl Claim {
-    /// The claim that goes before all others.
+    /// A claim (request for one core) that is met before all others.
     pub(crate) const FIRST: Claim = Claim {
         beyond: false,
         priority: 0,
@@ -105,10 +99,10 @@ impl Claim {
         moves: false,
     };
 
-    /// Returns true if this claim goes before `other`.
+    /// Returns true if this claim (request for one core) is met before `other`.
     ///
-    /// The first of these differences decides: a client below its reserve goes first; then a client of higher priority;
-    /// then a client that was given fewer cores; then a client that already has the core.
+    /// A client with fewer cores than its reserve goes first, and then a client of higher priority. Of clients equal in
+    /// both, the one that was given fewer cores goes first, and then one that already holds the core that it gets.
     pub(crate) fn goes_before(&self, other: &Claim) -> bool
         ensures { result ≡ goes_before self.now other.now }
     {

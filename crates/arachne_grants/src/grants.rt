@@ -4,11 +4,11 @@ ghost use Rattle.arachne_grants.specs.Grants.{AreEnough, AreFilled, AreGrants, I
 
 use crate::claims::{Claim, Client};
 
-/// Writes into `targets` the number of cores that each client gets, at the client's index.
+/// Sets each client's entry in `targets`, at the client's index, to the number of cores that the client gets.
 ///
-/// The cores are given one after another, each to the client that asks for more and whose claim goes first by
-/// [`Claim::goes_before`]. If claims are equal, the core goes to the client with the lower index. Many claims are met
-/// in one step, so the time grows only with the logarithm of the number of cores.
+/// The cores are given one after another. Of the clients that ask for more, the next core goes to the one whose claim
+/// is first by [`Claim::goes_before`]. Of equal claims, the client with the lower index goes first. The time of a call
+/// grows only with the logarithm of `cores`.
 pub fn targets(clients: &[Client], cores: u32, targets: &mut [u32])
     requires { length targets.old ≡ length clients.now }
     ensures order { IsInOrder clients.now targets.new }
@@ -29,14 +29,15 @@ pub fn targets(clients: &[Client], cores: u32, targets: &mut [u32])
     }
 }
 
-/// Does nothing. Its contract is a law: any two results of `targets` that meet its contract give each client the same
-/// number of cores.
+/// Does nothing. The contract says that any two lists that meet the contract of `targets` are equal.
 pub fn targets_are_decided(clients: &[Client], cores: u32)
     ensures { IsDecided clients.now cores }
 {}
 
-/// Meets many claims in one step: finds the last claim such that there are enough cores for all claims before it, and
-/// meets these. Returns the number of cores given.
+/// Sets `targets` to the numbers of cores that the clients get before the first claim (request for one core) for which
+/// the cores might not suffice.
+///
+/// Returns the sum of these numbers.
 fn fill_levels(clients: &[Client], cores: u32, targets: &mut [u32]) -> u32
     requires { length targets.old ≡ length clients.now }
     ensures few { result ≤ cores }
@@ -53,8 +54,8 @@ fn fill_levels(clients: &[Client], cores: u32, targets: &mut [u32]) -> u32
     given
 }
 
-/// Returns the last claim, in the order of [`Claim::goes_before`], for which there are enough cores for all claims
-/// before it.
+/// Returns the last claim (request for one core) such that there are enough cores for all claims that are met before
+/// it.
 fn last_filled(clients: &[Client], cores: u32) -> Claim
     ensures { AreEnough clients.now cores result }
 {
@@ -86,7 +87,6 @@ fn last_filled(clients: &[Client], cores: u32) -> Claim
     )
 }
 
-/// Returns `claim` with the greatest `gets` (below `cores`) for which there are enough cores for all claims before it.
 fn last_level(clients: &[Client], cores: u32, claim: Claim) -> Claim
     requires { AreEnough clients.now cores claim }
     ensures { AreEnough clients.now cores result }
@@ -108,7 +108,6 @@ fn last_level(clients: &[Client], cores: u32, claim: Claim) -> Claim
     claim
 }
 
-/// Returns `next` if there are enough cores for all claims that go before `next`, and otherwise `claim`.
 fn later(clients: &[Client], cores: u32, claim: Claim, next: Claim) -> Claim
     requires { AreEnough clients.now cores claim }
     ensures { AreEnough clients.now cores result }
@@ -120,7 +119,6 @@ fn later(clients: &[Client], cores: u32, claim: Claim, next: Claim) -> Claim
     }
 }
 
-/// Returns true if there are enough cores for all claims that go before `claim`.
 fn are_enough(clients: &[Client], cores: u32, claim: &Claim) -> bool
     ensures { IsTrue result ↔ AreEnough clients.now cores claim.now }
 {
@@ -135,7 +133,7 @@ fn are_enough(clients: &[Client], cores: u32, claim: &Claim) -> bool
     true
 }
 
-/// Returns the index of the client that gets the next core, or `None` if no client asks for more.
+/// Returns the client that gets the next core, or `None` if no client asks for more than its target.
 fn next_client(clients: &[Client], targets: &[u32]) -> Option<usize>
     requires { length targets.now ≡ length clients.now }
     ensures { IsNext clients.now targets.now (length clients.now) result }
@@ -147,8 +145,7 @@ fn next_client(clients: &[Client], targets: &[u32]) -> Option<usize>
     next
 }
 
-/// Returns the index of the client that gets the next core: `place` if the claim of the client with that index goes
-/// first, otherwise `next`, which is the client with the first claim among those before `place`.
+/// Of the clients with the indexes `place` and `next`, returns the one that gets the next core.
 fn first_of(clients: &[Client], targets: &[u32], next: Option<usize>, place: usize) -> Option<usize>
     requires sized { length targets.now ≡ length clients.now }
     requires within { place < length clients.now }

@@ -1,7 +1,7 @@
-//! The decisions of an arbiter, a daemon that grants cores to programs (its clients): how many cores each client gets,
-//! and which cores go from one client to another.
+//! The decisions of an arbiter, which is a daemon that grants cores to programs (its clients).
 //!
-//! Every call is a pure function of numbers: no call allocates, waits, or uses a process or a thread.
+//! The arbiter decides how many cores each client gets, and which cores go from one client to another. Every call only
+//! computes with numbers. It allocates no memory and never waits.
 #![tactic(auto)]
 
 mod claims;

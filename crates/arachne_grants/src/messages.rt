@@ -1,15 +1,14 @@
-//! Reads the messages that clients (programs) send to the daemon that grants cores. Each message is four numbers of 32
-//! bits, the lowest byte first.
+//! Reads messages of clients (programs) to the daemon that grants cores. A message is four little-endian `u32`.
 ghost use Rattle.std.specs.Prelude.{◌≡◌, ◌+◌, ◌<◌, ◌≤◌, IfErr, IfOk, length};
 ghost use Rattle.arachne_grants.specs.Messages.{number_at, numbers_in, AreOf, IsFaultOf, IsFirstWrong, IsMessageOf, IsUnambiguous};
 
 /// The number of bytes of a message.
 pub const MESSAGE_BYTES: usize = 16;
 
-/// The version of the protocol. A client's first message names the version that the client speaks.
+/// The version of the protocol, which a client's first message names.
 pub const PROTOCOL_VERSION: u32 = 1;
 
-/// The number of priorities: a message can name the priorities from 0 to 7.
+/// The number of priorities, which are 0 to 7.
 pub const PRIORITIES: u32 = 8;
 
 const HELLO: u32 = 1;
@@ -20,18 +19,19 @@ const WAIT: u32 = 3;
 
 const ASK: u32 = 4;
 
-/// A client's message to the daemon: it introduces itself, asks for a number of cores, or reports what one of its
-/// threads does.
+/// A client's message to the daemon that grants cores.
 #[derive(Clone, Copy, Debug, PartialEq, Eq)]
 pub enum ClientMessage {
-    /// A client's first message: its priority (0 is the highest), the number of cores that it reserves, and the
-    /// greatest number of cores that it may ask for.
+    /// A client's first message. The message names the client's priority (0 is the highest), the number of cores that
+    /// it reserves, and the greatest number that it may ask for.
     Hello {
         priority: u8,
         reserved: u16,
         most: u16,
     },
-    /// A kernel thread registers with its client. `place` is the thread's number within the client.
+    /// A kernel thread registers with the client that has the number `client`. `thread` is the thread's id in the
+    /// kernel, and `place` its number within the client. If `floats` is true, the thread never waits for a core: the
+    /// daemon moves it to and from cores while it runs.
     Join {
         client: u32,
         thread: u32,
@@ -40,31 +40,29 @@ pub enum ClientMessage {
     },
     /// The thread that sends this message gives its core back, if it has one, and waits for another core.
     Wait,
-    /// The client asks for this number of cores.
+    /// The client asks for this number of cores in all. This replaces its last request.
     Ask {
         cores: u32,
     },
 }
 
-/// The reason why bytes don't begin with a message. It concerns the first of the message's four numbers that is not
-/// valid.
+/// The reason why bytes don't begin with a message. If several numbers are wrong, the fault is that of the first.
 #[derive(Clone, Copy, Debug, PartialEq, Eq)]
 pub enum MessageFault {
     /// There are fewer than `MESSAGE_BYTES` bytes.
     Short,
-    /// There is no such kind of message.
+    /// There is no kind of message with this number.
     Kind,
     /// The client speaks another version of the protocol.
     Version,
-    /// There is no such priority.
+    /// The priority is greater than 7.
     Priority,
-    /// There is no such thread number: a client's threads are numbered from 0 to 63.
+    /// The thread's number within its client is greater than 63.
     Place,
-    /// A number that this kind of message does not use is not 0.
+    /// A number that this kind of message does not use is greater than 0.
     Unused,
 }
 
-/// The four numbers of a message, before they are checked.
 #[derive(Clone, Copy)]
 pub(crate) struct Numbers {
     pub kind: u32,
@@ -89,13 +87,11 @@ pub fn read_message(bytes: &[u8]) -> Result<ClientMessage, MessageFault>
     })
 }
 
-/// Does nothing. Its contract is a law: bytes begin with at most one message, and bytes that begin with a message have
-/// no fault.
+/// Does nothing. The contract says that bytes begin with at most one message, and have no fault if they begin with one.
 pub fn messages_are_unambiguous(bytes: &[u8])
     ensures { IsUnambiguous bytes.now }
 {}
 
-/// Returns the number of 32 bits whose four bytes begin at index `at` of `bytes`, the lowest byte first.
 fn number_at(bytes: &[u8], at: usize) -> u32
     requires { at + 4 ≤ length bytes.now }
     ensures { result ≡ number_at bytes.now at }
@@ -103,7 +99,7 @@ fn number_at(bytes: &[u8], at: usize) -> u32
     u32::from_le_bytes([bytes[at], bytes[at + 1], bytes[at + 2], bytes[at + 3]])
 }
 
-/// Returns the message that consists of these four numbers, or the fault of the first number that is not valid.
+/// Returns the message that these four numbers make up, or why the first wrong number is wrong.
 fn message_of(numbers: &Numbers) -> Result<ClientMessage, MessageFault>
     ensures message { IfOk result (AreOf numbers.now) }
     ensures fault { IfErr result (IsFirstWrong numbers.now) }

@@ -5,12 +5,11 @@ ghost use Rattle.arachne_grants.specs.Owners.{is_of, held_by, owned, owner_at, A
 
 use crate::claims::Client;
 
-/// The greatest number of clients: a core's owner is stored as a number from 0 to 255.
+/// The greatest number of clients, since a core's owner is stored as a number from 0 to 255.
 pub const MAX_OWNERS: usize = 256;
 
-/// Changes `owners`, which has the client of each core, so that each client has as many cores as its target says.
-///
-/// If a client has no more cores than its target, it keeps all of them.
+/// Changes `owners`, the client of each core, so that each client has as many cores as its target says. A client keeps
+/// its cores, except those beyond its target.
 pub fn moves(owners: &mut [Option<u8>], clients: &[Client], targets: &[u32])
     requires cores { length owners.old < 2 ^ 32 }
     requires clients { length clients.now ≤ 256 }
@@ -24,8 +23,8 @@ pub fn moves(owners: &mut [Option<u8>], clients: &[Client], targets: &[u32])
     give_free(owners, clients, targets);
 }
 
-/// Takes from each client the cores that it has beyond its target, beginning with the client's last core. `owners` has
-/// the client of each core.
+/// Frees cores of each client that has more than its target (the number of cores that it may have). Each client keeps
+/// the cores with the lowest numbers. `owners` has the client of each core.
 pub fn take_back(owners: &mut [Option<u8>], targets: &[u32])
     ensures only { TakesOnly owners.old owners.new }
     ensures keeps { KeepsTargets owners.old owners.new targets.now }
@@ -36,7 +35,7 @@ pub fn take_back(owners: &mut [Option<u8>], targets: &[u32])
     }
 }
 
-/// Gives cores that no client has to clients that have fewer than their targets. Clients of higher priority go first.
+/// Gives free cores to clients that have fewer cores than their targets. Clients of higher priority go first.
 pub fn give_free(owners: &mut [Option<u8>], clients: &[Client], targets: &[u32])
     requires cores { length owners.old < 2 ^ 32 }
     requires clients { length clients.now ≤ 256 }
@@ -54,7 +53,7 @@ pub fn give_free(owners: &mut [Option<u8>], clients: &[Client], targets: &[u32])
     }
 }
 
-/// Sets each client's `held` to the number of cores that the client has by `owners`, which has the client of each core.
+/// Sets each client's `held` to the number of its cores in `owners`, which has the client of each core.
 pub fn count_held(clients: &mut [Client], owners: &[Option<u8>])
     requires cores { length owners.now < 2 ^ 32 }
     requires clients { length clients.old ≤ 256 }
@@ -67,14 +66,12 @@ pub fn count_held(clients: &mut [Client], owners: &[Option<u8>])
     }
 }
 
-/// Returns the target of a client, or 0 if there is no such client.
 fn target_of(targets: &[u32], client: usize) -> u32
     ensures { result ≡ target_at targets.now client }
 {
     targets.get(client).copied().unwrap_or(0)
 }
 
-/// Adds up in `held` the number of cores of each client: one for each core in `owners` that the client has.
 fn count_all(owners: &[Option<u8>], held: &mut [u32])
     requires sized { length held.old ≡ 256 }
     requires cores { length owners.now < 2 ^ 32 }
@@ -87,7 +84,6 @@ fn count_all(owners: &[Option<u8>], held: &mut [u32])
     }
 }
 
-/// Adds one to the count of the client that has the core, if any client has it.
 fn count(owner: Option<u8>, held: &mut [u32])
     requires sized { length held.old ≡ 256 }
     requires fits { sum held.old + 1 < 2 ^ 32 }
@@ -100,8 +96,8 @@ fn count(owner: Option<u8>, held: &mut [u32])
     }
 }
 
-/// Returns the core's owner if the owner keeps the core, and `None` if not. The owner keeps the core if `held` counts
-/// fewer cores for it than its target; then adds one to that count.
+/// Returns the client of a core, `owner`, if it may keep the core, and counts the core in `held`. Returns `None` if the
+/// client already keeps as many cores as its target says.
 fn keep(owner: Option<u8>, targets: &[u32], held: &mut [u32]) -> Option<u8>
     requires { length held.old ≡ 256 }
     ensures only { (result ≡ owner) ⊎ (result ≡ None) }
@@ -120,8 +116,9 @@ fn keep(owner: Option<u8>, targets: &[u32], held: &mut [u32]) -> Option<u8>
     owner
 }
 
-/// Returns the core's owner. If it has none, returns the client that gets the core: one for which `held` counts fewer
-/// cores than its target; then adds one to that count.
+/// Returns the client that has the core after this call.
+///
+/// Gives a free core to the client that `next_short` returns, if any, and counts it in `held`.
 fn give(owner: Option<u8>, clients: &[Client], targets: &[u32], held: &mut [u32]) -> Option<u8>
     requires sized { length held.old ≡ 256 }
     requires targets { length targets.now ≡ length clients.now }
@@ -144,8 +141,7 @@ fn give(owner: Option<u8>, clients: &[Client], targets: &[u32], held: &mut [u32]
     Some(client)
 }
 
-/// Returns the client that gets a free core: of those for which `held` counts fewer cores than their targets, the first
-/// of the highest priority. Returns `None` if there is no such client.
+/// Returns the client that gets a free core: of those below their targets, the first of the highest priority.
 pub(crate) fn next_short(clients: &[Client], targets: &[u32], held: &[u32]) -> Option<u8>
     requires sized { length clients.now ≤ length held.now }
     requires targets { length targets.now ≡ length clients.now }
@@ -159,8 +155,7 @@ pub(crate) fn next_short(clients: &[Client], targets: &[u32], held: &[u32]) -> O
     next
 }
 
-/// Returns the client that gets a free core: the client with the index `place` if that one goes first, and otherwise
-/// `next`, which goes first among the clients before `place`.
+/// Of the clients with the indexes `place` and `next`, returns the one that gets a free core first.
 fn next_short_of(
     clients: &[Client],
     targets: &[u32],

@@ -7,10 +7,8 @@ use crate::claims::Client;
 /// The greatest number of threads of a client.
 pub const MAX_THREADS: usize = 64;
 
-/// The state of one of a client's 64 possible threads.
-///
-/// If a thread *floats*, it never waits for a core: the daemon moves the thread to a core and away from it while it
-/// runs.
+/// The state of one of a client's 64 possible threads. A thread that *floats* never waits for a core, and the daemon
+/// moves it to and from cores while it runs.
 #[derive(Clone, Copy, Debug, PartialEq, Eq)]
 pub enum ClientThread {
     /// There is no thread with this number.
@@ -21,26 +19,24 @@ pub enum ClientThread {
     Waits,
     /// The thread runs, and has this core for itself.
     On(u16),
-    /// The thread floats (never waits for a core), and has no core of its own at present.
+    /// The thread floats (never waits for a core), and has no core of its own.
     Floats,
-    /// The thread floats (never waits for a core), and has this core at present.
+    /// The thread floats (never waits for a core), and has this core.
     FloatsOn(u16),
 }
 
-/// The daemon's record of a client: its priority, the cores that it reserves and asks for, and its threads' states.
 #[derive(Clone, Copy)]
 pub(crate) struct Session {
     /// True if a client has this number now.
     pub taken: bool,
     /// The client's priority. 0 is the highest.
     pub priority: u8,
-    /// The client's reserve: the number of cores that it gets before any client gets more than its reserve.
+    /// The number of cores reserved for the client, which it gets before any client gets more than its own reserve.
     pub reserved: u32,
     /// The greatest number of cores that the client may ask for.
     pub most: u32,
-    /// The number of cores that the client asks for.
+    /// The number of cores for which the client asks in all, those that it has included.
     pub asks: u32,
-    /// The state of each of the client's threads, by the thread's number.
     pub threads: [ClientThread; MAX_THREADS],
 }
 
@@ -55,51 +51,45 @@ impl ClientThread {
         }
     }
 
-    /// Returns true if the thread has a core.
     pub(crate) fn has_core(self) -> bool
         ensures { result ≡ has_core self }
     {
         self.core().is_some()
     }
 
-    /// Returns true if the thread has no core and can take one: it waits for a core, or floats (never waits for one).
     pub(crate) fn is_ready(self) -> bool
         ensures { result ≡ is_ready self }
     {
         matches!(self, ClientThread::Waits | ClientThread::Floats)
     }
 
-    /// Returns true if the thread waits for a core.
     pub(crate) fn is_waiting(self) -> bool
         ensures { result ≡ is_waiting self }
     {
         matches!(self, ClientThread::Waits)
     }
 
-    /// Returns true if the thread may begin to wait for a core: it neither floats (a floating thread never waits) nor
-    /// waits already.
     pub(crate) fn can_wait(self) -> bool
         ensures { result ≡ can_wait self }
     {
         matches!(self, ClientThread::Runs | ClientThread::On(_))
     }
 
-    /// Returns true if the thread has a core or can take one.
     pub(crate) fn is_usable(self) -> bool
         ensures { result ≡ is_usable self }
     {
         self.has_core() || self.is_ready()
     }
 
-    /// Returns true if the daemon may take the thread's core: at any time if the thread floats (never waits for a
-    /// core), and otherwise only if `late` is true, which means that the client hasn't given a core back in time.
+    /// Returns true if the daemon may take the thread's core.
+    ///
+    /// That of a thread that floats may always be taken, and any other only if the client is late to give a core back.
     pub(crate) fn gives_way(self, late: bool) -> bool
         ensures { result ≡ gives_way self late }
     {
         late || matches!(self, ClientThread::FloatsOn(_))
     }
 
-    /// Returns the thread's state after it has got this core.
     pub(crate) fn placed(self, core: u16) -> ClientThread
         ensures { result ≡ placed self core }
     {
@@ -109,7 +99,6 @@ impl ClientThread {
         }
     }
 
-    /// Returns the thread's state after its core was taken from it.
     pub(crate) fn unplaced(self) -> ClientThread
         ensures { result ≡ unplaced self }
     {
@@ -122,7 +111,7 @@ impl ClientThread {
 }
 
 impl Session {
-    /// The record for a number that no client has.
+    /// The record of a client number that no program has.
     pub(crate) const NONE: Session = Session {
         taken: false,
         priority: 0,
@@ -132,7 +121,6 @@ impl Session {
         threads: [ClientThread::Absent; MAX_THREADS],
     };
 
-    /// Returns the number of the client's threads that have a core.
     pub(crate) fn held(&self) -> u32
         ensures { result ≡ count_by has_core self.now.threads }
     {
@@ -142,7 +130,6 @@ impl Session {
             .count() as u32
     }
 
-    /// Returns the number of the client's threads that have a core or can take one.
     fn usable(&self) -> u32
         ensures { result ≡ count_by is_usable self.now.threads }
     {
@@ -152,8 +139,9 @@ impl Session {
             .count() as u32
     }
 
-    /// Returns the client's request, as an argument for [`targets`](crate::targets). The request is for at most the
-    /// cores that the client may have, and at most as many as it has threads that can use one.
+    /// Returns the client's request, as an argument for [`targets`](crate::targets).
+    ///
+    /// It is for no more cores than the client may ask for, or than its threads can use.
     pub(crate) fn wants(&self) -> Client
         ensures { result ≡ wants_of self.now }
     {
@@ -165,7 +153,7 @@ impl Session {
         }
     }
 
-    /// Returns the number of the client's first thread that can take a core, or `None` if it has no such thread.
+    /// Returns the lowest number, within the client, of a thread that can take a core.
     pub(crate) fn first_ready(&self) -> Option<usize>
         ensures first { result ≡ position is_ready self.now.threads }
         ensures within { IfSome result (λ place. place < 64) }
@@ -173,7 +161,7 @@ impl Session {
         self.threads.iter().position(|thread| thread.is_ready())
     }
 
-    /// Returns the number of the client's last thread that has a core, or `None` if it has no such thread.
+    /// Returns the highest number, within the client, of a thread that has a core.
     pub(crate) fn last_placed(&self) -> Option<usize>
         ensures last { IsLastPlaced self.now.threads 64 result }
         ensures none { result ≡ None → count_by has_core self.now.threads ≡ 0 }
@@ -185,8 +173,6 @@ impl Session {
         last
     }
 
-    /// Returns the number of the client's last thread that has a core, up to the number `place`: `place` if that thread
-    /// has one, and otherwise `last`, the result for the threads before it.
     fn last_of(&self, last: Option<usize>, place: usize) -> Option<usize>
         requires within { place < 64 }
         requires last { IsLastPlaced self.now.threads place last }
@@ -209,7 +195,6 @@ impl Session {
     }
 }
 
-/// Sets `marks` to true at the index `core`. Does nothing if `core` is `None`.
 fn mark_core(core: Option<u16>, marks: &mut [bool])
     ensures { marks.new ≡ with_mark core marks.old }
 {

@@ -1,4 +1,4 @@
-//! The daemon's state: its clients (programs), their threads, and how many cores each client is allowed to have.
+//! The daemon's state: its clients (programs), their threads, and their cores.
 ghost use Rattle.std.specs.Prelude.{◌≡◌, ◌⊎◌, ℕ, ◌+◌, ◌<◌, ◌≤◌, IsOk, MatchOption, MatchResult, Some, None, length, map, replicate, slice_index, slice_set, true, false, ⊤, if◌then◌else◌};
 ghost use Rattle.arachne_grants.specs.Sessions.{AreBelow, IsSound};
 
@@ -7,18 +7,17 @@ use crate::grants::targets;
 use crate::owners;
 use crate::sessions::{ClientThread, MAX_THREADS, Session};
 
-/// The greatest number of clients (programs that ask for cores) of a daemon.
+/// The greatest number of clients (programs that ask for cores).
 pub const MAX_CLIENTS: usize = 64;
 
 /// The greatest number of cores that a daemon may grant.
 pub const MAX_CORES: usize = 1024;
 
-/// The error of a call that the daemon's state does not allow now. The call has changed nothing.
+/// The error of a call that the daemon's state does not allow at present. The call has changed nothing.
 #[derive(Clone, Copy, Debug, PartialEq, Eq)]
 pub struct Refused;
 
-/// A core that the arbiter has given to a thread: the thread's client, the thread's number within the client (`place`),
-/// and the core's number.
+/// A core that was given to a client's thread. `place` is the thread's number within the client.
 #[derive(Clone, Copy, Debug, PartialEq, Eq)]
 pub struct Grant {
     pub client: usize,
@@ -28,7 +27,7 @@ pub struct Grant {
     pub waited: bool,
 }
 
-/// A core that the arbiter has taken from a client's thread, and the thread's number within the client (`place`).
+/// A core that was taken from a client's thread. `place` is the thread's number within the client.
 #[derive(Clone, Copy, Debug, PartialEq, Eq)]
 pub struct TakenCore {
     pub place: usize,
@@ -53,7 +52,7 @@ impl CoreArbiter {
     ghost use Rattle.arachne_grants.specs.Steps.{new_session, AllGiven, IsGrant, IsTake, KeepsAllowed, StaysAnswered};
     ghost use Rattle.arachne_grants.specs.declared.sessions.ClientThread.TheVariants.{Absent, Runs, Waits, On, Floats, FloatsOn};
 
-    /// Returns an arbiter of the cores 0 to `cores` - 1, without clients.
+    /// Creates an arbiter of the cores 0 to `cores` - 1, without clients.
     pub fn new(cores: u16) -> CoreArbiter
         requires { cores ≤ 1024 }
         ensures cores { result.cores ≡ cores }
@@ -67,8 +66,7 @@ impl CoreArbiter {
         }
     }
 
-    /// Registers a client with the number `client`. Returns `Err` if another client has this number, or if the number
-    /// is greater than 63.
+    /// Registers a client with the number `client`. Returns an error if this number is in use or greater than 63.
     pub fn hello(
         &mut self,
         client: usize,
@@ -103,7 +101,7 @@ impl CoreArbiter {
         Ok(())
     }
 
-    /// Sets the number of cores that a client asks for. Returns `Err` if there is no such client.
+    /// Sets the number of cores for which a client asks in all. Returns an error if there is no such client.
     pub fn ask(&mut self, client: usize, cores: u32) -> Result<(), Refused>
         ensures sessions { MatchResult result
             (λ _. self.new.sessions ≡ slice_set self.old.sessions client (record (session_at self.old.sessions client) { asks = cores }))
@@ -140,10 +138,9 @@ impl CoreArbiter {
         }
     }
 
-    /// Adds a thread with the number `place` to a client.
+    /// Adds a thread with the number `place` to a client. If `floats` is true, the thread never waits for a core.
     ///
-    /// Returns `Err` if there is no such client, if the client already has a thread with this number, or if the number
-    /// is greater than 63.
+    /// Returns an error if there is no such client, or if the thread's number is in use or greater than 63.
     pub fn join(&mut self, client: usize, place: usize, floats: bool) -> Result<(), Refused>
         ensures joins { MatchResult result
             (λ _. self.new.sessions ≡ with_thread self.old.sessions client place (if floats then Floats else Runs))
@@ -178,7 +175,7 @@ impl CoreArbiter {
 
     /// Takes the core from a thread, if it has one, and makes the thread wait until a core is granted to it.
     ///
-    /// Returns `Err` if the thread floats (never waits for a core), already waits, or does not exist.
+    /// Returns an error if the thread floats (never waits for a core), already waits, or doesn't exist.
     pub fn wait(&mut self, client: usize, place: usize) -> Result<(), Refused>
         ensures waits { MatchResult result
             (λ _. self.new.sessions ≡ with_thread self.old.sessions client place Waits)
@@ -201,7 +198,7 @@ impl CoreArbiter {
         Ok(())
     }
 
-    /// Removes the thread with the number `place` of the client `client`, because the thread has ended.
+    /// Removes a thread of a client, because the thread has ended.
     pub fn end(&mut self, client: usize, place: usize)
         ensures ends { client < 64 → place < 64 → self.new.sessions ≡ with_thread self.old.sessions client place Absent }
         ensures kept { KeepsAllowed self.old self.new }
@@ -211,8 +208,7 @@ impl CoreArbiter {
         }
     }
 
-    /// Computes anew how many cores each client is allowed to have, from the numbers of cores for which all clients ask
-    /// now.
+    /// Computes how many cores each client may have, from the numbers of cores for which all clients ask now.
     pub fn decide(&mut self)
         ensures promises { AreGrants (map wants_of self.new.sessions) self.new.cores self.new.allowed }
         ensures answer { IsAnswer (map wants_of self.new.sessions) self.new.cores self.new.allowed }
@@ -224,10 +220,10 @@ impl CoreArbiter {
         targets(&clients, u32::from(self.cores), &mut self.allowed);
     }
 
-    /// Gives a free core to a thread that waits for one, of the first client with fewer cores than it is allowed to
-    /// have; clients of higher priority come first.
+    /// Gives a free core to a thread that can take one, of a client with fewer cores than it may have.
     ///
-    /// Returns `None` if there is no such client, if that client has no thread that waits, or if no core is free.
+    /// Clients of higher priority come first. Returns `None` if no core is free, or if no client has fewer cores than
+    /// it may have. Also returns `None` if the first such client has no thread that can take a core.
     pub fn give(&mut self) -> Option<Grant>
         ensures gives { MatchOption result (self.new.sessions ≡ self.old.sessions)
             (λ grant. IsGrant self.old.sessions self.new.sessions self.old.allowed self.old.cores grant) }
@@ -250,11 +246,11 @@ impl CoreArbiter {
         })
     }
 
-    /// Takes a core from the client `client`, if it has more cores than it is allowed to have: that of its last thread
-    /// that has a core.
+    /// Takes a core from a client that has more cores than it may have. Of the client's threads with a core, the one
+    /// with the greatest number loses its core.
     ///
-    /// If that thread floats (the daemon moves it to and from cores while it runs), takes its core at once; otherwise
-    /// only if `late` is true, which means that the client hasn't given a core back in time.
+    /// If that thread floats (never waits for a core), takes the core at once. Otherwise takes the core only if `late`
+    /// is true, which means that the client hasn't given a core back in time.
     pub fn take_back(&mut self, client: usize, late: bool) -> Option<TakenCore>
         ensures takes { MatchOption result (self.new.sessions ≡ self.old.sessions)
             (λ taken. IsTake self.old.sessions self.new.sessions self.old.allowed client late taken) }
@@ -284,7 +280,7 @@ impl CoreArbiter {
         Some(TakenCore { place, core })
     }
 
-    /// Returns the number of cores that a client is allowed to have.
+    /// Returns the number of cores that a client may have.
     pub fn allowed_to(&self, client: usize) -> u32
         ensures { result ≡ slice_index self.now.allowed client }
     {
@@ -315,7 +311,6 @@ impl CoreArbiter {
             .unwrap_or(ClientThread::Absent)
     }
 
-    /// Replaces the record of a client by `session`.
     fn set(&mut self, client: usize, session: Session)
         requires within { client < 64 }
         requires sound { (place core : ℕ) → core_of (slice_thread session.threads place) ≡ Some core
@@ -326,7 +321,6 @@ impl CoreArbiter {
         self.sessions[client] = session;
     }
 
-    /// Changes the state of the client's thread with the number `place` to `thread`.
     fn set_thread(&mut self, client: usize, place: usize, thread: ClientThread)
         requires client { client < 64 }
         requires place { place < 64 }
@@ -337,7 +331,6 @@ impl CoreArbiter {
         self.sessions[client].threads[place] = thread;
     }
 
-    /// Returns each client's request for cores, as an argument for [`targets`](crate::targets).
     fn clients(&self) -> [Client; MAX_CLIENTS]
         ensures { result ≡ map wants_of self.now.sessions }
     {
@@ -348,7 +341,6 @@ impl CoreArbiter {
         clients
     }
 
-    /// Returns the number of cores that each client has.
     fn held(&self) -> [u32; MAX_CLIENTS]
         ensures { result ≡ map held_in self.now.sessions }
     {
@@ -359,15 +351,13 @@ impl CoreArbiter {
         held
     }
 
-    /// Returns the client that gets a free core: of the clients with fewer cores than they are allowed to have, the
-    /// first of the highest priority.
+    /// Returns the first client of the highest priority among those that may have more cores.
     fn next_short(&self) -> Option<u8>
         ensures { IsNextShort (map wants_of self.now.sessions) self.now.allowed (map held_in self.now.sessions) 64 result }
     {
         owners::next_short(&self.clients(), &self.allowed, &self.held())
     }
 
-    /// Returns the lowest core that no thread has.
     fn first_free(&self) -> Option<u16>
         ensures { MatchOption result ((core : ℕ) → core < self.now.cores → IsTaken self.now.sessions core)
             (λ core. (core < self.now.cores) × IsFree self.now.sessions core) }

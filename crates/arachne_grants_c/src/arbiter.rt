@@ -1,5 +1,4 @@
-//! The C functions by which a daemon creates an arbiter, reports to it what clients do, and asks which core to move
-//! next.
+//! The C functions by which a daemon reports to an arbiter what clients do, and asks which core to move next.
 ghost use Rattle.std.specs.Prelude.{◌≡◌};
 ghost use Rattle.std.specs.declared.option.Option.TheVariants.{None};
 ghost use Rattle.arachne_grants_c.specs.ArbiterHeld.{held};
@@ -13,10 +12,11 @@ use crate::{events, turns};
 use arachne_grants::{CoreArbiter, MAX_CORES};
 use std::alloc::Global;
 
-/// Creates an arbiter (a daemon's state) of the cores 0 to `cores` - 1, without clients, in `arbiter`, which must be
-/// empty.
+/// Creates an arbiter (the state of a daemon that grants cores) of the cores 0 to `cores` - 1, without clients. Puts
+/// the arbiter into the handle `arbiter`, which must have none.
 ///
-/// Returns DONE; REFUSED if the handle is in use, or if `cores` is greater than 1,024; NO_MEMORY if memory is refused.
+/// Returns DONE; REFUSED if the handle already has an arbiter, or if `cores` is greater than 1,024; NO_MEMORY if memory
+/// is refused.
 #[unsafe(no_mangle)]
 pub extern "C" fn arachne_arbiter_new(
     alloc: Global,
@@ -35,7 +35,7 @@ pub extern "C" fn arachne_arbiter_new(
     DONE
 }
 
-/// Frees the arbiter of a handle, if it has one, and leaves the handle empty.
+/// Empties a handle, and frees its arbiter, if it has one.
 #[unsafe(no_mangle)]
 pub extern "C" fn arachne_arbiter_close(alloc: Global, arbiter: &mut ArachneArbiter)
     ensures { held arbiter.new ≡ None }
@@ -43,11 +43,11 @@ pub extern "C" fn arachne_arbiter_close(alloc: Global, arbiter: &mut ArachneArbi
     drop(arbiter.take(alloc));
 }
 
-/// Adds a client (a program) with its priority (0 is the highest), the number of cores that it reserves, and the
-/// greatest number of cores that it may ask for.
+/// Adds a client (a program) with its priority, of which 0 is the highest. The client gets `reserved` cores before
+/// others get more than they have reserved, and may ask for at most `most` cores.
 ///
-/// Returns DONE, or REFUSED if the handle is empty, or if the client's number `client` is greater than 63 or in use.
-/// The caller must check that the client is entitled to this priority and these cores.
+/// Returns DONE, or REFUSED if the handle has no arbiter, or if the client's number `client` is greater than 63 or in
+/// use. The caller must check that the client is entitled to this priority and these cores.
 #[unsafe(no_mangle)]
 pub extern "C" fn arachne_arbiter_hello(
     alloc: Global,
@@ -67,9 +67,9 @@ pub extern "C" fn arachne_arbiter_hello(
     told
 }
 
-/// Sets the number of cores for which a client asks.
+/// Sets the number of cores for which a client asks in all, in place of its last request.
 ///
-/// Returns DONE, or REFUSED if the handle is empty or there is no such client.
+/// Returns DONE, or REFUSED if the handle has no arbiter or there is no such client.
 #[unsafe(no_mangle)]
 pub extern "C" fn arachne_arbiter_ask(
     alloc: Global,
@@ -89,7 +89,7 @@ pub extern "C" fn arachne_arbiter_ask(
 
 /// Removes a client, with all of its threads.
 ///
-/// Returns DONE, or REFUSED if the handle is empty or the client's number is greater than 63.
+/// Returns DONE, or REFUSED if the handle has no arbiter or the client's number is greater than 63.
 #[unsafe(no_mangle)]
 pub extern "C" fn arachne_arbiter_leave(
     alloc: Global,
@@ -106,10 +106,10 @@ pub extern "C" fn arachne_arbiter_leave(
     told
 }
 
-/// Adds a thread to a client. `place`, the thread's number, must be from 0 to 63 and not in use. If `floats` is true,
-/// the thread never waits for a core.
+/// Adds a thread with the number `place` to a client. If `floats` is true, the thread never waits for a core.
 ///
-/// Returns DONE or REFUSED.
+/// Returns DONE, or REFUSED if the handle has no arbiter, if there is no such client, or if `place` is in use or
+/// greater than 63.
 #[unsafe(no_mangle)]
 pub extern "C" fn arachne_arbiter_join(
     alloc: Global,
@@ -130,7 +130,8 @@ pub extern "C" fn arachne_arbiter_join(
 
 /// Takes the core from a thread, if it has one, and makes the thread wait until a core is granted to it.
 ///
-/// Returns DONE, or REFUSED if the thread floats (never waits for a core), already waits, or does not exist.
+/// Returns DONE, or REFUSED if the handle has no arbiter, or if the thread floats (never waits for a core), already
+/// waits, or does not exist.
 #[unsafe(no_mangle)]
 pub extern "C" fn arachne_arbiter_wait(
     alloc: Global,
@@ -150,7 +151,8 @@ pub extern "C" fn arachne_arbiter_wait(
 
 /// Removes a thread of a client, because the thread has ended.
 ///
-/// Returns DONE, or REFUSED if the handle is empty or the number of the client or of the thread is greater than 63.
+/// Returns DONE, or REFUSED if the handle has no arbiter or the number of the client or of the thread is greater than
+/// 63.
 #[unsafe(no_mangle)]
 pub extern "C" fn arachne_arbiter_end(
     alloc: Global,
@@ -168,9 +170,9 @@ pub extern "C" fn arachne_arbiter_end(
     told
 }
 
-/// Computes anew how many cores each client may have, from the numbers of cores for which all clients ask now.
+/// Computes how many cores each client may have, from the numbers of cores for which all clients ask now.
 ///
-/// Returns DONE, or REFUSED if the handle is empty.
+/// Returns DONE, or REFUSED if the handle has no arbiter.
 #[unsafe(no_mangle)]
 pub extern "C" fn arachne_arbiter_decide(alloc: Global, arbiter: &mut ArachneArbiter) -> u32
     ensures { IsTold Decides refused (held arbiter.old) (held arbiter.new) result }
@@ -183,11 +185,12 @@ pub extern "C" fn arachne_arbiter_decide(alloc: Global, arbiter: &mut ArachneArb
     told
 }
 
-/// Takes a core from the client `client`, if it has more cores than it may have: that of its last thread that has a
-/// core.
+/// Takes a core from a client that has more cores than it may have. Of the client's threads with a core, the one with
+/// the greatest number loses its core.
 ///
-/// If that thread floats (never waits for a core), takes its core at once; otherwise only if `late` is true, which
-/// means that the client hasn't given a core back in time. Returns TAKEN or NOTHING.
+/// If that thread floats (never waits for a core), takes the core at once. Otherwise takes the core only if `late` is
+/// true, which means that the client hasn't given a core back in time. Returns TAKEN; NOTHING if no core was taken;
+/// REFUSED if the handle has no arbiter.
 #[unsafe(no_mangle)]
 pub extern "C" fn arachne_arbiter_take_back(
     alloc: Global,
@@ -207,8 +210,8 @@ pub extern "C" fn arachne_arbiter_take_back(
 
 /// Gives a free core to a thread that can take one, of a client that has fewer cores than it may have.
 ///
-/// A client of higher priority goes first. Returns GRANTED if the thread waited for a core; PLACED if it floats, which
-/// means that it never waits for one; NOTHING if no core was given.
+/// Clients of higher priority go first. Returns GRANTED if the thread waited for a core; PLACED if the thread floats
+/// (never waits for a core); NOTHING if no core was given; REFUSED if the handle has no arbiter.
 #[unsafe(no_mangle)]
 pub extern "C" fn arachne_arbiter_give(alloc: Global, arbiter: &mut ArachneArbiter) -> ArachneAction
     ensures { IsTold Gives (action_alone refused) (held arbiter.old) (held arbiter.new) result }
@@ -221,7 +224,8 @@ pub extern "C" fn arachne_arbiter_give(alloc: Global, arbiter: &mut ArachneArbit
     told
 }
 
-/// Returns how many cores a client may have, and how many its threads have. Both are 0 if the handle is empty.
+/// Returns how many cores a client may have, and how many its threads have now. Both are 0 if the handle has no
+/// arbiter.
 #[unsafe(no_mangle)]
 pub extern "C" fn arachne_arbiter_share(
     alloc: Global,

@@ -1,4 +1,4 @@
-//! The handle by which C holds an arbiter: a pointer to it, or null.
+//! The handle by which C holds an arbiter (the state of a daemon that grants cores).
 ghost use Rattle.std.specs.Prelude.{◌≡◌, ◌↔◌, IfNone, IfSome, IsSome, IsTrue};
 ghost use Rattle.std.specs.declared.option.Option.{Option};
 ghost use Rattle.std.specs.declared.option.Option.TheVariants.{None, Some};

@@ -1,22 +1,22 @@
-//! Turns an arbiter's decision into a C struct: the action to take on a thread, or the number of a client's cores.
+//! Turns an arbiter's decisions into C structs.
 ghost use Rattle.std.specs.Prelude.{◌≡◌};
 ghost use Rattle.arachne_grants_c.specs.ArbiterTold.{action_alone, told_given, told_taken};
 
 use crate::codes::{GRANTED, PLACED, TAKEN};
 use arachne_grants::{Grant, TakenCore};
 
-/// The action that the caller must take on a thread of a client. Fields that this action does not use are 0.
+/// The action that the caller must take on a client's thread. Fields that this action does not use are 0.
 #[repr(C)]
 #[derive(Clone, Copy)]
 pub struct ArachneAction {
-    /// TAKEN, PLACED, GRANTED or NOTHING, or REFUSED if the handle is empty.
+    /// TAKEN, PLACED, GRANTED or NOTHING, or REFUSED if the handle has no arbiter.
     pub code: u32,
     pub core: u32,
     pub client: usize,
     pub place: usize,
 }
 
-/// The number of cores that a client may have, and the number that its threads have.
+/// The numbers of a client's cores.
 #[repr(C)]
 #[derive(Clone, Copy)]
 pub struct ArachneShare {

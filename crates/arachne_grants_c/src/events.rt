@@ -1,5 +1,4 @@
-//! Reports to an arbiter the events of clients (hello, ask, leave) and of their threads (join, wait, end). Each
-//! function returns the code for C.
+//! Reports events of clients and of their threads to an arbiter.
 ghost use Rattle.std.specs.Prelude.{◌≡◌};
 ghost use Rattle.arachne_grants_c.specs.ArbiterTold.{asking, begun, ended, gone, joined, waiting, Changes, HasNumber, HasPlace, IsClient, IsVacant, MayJoin, MayWait};
 

@@ -1,9 +1,9 @@
-//! The state of a daemon that grants cores to programs, and the messages that it reads, as a static library of plain C
-//! functions.
+//! The state of a daemon that grants cores to programs, and the messages that it reads, as a C library.
 //!
-//! A *handle* holds an arbiter, or is empty. An empty handle is one null pointer, with which C begins. No call waits,
-//! sleeps or locks, and only `arachne_arbiter_new` allocates memory. `scripts/declarations` generates
-//! `examples/c/arachne_grants.h` and `examples/rust/arachne_grants/declared.rs` from these files.
+//! C holds an arbiter (the daemon's state) through a *handle*, which is one pointer. An empty handle is a null pointer,
+//! with which C begins. No call waits, sleeps or locks, and only `arachne_arbiter_new` allocates memory.
+//! `scripts/declarations` makes `examples/c/arachne_grants.h` and `examples/rust/arachne_grants/declared.rs` from these
+//! files.
 #![tactic(auto)]
 
 mod arbiter;

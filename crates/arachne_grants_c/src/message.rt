@@ -9,7 +9,7 @@ use arachne_grants::{ClientMessage, MessageFault, read_message};
 #[repr(C)]
 #[derive(Clone, Copy)]
 pub struct ArachneMessage {
-    /// HELLO, JOIN, WAIT or ASK if the bytes begin with such a message; otherwise the code of the fault.
+    /// HELLO, JOIN, WAIT or ASK if the bytes begin with such a message, and otherwise the code of the fault.
     pub code: u32,
     pub priority: u32,
     pub reserved: u32,

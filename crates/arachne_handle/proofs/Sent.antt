@@ -1,18 +1,10 @@
 -- What a handle keeps says the same to every thread.
 use mathlib.Core.List.{List, [], ◌∷◌}
-use mir.Raw.{raw}
-use mir.Val.{Val}
-use base.Fraction.{full_share}
-use base.Shift.{Keyless}
-use denote.RattleType.{RattleType}
-use denote.Builtin.{RawPtr}
-use denote.Struct.Struct.{Struct}
-use denote.Memory.{lone}
-use denote.RawPtr.{Ptr, block_ptr, null_ptr}
+use mir.{Raw.raw, Val.Val}
+use base.{Fraction.full_share, Shift.Keyless}
+use denote.{RattleType.RattleType, Builtin.RawPtr, Struct.Struct.Struct, Memory.lone, RawPtr.{Ptr, block_ptr, null_ptr}}
 use denote.Param.Send.{IsSend, part_keyless}
-use Rattle.std.specs.declared.alloc.Global.{Global}
-use Rattle.std.specs.declared.option.Option.{Option}
-use Rattle.std.specs.declared.option.Option.TheVariants.{None, Some}
+use Rattle.std.specs.declared.{alloc.Global.Global, option.Option.Option, option.Option.TheVariants.{None, Some}}
 use Rattle.std.specs.contracts.alloc.Global.{the_field}
 use Rattle.std.proofs.Crossing.{frees}
 use Rattle.std.proofs.alloc.Global.TheSendSync as heap

@@ -1,10 +1,7 @@
 -- The ownership of a pointer that C holds.
 use base.Fml.{Fml, feq}
-use denote.RattleType.{RattleType}
-use denote.RawPtr.{Ptr, null_ptr}
-use Rattle.std.specs.declared.alloc.Global.{Global}
-use Rattle.std.specs.declared.option.Option.{Option}
-use Rattle.std.specs.declared.option.Option.TheVariants.{None, Some}
+use denote.{RattleType.RattleType, RawPtr.{Ptr, null_ptr}}
+use Rattle.std.specs.declared.{alloc.Global.Global, option.Option.Option, option.Option.TheVariants.{None, Some}}
 use Rattle.std.specs.contracts.impls.GlobalAllocator.TheImpl.{ghosts}
 use Rattle.std_alloc.specs.Box.Ownership.{box_owns}
 

@@ -10,7 +10,7 @@ use std::alloc::Global;
 use std::marker::Model;
 use std::ptr::null_mut;
 
-/// A pointer to a box's value, or null if the handle holds no box. Contracts refer to the boxed value `value`.
+/// A pointer to a box's value, or null if the handle holds no box. In contracts, `value` is the value in the box.
 ///
 /// A handle can't be dropped; `into_box` consumes it.
 pub struct Handle<T> {

@@ -1,8 +1,6 @@
 -- Which of a run's values may cross threads.
 use denote.Enum.Declared as enum
-use denote.Enum.Enum.{Enum}
-use denote.Ref.{NamedLft}
-use denote.Param.Send.{IsSend, IsSync, sendable, recorded_send, enum_send}
+use denote.{Enum.Enum.Enum, Ref.NamedLft, Param.Send.{IsSend, IsSync, sendable, recorded_send, enum_send}}
 use Rattle.std.proofs.Crossing as std
 use Rattle.arachne_core.proofs.thread_id.ThreadId.TheSendSync as id
 use Rattle.arachne_join.proofs.Crossing.{sender_send, receiver_send, unused_send}
@@ -14,6 +12,8 @@ use Rattle.arachne_jobs.specs.contracts.ends.WaitEnd as wait_end
 use Rattle.arachne_jobs.specs.contracts.job.Job as job
 use Rattle.arachne_jobs.specs.contracts.left.LeftInCell as left
 use Rattle.arachne_jobs.specs.contracts.left.Waiting as waiting
+use Rattle.arachne_jobs.specs.contracts.parts.Parts as parts
+use Rattle.arachne_jobs.specs.contracts.parts.SpareBoxes as spare_boxes
 use Rattle.arachne_jobs.specs.contracts.spares.JobSpares as spares
 use Rattle.arachne_jobs.specs.contracts.ties.SpareTies as spare_ties
 use Rattle.arachne_jobs.specs.contracts.ties.Ties as ties
@@ -52,11 +52,17 @@ end_send = search (sendable, std.crosses, sender_send, receiver_send, detached_s
 ties_send : IsSend ties.the_row
 ties_send = search (sendable, std.crosses, end_send, id.the_field_send) depth 30
 
+parts_send : (κ : NamedLft) → IsSend (parts.the_row κ)
+parts_send κ = search (sendable, std.crosses, thread_field_send, ties_send, contents_send, wait_end_send) depth 30
+
 pub job_send : (κ : NamedLft) → IsSend (job.the_row κ)
-job_send κ = search (sendable, std.crosses, thread_field_send, ties_send, contents_send, wait_end_send) depth 30
+job_send κ = search (sendable, std.crosses, parts_send) depth 30
+
+spare_boxes_send : (κ : NamedLft) → IsSend (spare_boxes.the_field κ).row
+spare_boxes_send κ = search (sendable, std.crosses, parts_send) depth 30
 
 spare_ties_send : IsSend spare_ties.the_field.row
 spare_ties_send = search (sendable, std.crosses, ties_send) depth 30
 
 pub spares_send : (κ : NamedLft) → IsSend (spares.the_row κ)
-spares_send κ = search (sendable, std.crosses, spares_field_send, spare_ties_send, unused_send, detached_send) depth 30
+spares_send κ = search (sendable, std.crosses, spares_field_send, spare_ties_send, spare_boxes_send, unused_send, detached_send) depth 30

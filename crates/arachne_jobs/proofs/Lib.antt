@@ -1,1 +1,4 @@
 pub mod Crossing
+pub mod Counts
+pub mod Keeps
+pub mod Seated

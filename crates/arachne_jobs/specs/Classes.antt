@@ -1,14 +1,13 @@
--- Which classes of threads an expression forks.
+-- The classes (normal or exclusive) of the threads that an expression forks.
 use Rattle.std.specs.Prelude.{Bool, true, false, ◌||◌}
-use Rattle.arachne_program.specs.declared.program.Class.{Class}
-use Rattle.arachne_program.specs.declared.program.Class.TheVariants.{Normal, Exclusive}
+use Rattle.arachne_program.specs.declared.program.Class.{Class, TheVariants.{Normal, Exclusive}}
 use Rattle.arachne_program.specs.Tree.{Tree, Number, Variable, Length, Item, Binary, Choose, Bind, Tally, Hold, Fork, Fold, Sweep}
 
 abbrev pub is_exclusive : Class → Bool
 is_exclusive Normal = false
 is_exclusive Exclusive = true
 
--- somewhere in it a thread is forked that is to have a core for itself
+-- true if the expression, or one inside it, forks an exclusive thread, which needs a core for itself
 abbrev pub forks_exclusive : Tree → Bool
 forks_exclusive (Number n) = false
 forks_exclusive (Variable k) = false

@@ -1,11 +1,8 @@
--- The fault of a job if a child was not joined or placed.
-use Rattle.arachne_machine.specs.Outcome.{Finished}
-use Rattle.arachne_machine.specs.declared.pause.NotJoined.{NotJoined}
+-- The fault of a job if a child was not joined, or could not begin inside its parent.
+use Rattle.arachne_machine.specs.{Outcome.Finished, declared.pause.{NotJoined.NotJoined, NotPlaced.NotPlaced}}
 use Rattle.arachne_machine.specs.declared.pause.NotJoined.TheVariants as not_joined
-use Rattle.arachne_machine.specs.declared.pause.NotPlaced.{NotPlaced}
 use Rattle.arachne_machine.specs.declared.pause.NotPlaced.TheVariants as not_placed
-use Rattle.arachne_jobs.specs.declared.fault.JobFault.{JobFault}
-use Rattle.arachne_jobs.specs.declared.fault.JobFault.TheVariants.{Memory, Foreign}
+use Rattle.arachne_jobs.specs.declared.fault.JobFault.{JobFault, TheVariants.{Memory, Foreign}}
 
 abbrev pub of_join : NotJoined Finished → JobFault
 of_join (not_joined.Foreign outcome) = Foreign

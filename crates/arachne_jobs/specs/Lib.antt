@@ -5,3 +5,6 @@ pub mod Slices
 pub mod Classes
 pub mod Faults
 pub mod Dues
+pub mod Balance
+pub mod Views
+pub mod Passes

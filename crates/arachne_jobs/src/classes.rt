@@ -5,7 +5,7 @@ ghost use Rattle.arachne_jobs.specs.Classes.{forks_exclusive};
 
 use arachne_program::{Class, Expr};
 
-/// Returns whether `expr`, or an expression inside it, forks a thread that needs a core for itself.
+/// Returns true if `expr`, or an expression inside it, forks an exclusive thread, which needs a core for itself.
 pub fn has_exclusive(expr: &Expr) -> bool
     ensures { result ≡ forks_exclusive (tree_of expr.now) }
 {

@@ -4,20 +4,19 @@ use crate::waiting::WaitCell;
 use crate::wanted::{OutcomeReceiver, OutcomeSender, Wanted};
 use arachne_join::SendingEnd;
 
-/// One end of a join cell, owned by a job. A join cell carries the outcome of one thread to that thread's parent.
+/// A job's end of a join cell, which carries one thread's outcome (result) to its parent.
 #[derive(Drop)]
 pub enum End {
-    /// The sending end of the cell into which the job puts its own outcome.
+    /// The end into which the job puts its own outcome (result).
     Leaves(OutcomeSender),
-    /// The receiving end of the cell from which the job takes a child's outcome.
+    /// The end from which the job takes a child's outcome (result).
     Awaits(OutcomeReceiver),
-    /// The end is in `Job::waits` instead: its cell is that of a child, or of this job itself, that was queued for a
-    /// thread slot.
+    /// The end is in `Parts::waits`, since the cell's thread was queued for a thread slot.
     Waits,
 }
 
-/// A join cell in which a child waits, or has waited, for a thread slot. `end` is the cell's sending end; a job has
-/// this end only for its own cell, out of which a worker took this job.
+/// In the child's job, `end` is the sending end of the join cell in which the child waits, or has waited, for a slot.
+/// In the parent's job, it is `None`.
 #[derive(Drop)]
 pub struct WaitEnd<'p> {
     pub(crate) cell: WaitCell<'p>,

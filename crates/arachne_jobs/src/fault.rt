@@ -3,14 +3,12 @@ use arachne_machine::{DetachedOutcome, NotJoined, NotPlaced};
 use std::alloc::AllocError;
 use thiserror::Error;
 
-/// The reason why a call of a job's function failed.
+/// The reason why a call on a job failed.
 #[derive(Clone, Copy, Debug, PartialEq, Eq, Error)]
 pub enum JobFault {
-    /// Memory was refused.
     #[error("out of memory")]
     Memory,
-    /// The outcome is not that of the child that the job waits for, or the request at which the job has paused doesn't
-    /// allow the call.
+    /// The outcome (result) is not that of the child that the job awaits, or the call doesn't fit its pending request.
     #[error("the outcome of another thread")]
     Foreign,
 }

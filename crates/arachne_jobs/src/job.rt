@@ -1,121 +1,141 @@
-//! A job: a thread of the program that has a thread slot of its own, with its ends of join cells (each carries one
-//! thread's outcome to its parent).
-ghost use Rattle.std.specs.Prelude.{◌≡◌, ◌≤◌, ◌<◌, ℕ, List, [], false, true, vec_capacity, vec_len, IfErr, IfNone, IfOk, IfSome, IsSome, OnErr, OnOk, None, Some};
-ghost use Rattle.arachne_program.specs.declared.program.Program.{Program};
-ghost use Rattle.arachne_program.specs.Program.{source_of};
-ghost use Rattle.arachne_program.specs.Checked.{IsChecked};
-ghost use Rattle.arachne_machine.specs.Advance.{IsSpentAt, Moves};
-ghost use Rattle.arachne_machine.specs.Nested.{IsPlacing, MayBePlaced, begun_in, with_tag};
-ghost use Rattle.arachne_machine.specs.Suspended.{awaited};
-ghost use Rattle.arachne_machine.specs.Tallying.{AdvancesOver};
-ghost use Rattle.arachne_machine.specs.declared.pause.Pending.TheVariants as pause;
-ghost use Rattle.arachne_jobs.specs.Threads.{HasWaited, IsForking, IsGoing, IsAwaiting, name_of, pause_of, program_of, running_tag_of, tag_of};
-ghost use Rattle.arachne_jobs.specs.Cells.{IsFoundOf, IsFor, IsOf};
-ghost use Rattle.arachne_jobs.specs.Dues.{GoesOnOver, HasTallied, IsJoined, due_to};
-ghost use Rattle.arachne_jobs.specs.Ends.{IsEnd, IsWaitEnd};
+//! A job: a thread of the program with a thread slot of its own, in a box.
+ghost use Rattle.std.specs.Prelude.{◌≡◌, ◌≤◌, ◌<◌, false, vec_capacity, vec_len, IfNone, IfOk, IfSome, IsSome, OnErr, OnOk, None, Some};
+ghost use Rattle.arachne_machine.specs.Nested.{with_tag};
+ghost use Rattle.arachne_jobs.specs.Cells.{IsFor};
+ghost use Rattle.arachne_jobs.specs.Dues.{HasTallied, due_to};
 ghost use Rattle.arachne_jobs.specs.Slices.{HasNoRest, IsLeft, IsRequest, MayRest, UsesSteps};
+ghost use Rattle.arachne_jobs.specs.Threads.{HasWaited, IsJobForking, job_name, job_parent, job_pause, job_running_tag, job_tag};
 
 use crate::ends::{End, WaitEnd};
 use crate::fault::JobFault;
-use crate::left::{Found, Waiting};
-use crate::openings::{ForkPlacing, Openings};
+use crate::left::Waiting;
+use crate::openings::Openings;
+use crate::parts::Parts;
 use crate::room::Room;
 use crate::slice::{JobOf, RunJob, RunThread, Slice};
 use crate::spares::JobSpares;
-use crate::ties::Ties;
 use crate::waiting::{Ticket, WaitCell};
 use crate::wanted::{OutcomeReceiver, Wanted};
 use arachne_contexts::Tagged;
 use arachne_core::{Rest, ThreadId};
-use arachne_machine::{Contents, Pause, Pending, Thread};
+use arachne_machine::{Pending, Thread};
 use arachne_program::{Name, Program};
 use std::alloc::{AllocError, Global};
 use std::marker::Model;
 
-/// A thread of the program with a thread slot of its own, and its ends of join cells (each carries one thread's outcome
-/// to its parent). The first end is for the job's own outcome. Each other end is for the outcome of a child that the
-/// job has forked and not yet joined, the newest child's last.
-///
-/// In contracts, a `Job` is the thread and its parent's id.
+/// A thread of the program with a thread slot of its own, in a box, so that a run's table of threads stores and moves a
+/// job as one word.
 #[derive(Drop)]
 pub struct Job<'p> {
-    thread: Thread<'p>,
-    /// The job's ends of join cells, and its parent's id. This type has no lifetime, so that any later job can reuse
-    /// the box.
-    ties: Box<Ties>,
-    /// The box into which the job's outcome will be written.
-    contents: Box<Contents>,
-    /// The join cells in which a child waits, or has waited, for a thread slot: one for each `End::Waits` in `ties`, in
-    /// the same order.
-    waits: Vec<WaitEnd<'p>>,
+    parts: Box<Option<Parts<'p>>>,
 }
 
 impl<'p> Model for Job<'p> {
-    ghost use Rattle.std.specs.Prelude.{All};
-    ghost use Rattle.arachne_jobs.specs.Threads.{Posted, name_of, program_of};
-    ghost use Rattle.arachne_jobs.specs.Ends.{IsEnd, IsWaitEnd};
+    ghost use Rattle.std.specs.Prelude.{IsSome, Option};
+    ghost use Rattle.arachne_jobs.specs.Threads.{Posted};
 
-    ghost Value = { Posted };
+    ghost Value = { Option Posted };
 
     ghost use Rattle.std.specs.Coded.{codes};
     ghost use Rattle.arachne_program.specs.contracts.program.Expr as expr;
 
     ghost coded = { Prim.hlevel (codes, expr.the_row.coded) };
 
-    ghost view = { λ j. record { thread = j.thread; parent = j.ties.value.parent } };
+    ghost view = { λ j. j.parts.value };
 
-    ghost invariant = { λ j. All (IsEnd (program_of j.thread) (name_of j.thread)) j.ties.value.ends.items
-        × All (IsWaitEnd (program_of j.thread) (name_of j.thread)) j.waits.items };
+    ghost invariant = { λ j. IsSome j.parts.value };
+}
+
+impl<'p> Job<'p> {
+    #[inline(always)]
+    fn of(
+        alloc: Global,
+        thread: Thread<'p>,
+        parent: Option<ThreadId>,
+        spares: &mut JobSpares<'p>,
+    ) -> Result<(Job<'p>, OutcomeReceiver), AllocError>
+        ensures job { IfOk result (λ made. made.0 ≡ Some (record { thread = thread.entry; parent = parent })) }
+        ensures receiver { IfOk result (λ made. IsFor thread.entry made.1.opening.key) }
+    {
+        let wanted = Wanted::of(&thread, parent);
+        let mut parts = spares.boxes.take(alloc)?;
+        let mut ties = spares.ties.take(alloc, parent)?;
+        let contents = spares.threads.take_contents()?;
+        let (receiver, sender) = spares.cells.open(alloc, &wanted)?;
+        ties.ends.push_reserved(End::Leaves(sender));
+        *parts = Some(Parts {
+            thread,
+            ties,
+            contents,
+            waits: Vec::new(alloc),
+        });
+        Ok((Job { parts }, receiver))
+    }
+
+    #[inline(always)]
+    fn parts(&self) -> &Parts<'p>
+        ensures { self.now ≡ Some result.now }
+    {
+        match &*self.parts {
+            Some(parts) => parts,
+            None => unreachable!(),
+        }
+    }
 }
 
 impl<'p> Tagged for Job<'p> {
-    ghost tag_of = { λ j. tag_of j.thread };
+    ghost tag_of = { job_tag };
 
     fn tag(&self) -> u64 {
-        self.thread.tag()
+        self.parts().thread.tag()
     }
 }
 
 impl<'p> RunThread for Job<'p> {
-    ghost name_of = { λ j. name_of j.thread };
+    ghost name_of = { job_name };
 
-    ghost running_tag_of = { λ j. running_tag_of j.thread };
+    ghost running_tag_of = { job_running_tag };
 
-    ghost parent_of = { λ j. j.parent };
+    ghost parent_of = { job_parent };
 
-    ghost pause_of = { λ j. pause_of j.thread };
+    ghost pause_of = { job_pause };
 
     #[inline(always)]
     fn name(&self) -> &Name {
-        self.thread.name()
+        self.parts().thread.name()
     }
 
     fn running_tag(&self) -> u64 {
-        self.thread.running_tag()
+        self.parts().thread.running_tag()
     }
 
+    #[inline(always)]
     fn rest(&self) -> Option<Rest>
-        ensures rests { IfSome result (λ rest. MayRest rest (pause_of self.now.thread)) }
-        ensures none { IfNone result (HasNoRest (pause_of self.now.thread)) }
+        ensures rests { IfSome result (λ rest. MayRest rest (job_pause self.now)) }
+        ensures none { IfNone result (HasNoRest (job_pause self.now)) }
     {
-        match self.thread.pending() {
+        match self.parts().thread.pending() {
             None => Some(Rest::Ready),
             Some(Pending::Joins | Pending::Asks(_)) => Some(Rest::Blocked),
             _ => None,
         }
     }
 
+    #[inline(always)]
     fn answer(&mut self) -> Result<(), JobFault>
-        ensures tag { tag_of self.new.thread ≡ tag_of self.old.thread }
-        ensures parent { self.new.parent ≡ self.old.parent }
-        ensures asked { OnOk result (IsRequest (pause_of self.old.thread)) }
-        ensures answered { OnOk result (pause_of self.new.thread ≡ None) }
-        ensures foreign { OnErr result (¬ IsRequest (pause_of self.old.thread)) }
+        ensures tag { job_tag self.new ≡ job_tag self.old }
+        ensures parent { job_parent self.new ≡ job_parent self.old }
+        ensures asked { OnOk result (IsRequest (job_pause self.old)) }
+        ensures answered { OnOk result (job_pause self.new ≡ None) }
+        ensures foreign { OnErr result (¬ IsRequest (job_pause self.old)) }
     {
-        match self.thread.pending() {
-            Some(Pending::Asks(_)) => self.thread.granted(),
-            Some(Pending::Frees(_)) => self.thread.freed(),
-            Some(Pending::Tallies(_, _)) => self.thread.tallied(),
+        let Some(parts) = &mut *self.parts else {
+            unreachable!()
+        };
+        match parts.thread.pending() {
+            Some(Pending::Asks(_)) => parts.thread.granted(),
+            Some(Pending::Frees(_)) => parts.thread.freed(),
+            Some(Pending::Tallies(_, _)) => parts.thread.tallied(),
             _ => return Err(JobFault::Foreign),
         }
         Ok(())
@@ -129,8 +149,9 @@ impl<'p> RunJob for Job<'p> {
 
     type Spares = JobSpares<'p>;
 
-    ghost forks = { λ j child. IsForking j.thread child };
+    ghost forks = { IsJobForking };
 
+    #[inline(always)]
     fn slice(
         &mut self,
         left: &mut u32,
@@ -139,25 +160,30 @@ impl<'p> RunJob for Job<'p> {
         openings: &mut Openings,
     ) -> Result<Slice<Thread<'p>>, JobFault>
         requires { 1 ≤ left.old }
-        ensures tag { tag_of self.new.thread ≡ tag_of self.old.thread }
+        ensures tag { job_tag self.new ≡ job_tag self.old }
         ensures steps { IfOk result (λ slice. UsesSteps slice left.old left.new) }
-        ensures parent { self.new.parent ≡ self.old.parent }
-        ensures left { IfOk result (λ slice. IsLeft (λ j child. IsForking j.thread child) (λ j. pause_of j.thread) slice self.new) }
-        ensures tallied { OnOk result (HasTallied left.old left.new self.old.thread self.new.thread (due_to openings.old.due) (due_to openings.new.due)) }
+        ensures parent { job_parent self.new ≡ job_parent self.old }
+        ensures left { IfOk result (λ slice. IsLeft IsJobForking job_pause slice self.new) }
+        ensures tallied { OnOk result (IfSome self.old (λ old. IfSome self.new (λ new.
+            HasTallied left.old left.new old.thread new.thread (due_to openings.old.due) (due_to openings.new.due)))) }
     {
-        match self.thread.pending() {
+        let Some(parts) = &mut *self.parts else {
+            unreachable!()
+        };
+        match parts.thread.pending() {
             None => {}
             Some(Pending::Joins) => {
-                if !self.join(spares)? {
+                if !parts.join(spares)? {
                     return Ok(Slice::Blocks);
                 }
             }
             Some(Pending::Asks(lock)) => return Ok(Slice::Awaits(lock)),
             _ => return Err(JobFault::Foreign),
         }
-        self.advance(left, spares, room, openings)
+        parts.advance(left, spares, room, openings)
     }
 
+    #[inline(always)]
     fn fork_off(
         &mut self,
         alloc: Global,
@@ -166,19 +192,22 @@ impl<'p> RunJob for Job<'p> {
         tag: u64,
         spares: &mut JobSpares<'p>,
     ) -> Result<Job<'p>, JobFault>
-        requires { IsForking self.old.thread child }
-        ensures tag { tag_of self.new.thread ≡ tag_of self.old.thread }
-        ensures parent { self.new.parent ≡ self.old.parent }
-        ensures child { IfOk result (λ job. tag_of job.thread ≡ tag) }
-        ensures made { IfOk result (λ job. job.thread ≡ record child.entry { running = with_tag tag child.entry.running }) }
-        ensures childs_parent { IfOk result (λ job. job.parent ≡ Some me) }
-        ensures answered { OnOk result (pause_of self.new.thread ≡ None) }
+        requires { IsJobForking self.old child }
+        ensures tag { job_tag self.new ≡ job_tag self.old }
+        ensures parent { job_parent self.new ≡ job_parent self.old }
+        ensures child { IfOk result (λ job. job_tag job ≡ tag) }
+        ensures made { IfOk result (λ job. IfSome job (λ made. made.thread ≡ record child.entry { running = with_tag tag child.entry.running })) }
+        ensures childs_parent { IfOk result (λ job. job_parent job ≡ Some me) }
+        ensures answered { OnOk result (job_pause self.new ≡ None) }
     {
+        let Some(parts) = &mut *self.parts else {
+            unreachable!()
+        };
         let mut child = child;
         child.set_tag(tag);
         let (job, receiver) = Job::of(alloc, child, Some(me), spares)?;
-        self.expect(receiver)?;
-        self.thread.forked();
+        parts.expect(receiver)?;
+        parts.thread.forked();
         Ok(job)
     }
 
@@ -190,51 +219,55 @@ impl<'p> RunJob for Job<'p> {
         tag: u64,
         waits: bool,
     ) -> Result<Option<Ticket<'p>>, JobFault>
-        requires { IsForking self.old.thread child }
-        ensures tag { tag_of self.new.thread ≡ tag_of self.old.thread }
-        ensures parent { self.new.parent ≡ self.old.parent }
-        ensures answered { OnOk result (pause_of self.new.thread ≡ None) }
+        requires { IsJobForking self.old child }
+        ensures tag { job_tag self.new ≡ job_tag self.old }
+        ensures parent { job_parent self.new ≡ job_parent self.old }
+        ensures answered { OnOk result (job_pause self.new ≡ None) }
         ensures ticket { IfOk result (λ made. IfSome made (λ ticket. ticket.key.tag.value ≡ tag)) }
         ensures childs_parent { IfOk result (λ made. IfSome made (λ ticket. ticket.key.parent.value ≡ Some me)) }
         ensures asked { waits ≡ false → IfOk result (λ made. made ≡ None) }
     {
+        let Some(parts) = &mut *self.parts else {
+            unreachable!()
+        };
         let mut child = child;
         child.set_tag(tag);
         if !waits {
-            self.place(child)?;
+            parts.place(child)?;
             return Ok(None);
         }
         // Memory is reserved first, because the child can't be taken back when its ticket is in the queue.
-        if reserve_both(&mut self.ties.ends, &mut self.waits).is_err() {
-            self.place(child)?;
+        if reserve_both(&mut parts.ties.ends, &mut parts.waits).is_err() {
+            parts.place(child)?;
             return Ok(None);
         }
         match WaitCell::wait(alloc, child, me) {
             Ok((cell, ticket)) => {
-                self.waits.push_reserved(WaitEnd { cell, end: None });
-                self.ties.ends.push_reserved(End::Waits);
-                self.thread.forked();
+                parts.waits.push_reserved(WaitEnd { cell, end: None });
+                parts.ties.ends.push_reserved(End::Waits);
+                parts.thread.forked();
                 Ok(Some(ticket))
             }
             Err(child) => {
-                self.place(child)?;
+                parts.place(child)?;
                 Ok(None)
             }
         }
     }
 
     fn of_ticket(alloc: Global, ticket: Ticket<'p>, spares: &mut JobSpares<'p>) -> Option<Job<'p>>
-        ensures parent { IfSome result (λ job. IsSome job.parent) }
-        ensures whose { IfSome result (λ job. job.parent ≡ ticket.entry.key.parent.value) }
-        ensures tag { IfSome result (λ job. tag_of job.thread ≡ ticket.entry.key.tag.value) }
-        ensures waited { IfSome result (λ job. HasWaited job.thread) }
+        ensures parent { IfSome result (λ job. IsSome (job_parent job)) }
+        ensures whose { IfSome result (λ job. job_parent job ≡ ticket.entry.key.parent.value) }
+        ensures tag { IfSome result (λ job. job_tag job ≡ ticket.entry.key.tag.value) }
+        ensures waited { IfSome result (λ job. IfSome job (λ made. HasWaited made.thread)) }
     {
+        let mut parts = spares.boxes.take(alloc).ok()?;
         let mut waits = Vec::with_capacity(alloc, 1).ok()?;
         let mut ties = spares.ties.take(alloc, None).ok()?;
         let contents = spares.threads.take_contents().ok()?;
-        // The child is taken out of its cell last. If memory was refused before that, the child still waits for its
-        // parent.
+        // The child is taken out of its cell last, so that it still waits for its parent if memory was refused before.
         let Some((waiting, cell, end)) = ticket.take() else {
+            spares.boxes.keep(parts);
             spares.ties.keep(ties);
             spares.threads.keep_contents(contents);
             return None;
@@ -247,21 +280,28 @@ impl<'p> RunJob for Job<'p> {
             end: Some(end),
         });
         ties.parent = Some(parent);
-        Some(Job {
+        *parts = Some(Parts {
             thread,
             ties,
             contents,
             waits,
-        })
+        });
+        Some(Job { parts })
     }
 
+    #[inline(always)]
     fn leave(self, spares: &mut JobSpares<'p>) -> Result<Option<ThreadId>, JobFault> {
-        let Job {
+        let Job { mut parts } = self;
+        let Some(left) = parts.take() else {
+            unreachable!()
+        };
+        spares.boxes.keep(parts);
+        let Parts {
             thread,
             mut ties,
             contents,
             mut waits,
-        } = self;
+        } = left;
         if thread.pending() != Some(Pending::Ended) {
             return Err(JobFault::Foreign);
         }
@@ -300,181 +340,6 @@ impl<'p> JobOf<'p> for Job<'p> {
     }
 }
 
-impl<'p> Job<'p> {
-    /// Creates a job for `thread`, whose parent has the id `parent`. Returns the job, and the receiving end from which
-    /// the parent takes the job's outcome.
-    #[inline(always)]
-    fn of(
-        alloc: Global,
-        thread: Thread<'p>,
-        parent: Option<ThreadId>,
-        spares: &mut JobSpares<'p>,
-    ) -> Result<(Job<'p>, OutcomeReceiver), AllocError>
-        ensures thread { IfOk result (λ made. made.0 ≡ record { thread = thread.entry; parent = parent }) }
-        ensures receiver { IfOk result (λ made. IsFor thread.entry made.1.opening.key) }
-    {
-        let wanted = Wanted::of(&thread, parent);
-        let mut ties = spares.ties.take(alloc, parent)?;
-        let contents = spares.threads.take_contents()?;
-        let (receiver, sender) = spares.cells.open(alloc, &wanted)?;
-        ties.ends.push_reserved(End::Leaves(sender));
-        let job = Job {
-            thread,
-            ties,
-            contents,
-            waits: Vec::new(alloc),
-        };
-        Ok((job, receiver))
-    }
-
-    /// Runs the job for at most `left` steps. The job doesn't stop at an addition to a ledger (a shared sum) if
-    /// `openings` can collect the amount.
-    #[inline(always)]
-    fn advance_over(
-        &mut self,
-        left: &mut u32,
-        spares: &mut JobSpares<'p>,
-        room: &Room,
-        openings: &mut Openings,
-    ) -> Result<Pause<'p>, JobFault>
-        requires some { 1 ≤ left.old }
-        requires going { IsGoing self.old.thread }
-        ensures tag { tag_of self.new.thread ≡ tag_of self.old.thread }
-        ensures parent { self.new.parent ≡ self.old.parent }
-        ensures moves { IfOk result (λ pause. Moves left.old self.old.thread pause self.new.thread) }
-        ensures spent { IfOk result (λ pause. IsSpentAt pause left.old left.new) }
-        ensures over { IfOk result (λ pause. AdvancesOver left.old left.new self.old.thread pause self.new.thread (due_to openings.old.due) (due_to openings.new.due)) }
-    {
-        let mut due = openings.due;
-        let mut asked = ForkPlacing {
-            room,
-            openings: &mut *openings,
-        };
-        let paused = self
-            .thread
-            .advance_tallying(left, &mut spares.threads, &mut asked, &mut due);
-        openings.due = due;
-        Ok(paused?)
-    }
-
-    /// Runs the job for at most `left` steps. If the job begins to wait for a child, tries to join that child at once.
-    fn advance(
-        &mut self,
-        left: &mut u32,
-        spares: &mut JobSpares<'p>,
-        room: &Room,
-        openings: &mut Openings,
-    ) -> Result<Slice<Thread<'p>>, JobFault>
-        requires some { 1 ≤ left.old }
-        requires going { IsGoing self.old.thread }
-        ensures tag { tag_of self.new.thread ≡ tag_of self.old.thread }
-        ensures parent { self.new.parent ≡ self.old.parent }
-        ensures left { IfOk result (λ slice. IsLeft (λ j child. IsForking j.thread child) (λ j. pause_of j.thread) slice self.new) }
-        ensures steps { IfOk result (λ slice. UsesSteps slice left.old left.new) }
-        ensures tallied { OnOk result (GoesOnOver left.old left.new self.old.thread self.new.thread (due_to openings.old.due) (due_to openings.new.due)) }
-    {
-        match self.advance_over(left, spares, room, openings)? {
-            Pause::Budget => Ok(Slice::Goes),
-            Pause::Forks(class, child) => Ok(Slice::Forks(class, child)),
-            Pause::Joins => {
-                if self.join(spares)? {
-                    Ok(Slice::Goes)
-                } else {
-                    Ok(Slice::Blocks)
-                }
-            }
-            Pause::Asks(lock) => Ok(Slice::Asks(lock)),
-            Pause::Frees(lock) => Ok(Slice::Frees(lock)),
-            Pause::Tallies(ledger, amount) => Ok(Slice::Tallies(ledger, amount)),
-            Pause::Ended => Ok(Slice::Ends),
-        }
-    }
-
-    /// Puts `child` inside this job's thread slot, to run there as a function call would. If the job already waits for
-    /// `child`, the child runs at once, otherwise when the job begins to wait for it.
-    fn place(&mut self, child: Thread<'p>) -> Result<(), JobFault>
-        requires pending { IsPlacing (pause_of self.old.thread) }
-        requires child { MayBePlaced self.old.thread child }
-        requires forked { pause_of self.old.thread ≡ Some pause.Forks → awaited self.old.thread.running ≡ Some (name_of child) }
-        ensures tag { tag_of self.new.thread ≡ tag_of self.old.thread }
-        ensures parent { self.new.parent ≡ self.old.parent }
-        ensures answered { OnOk result (pause_of self.new.thread ≡ None) }
-        ensures at_join { pause_of self.old.thread ≡ Some pause.Joins → OnOk result (self.new.thread ≡ begun_in self.old.thread child.entry) }
-    {
-        self.thread.in_place(child)?;
-        Ok(())
-    }
-
-    /// Keeps `receiver`, the end from which this job will take the outcome of the child that it has just forked.
-    fn expect(&mut self, receiver: OutcomeReceiver) -> Result<(), JobFault>
-        requires { IsOf (program_of self.old.thread) receiver.opening.key }
-        ensures { self.new ≡ self.old }
-    {
-        self.ties.ends.try_reserve(1)?;
-        self.ties.ends.push_reserved(End::Awaits(receiver));
-        Ok(())
-    }
-
-    /// Joins the child that this job waits for, if that child has ended. If the child still waits for a thread slot,
-    /// lets it run inside this job's slot instead. Returns false if neither is possible; then the job must block.
-    fn join(&mut self, spares: &mut JobSpares<'p>) -> Result<bool, JobFault>
-        requires { IsAwaiting self.old.thread }
-        ensures tag { tag_of self.new.thread ≡ tag_of self.old.thread }
-        ensures parent { self.new.parent ≡ self.old.parent }
-        ensures joined { IfOk result (λ goes. goes ≡ true → IsGoing self.new.thread) }
-        ensures answered { IfOk result (λ goes. goes ≡ true → IsJoined self.old.thread self.new.thread) }
-        ensures same { IfOk result (λ goes. goes ≡ false → self.new ≡ self.old) }
-    {
-        match self.find(spares)? {
-            Found::Outcome(outcome) => {
-                self.thread.joined_into(outcome, &mut spares.threads)?;
-                Ok(true)
-            }
-            Found::Child(child) => {
-                self.place(child)?;
-                Ok(true)
-            }
-            Found::Nothing => Ok(false),
-        }
-    }
-
-    /// Takes the outcome or the waiting child out of the join cell of the child that this job waits for, and drops this
-    /// job's end of the cell. If the cell has neither, keeps the end.
-    fn find(&mut self, spares: &mut JobSpares<'p>) -> Result<Found<'p>, JobFault>
-        ensures same { self.new ≡ self.old }
-        ensures found { IfOk result (IsFoundOf (program_of self.old.thread)) }
-    {
-        let Some(end) = self.ties.ends.pop() else {
-            return Err(JobFault::Foreign);
-        };
-        match end {
-            End::Awaits(receiver) => match receiver.fetch() {
-                Ok((outcome, cell)) => {
-                    spares.cells.give(cell);
-                    Ok(Found::Outcome(outcome))
-                }
-                Err(receiver) => {
-                    self.ties.ends.push_reserved(End::Awaits(receiver));
-                    Ok(Found::Nothing)
-                }
-            },
-            End::Waits => match self.waits.pop() {
-                Some(WaitEnd { cell, end: None }) => match cell.find() {
-                    Ok(found) => Ok(found),
-                    Err(_) => {
-                        self.waits.push_reserved(WaitEnd { cell, end: None });
-                        self.ties.ends.push_reserved(End::Waits);
-                        Ok(Found::Nothing)
-                    }
-                },
-                _ => Err(JobFault::Foreign),
-            },
-            End::Leaves(_) => Err(JobFault::Foreign),
-        }
-    }
-}
-
-/// Reserves memory for one more item in `one`, and for one in `other`.
 fn reserve_both<A: Drop, B: Drop>(one: &mut Vec<A>, other: &mut Vec<B>) -> Result<(), AllocError>
     ensures one { one.new.items ≡ one.old.items }
     ensures other { other.new.items ≡ other.old.items }

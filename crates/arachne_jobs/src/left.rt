@@ -11,12 +11,9 @@ pub struct Waiting<'p> {
     pub(crate) parent: ThreadId,
 }
 
-/// The contents of a join cell in which a child waits, or has waited, for a thread slot.
 #[derive(Drop)]
 pub enum LeftInCell<'p> {
-    /// The child, which has not begun.
     Child(Waiting<'p>),
-    /// The outcome of the child, which has ended.
     Outcome(DetachedOutcome),
 }
 
@@ -28,13 +25,12 @@ impl<'p> Fits<Wanted> for LeftInCell<'p> {
     ghost may_wait = { MayWait };
 }
 
-/// The contents that a parent found in the join cell of the child that it waits for.
+/// The answer to a parent that waits for a child.
 #[derive(Drop)]
 pub enum Found<'p> {
-    /// The child has ended with this outcome.
     Outcome(DetachedOutcome),
-    /// The child still waited for a thread slot. The parent has taken it out of the cell.
+    /// The child still waited for a thread slot, and is no longer in the cell.
     Child(Thread<'p>),
-    /// Nothing. The child has a slot of its own, or a worker has taken the child in order to give it one.
+    /// The child has a slot of its own, or will get one from the worker that has taken it.
     Nothing,
 }

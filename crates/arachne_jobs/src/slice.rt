@@ -1,5 +1,4 @@
-//! The traits by which a worker (a core's kernel thread) runs a job for some steps, and then fulfils the request at
-//! which the job has stopped.
+//! The traits by which a worker (a core's kernel thread) runs a job for some steps, and then fulfils its request.
 ghost use Rattle.std.specs.Prelude.{◌≡◌, ◌≤◌, ℕ, List, [], Option, false, IfOk, IfSome, IsSome, None, OnOk, Some};
 ghost use Rattle.arachne_program.specs.Program.{source_of};
 ghost use Rattle.arachne_program.specs.Checked.{IsChecked};
@@ -17,39 +16,35 @@ use arachne_core::{Rest, ThreadId};
 use arachne_program::{Class, Name, Program};
 use std::alloc::{AllocError, Global};
 
-/// The reason why a job has stopped after a slice (a bounded number of steps).
+/// The reason why a job has stopped after some steps.
 #[derive(Drop)]
 pub enum Slice<Child> {
-    /// The job can run on in a later slice.
+    /// The job has more steps to make.
     Goes,
-    /// The job has forked a child (fields: its class, normal or exclusive, and the child). The worker decides where the
+    /// The job has forked this child, of this class (normal, or with a core for itself). The worker decides where the
     /// child runs, by `fork_off` or `put_aside`.
     Forks(Class, Child),
     /// The job waits to join a child that has not ended.
     Blocks,
-    /// The job asks for the lock of this number. The worker must request the lock, and call `answer` when the job holds
-    /// it.
+    /// The job asks for the lock of this number. The worker must get the lock for the job, and then call `answer`.
     Asks(u64),
-    /// The job has asked for the lock of this number in an earlier slice, and `answer` was not called since. The job
-    /// has made no step in this slice.
+    /// The job has made no step, since it still waits for the lock of this number, for which it has asked before.
     Awaits(u64),
     /// The job releases the lock of this number. The worker must free the lock, and call `answer`.
     Frees(u64),
     /// The job adds to a ledger, a shared sum (fields: its number, and the amount), while `openings` still has an
     /// amount for another ledger. The worker must add both amounts, and call `answer`.
     Tallies(u64, u64),
-    /// The job has ended. The worker calls `leave`, which delivers the job's outcome to its parent.
+    /// The job has ended. The worker calls `leave`, which delivers the job's outcome (result) to its parent.
     Ends,
 }
 
-/// A thread as a worker sees it: its name, its tag (identifying number), if it is ready or blocked, and the call that
-/// resumes it after a request.
+/// A thread as a worker sees it.
 pub trait RunThread: Tagged + Drop {
     /// The thread's name: the numbers of the forks on the path from the root to it.
     ghost name_of: { Self → List ℕ };
 
-    /// The tag (identifying number) of the thread that makes the next step: this thread, or a child that runs inside
-    /// its slot.
+    /// The tag (number in the run) of the thread that makes the next step.
     ghost running_tag_of: { Self → ℕ };
 
     /// The id of the thread's parent, or `None` for the root.
@@ -62,20 +57,18 @@ pub trait RunThread: Tagged + Drop {
     fn name(&self) -> &Name
         ensures { result.now ≡ name_of self.now };
 
-    /// Returns the tag (identifying number) of the thread that makes the next step: this thread, or a child that runs
-    /// inside its slot. A pending request is always one of that thread.
+    /// Returns the tag (number in the run) of the thread that makes the next step: this thread, or a child inside its
+    /// slot. A pending request is always one of that thread.
     fn running_tag(&self) -> u64
         ensures { result ≡ running_tag_of self.now };
 
-    /// Returns the state in which the worker must put the thread back into its slot: ready, or blocked (it waits for a
-    /// child or a lock). Returns `None` if the thread has a request that the worker must fulfil first, or has ended.
+    /// Returns the state in which the worker must put the thread back into its slot: ready, or blocked (waiting for a
+    /// child or a lock). Returns `None` if the worker must fulfil a request first, or the thread has ended.
     fn rest(&self) -> Option<Rest>
         ensures { IfSome result (λ rest. MayRest rest (pause_of self.now)) };
 
-    /// Resumes the thread after the worker has fulfilled its request: the thread now holds the lock, or the lock was
-    /// freed, or the amount was added to the ledger.
-    ///
-    /// Returns the error `Foreign` if the thread has made no such request.
+    /// Resumes the thread, which now holds the lock, has freed it, or has added to the ledger. Returns the error
+    /// `Foreign` if the thread has made no such request.
     fn answer(&mut self) -> Result<(), JobFault>
         ensures tag { Self.tag_of self.new ≡ Self.tag_of self.old }
         ensures parent { parent_of self.new ≡ parent_of self.old }
@@ -85,35 +78,31 @@ pub trait RunThread: Tagged + Drop {
 
 /// A queue entry for a forked child that waits for a thread slot.
 pub trait RunTicket: Tagged + Drop {
-    /// Returns whether the ticket's child still waits in its join cell for a thread slot. Leaves the child there.
+    /// Returns true if the child of this queue entry still waits for a thread slot.
     fn still_waits(&self) -> bool;
 }
 
 /// Memory of ended threads, which a worker keeps for new threads.
 pub trait RunSpares: Drop {
-    /// Returns a store without any memory to reuse. Allocates no memory.
+    /// Returns an empty store. Allocates no memory.
     fn none(alloc: Global) -> Self;
 }
 
-/// A thread with a slot of its own, with the calls that run it for some steps and that create its children.
+/// A thread with a slot of its own, which a worker runs for some steps at a time.
 pub trait RunJob: RunThread {
     /// A child that was forked and has no slot yet.
     type Child: Drop;
 
-    /// The type of queue entries, each for a forked child that waits for a thread slot.
     type Ticket: RunTicket;
 
-    /// Memory of ended threads, which a worker keeps for new threads.
     type Spares: RunSpares;
 
-    /// States that the job has forked this child, and that the worker has not decided yet where the child runs.
+    /// True if the job has forked this child, and the worker has not decided yet where the child runs.
     ghost forks: { Self → Self.Child → Type 0 };
 
-    /// Runs the job for at most `left` steps, and subtracts the steps that were made from `left`.
-    ///
-    /// A job that must still wait for a lock or a child makes no step. A child that can't get a thread slot runs inside
-    /// this job's slot. Afterwards the caller must add the amount in `openings` to the ledger (a shared sum) that
-    /// `openings` names.
+    /// Runs the job for at most `left` steps, and subtracts the steps that were made from `left`. A job that must still
+    /// wait for a lock or a child makes no step. After this call, the caller must add `openings.due` to the ledger (a
+    /// shared sum) that is named there.
     fn slice(
         &mut self,
         left: &mut u32,
@@ -127,8 +116,8 @@ pub trait RunJob: RunThread {
         ensures parent { Self.parent_of self.new ≡ Self.parent_of self.old }
         ensures left { IfOk result (λ slice. IsLeft forks Self.pause_of slice self.new) };
 
-    /// Creates a job for `child`, which this job has just forked, with the tag `tag` (its number in this run). Resumes
-    /// this job, whose thread id is `me`.
+    /// Creates a job with the tag `tag` (number in the run) for `child`, which this job has just forked. Resumes this
+    /// job, whose thread id is `me`.
     fn fork_off(
         &mut self,
         alloc: Global,
@@ -144,12 +133,12 @@ pub trait RunJob: RunThread {
         ensures childs_parent { IfOk result (λ job. Self.parent_of job ≡ Some me) }
         ensures answered { OnOk result (Self.pause_of self.new ≡ None) };
 
-    /// Lets `child`, which this job has just forked, wait for a thread slot, and resumes this job, whose thread id is
-    /// `me`. The child gets the tag `tag` (its number in this run). It waits until a worker has a slot for it, or until
-    /// this job waits to join it.
+    /// Completes this job's fork of `child`, so that the child waits for a thread slot, and this job can be run again.
+    /// `me` is this job's thread id, by which the child's end wakes it.
     ///
-    /// Returns the child's ticket, which the caller must queue. Returns `None` if `waits` is false or memory is
-    /// refused; then the child runs inside this job's slot instead.
+    /// The child gets the tag `tag` (number in the run), and waits until a worker has a slot for it, or until this job
+    /// waits to join it. Returns the child's ticket (queue entry), which the caller must put into the queue. If `waits`
+    /// is false or memory is refused, returns `None`, and the child runs inside this job's slot.
     fn put_aside(
         &mut self,
         alloc: Global,
@@ -165,24 +154,22 @@ pub trait RunJob: RunThread {
         ensures ticket { IfOk result (λ made. IfSome made (λ ticket. Self.Ticket.tag_of ticket ≡ tag)) }
         ensures asked { waits ≡ false → IfOk result (λ made. made ≡ None) };
 
-    /// Creates a job for the child of `ticket`. Returns `None` if the child no longer waits for a slot. Also returns
-    /// `None` if memory is refused; then the child still waits for its parent.
+    /// Creates a job for the child of `ticket` (a queue entry). Returns `None` if the child no longer waits for a slot.
+    /// If memory is refused, also returns `None`, and the child goes on waiting for its parent.
     fn of_ticket(alloc: Global, ticket: Self::Ticket, spares: &mut Self::Spares) -> Option<Self>
         ensures parent { IfSome result (λ job. IsSome (Self.parent_of job)) }
         ensures tag { IfSome result (λ job. Self.tag_of job ≡ Self.Ticket.tag_of ticket) };
 
-    /// Puts the outcome of the ended job into its join cell, for its parent. Returns the parent's id, so that the
-    /// caller can wake the parent, or `None` for the root.
-    ///
-    /// Returns the error `Foreign` if the thread has not ended.
+    /// Puts the outcome (result) of the ended job into its join cell, for its parent. Returns the parent's id, so that
+    /// the caller can wake the parent, or `None` for the root. Returns the error `Foreign` if the job has not ended.
     fn leave(self, spares: &mut Self::Spares) -> Result<Option<ThreadId>, JobFault>
         ensures ended { OnOk result (Self.pause_of self ≡ Some pause.Ended) }
         ensures parent { IfOk result (λ parent. parent ≡ Self.parent_of self) };
 }
 
-/// A type of jobs for the threads of a task program, with the call that creates the root thread's job.
+/// A job for a thread of a task program.
 pub trait JobOf<'p>: RunJob {
-    /// Returns the job of the program's root thread, with the tag 0, and the receiving end for its outcome.
+    /// Returns the job of the program's root thread, and the receiving end for the thread's outcome (result).
     fn begin(
         alloc: Global,
         program: &'p Program,

@@ -1,5 +1,4 @@
-//! A job's ends of join cells (each carries one thread's outcome to its parent) and its parent's id, in a box that
-//! later jobs reuse.
+//! A job's ends of join cells and its parent's id, in a box that later jobs reuse.
 ghost use Rattle.std.specs.Prelude.{◌≡◌, ◌≤◌, ◌+◌, [], IfOk, vec_len, vec_capacity};
 
 use crate::ends::End;
@@ -7,21 +6,19 @@ use arachne_core::ThreadId;
 use std::alloc::{AllocError, Global};
 use std::marker::Model;
 
-/// A job's ends of join cells, the newest last, and its parent's id. This type has no lifetime, so that any job can
-/// reuse it.
+/// A job's ends of join cells, the newest last.
 #[derive(Drop)]
 pub struct Ties {
     pub(crate) ends: Vec<End>,
     pub(crate) parent: Option<ThreadId>,
 }
 
-/// The greatest number of boxes that a `SpareTies` keeps.
 const MOST: usize = 64;
 
-/// The boxes of ended jobs, which new jobs reuse together with the capacity of their lists.
+/// The boxes of ended jobs, which new jobs reuse, and the capacity of their lists.
 #[derive(Drop)]
 pub struct SpareTies {
-    ties: Vec<Box<Ties>>,
+    pub(crate) ties: Vec<Box<Ties>>,
 }
 
 impl Model for SpareTies {
@@ -35,14 +32,6 @@ impl Model for SpareTies {
 }
 
 impl SpareTies {
-    /// Returns a store without any boxes. Allocates no memory.
-    pub(crate) fn new(alloc: Global) -> SpareTies {
-        SpareTies {
-            ties: Vec::new(alloc),
-        }
-    }
-
-    /// Returns a box with the parent `parent` and no ends of join cells. The box has room for at least one end.
     #[inline(always)]
     pub(crate) fn take(
         &mut self,
@@ -69,7 +58,6 @@ impl SpareTies {
         Ok(ties)
     }
 
-    /// Keeps the box of an ended job. Drops the box if the store already has `MOST`.
     #[inline(always)]
     pub(crate) fn keep(&mut self, ties: Box<Ties>) {
         if self.ties.len() < MOST {

@@ -21,8 +21,6 @@ type Cell<'p> = JoinCell<LeftInCell<'p>, Wanted>;
 
 type CellEnd<'p> = SendingEnd<LeftInCell<'p>, Wanted>;
 
-/// A shared reference to the join cell in which a child waits for a thread slot. In contracts, it is the cell's key,
-/// which says whose outcome the cell is for, and the table that the cell belongs to.
 #[derive(Drop)]
 pub struct WaitCell<'p> {
     cell: Arc<Cell<'p>>,
@@ -43,8 +41,7 @@ impl<'p> Model for WaitCell<'p> {
     ghost view = { λ c. arc_value c.cell };
 }
 
-/// A queue entry for a child that waits for a thread slot: its join cell and its tag (identifying number). In
-/// contracts, it is only the cell.
+/// A queue entry for a child that waits for a thread slot.
 #[derive(Drop)]
 pub struct Ticket<'p> {
     cell: Arc<Cell<'p>>,
@@ -78,8 +75,7 @@ impl<'p> Tagged for Ticket<'p> {
 }
 
 impl<'p> WaitCell<'p> {
-    /// Puts `child` into a new cell to wait there. Returns the cell and a ticket for the queue. If memory is refused,
-    /// returns `child` as the error.
+    /// Returns `child` as the error if memory is refused.
     pub(crate) fn wait(
         alloc: Global,
         child: Thread<'p>,
@@ -106,8 +102,9 @@ impl<'p> WaitCell<'p> {
         Ok((WaitCell { cell }, Ticket { cell: ticket, tag }))
     }
 
-    /// Takes the child's outcome, or the child if it still waits, out of the cell. The parent calls this. If the cell
-    /// has neither, returns the cell's state as the error.
+    /// Takes the child's outcome, or the child if it still waits, out of the cell.
+    ///
+    /// If the cell has neither, the error is the cell's state.
     pub(crate) fn find(&self) -> Result<Found<'p>, Missed<Wanted>>
         ensures found { IfOk result (IsFoundFor self.now.key) }
         ensures missed { IfErr result (λ missed. (missed.state ≢ CellState.Waiting) × (missed.receipt ≡ shown self.now.table (Saw missed.state))) }
@@ -131,8 +128,6 @@ impl<'p> WaitCell<'p> {
         }
     }
 
-    /// Puts the child's outcome into this cell, through the cell's sending end `end`. The receipt proves in contracts
-    /// that this was done.
     pub(crate) fn leave(self, end: CellEnd<'p>, outcome: DetachedOutcome) -> Receipt<Wanted>
         requires end { end ≡ self.table }
         requires outcome { IsWanted self.key outcome }
@@ -142,7 +137,6 @@ impl<'p> WaitCell<'p> {
     }
 }
 
-/// Returns whether `state` is that of a cell in which a child waits.
 #[inline(always)]
 fn is_waiting(state: CellState) -> bool
     ensures { IsTrue result ↔ (state ≡ CellState.Waiting) }
@@ -158,8 +152,7 @@ impl<'p> RunTicket for Ticket<'p> {
 }
 
 impl<'p> Ticket<'p> {
-    /// Takes the child out of its join cell. Returns the child, the cell and the cell's sending end, or `None` if the
-    /// child no longer waits.
+    /// Returns the child, if it still waits, with its cell and the sending end.
     pub(crate) fn take(self) -> Option<(Waiting<'p>, WaitCell<'p>, CellEnd<'p>)>
         ensures child { IfSome result (λ taken. IsFor taken.0.thread taken.1.key × HasNotBegun taken.0.thread) }
         ensures told { IfSome result (λ taken. IsTold taken.0 self.entry.key) }
@@ -176,7 +169,7 @@ impl<'p> Ticket<'p> {
     }
 }
 
-/// Allocates an empty join cell. Returns a reference to the cell, its sending end, and a second reference.
+/// Returns two references to a new, empty join cell, with its sending end between them.
 fn shared_cell<'p>(
     alloc: Global,
     wanted: &Wanted,

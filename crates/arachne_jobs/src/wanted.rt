@@ -1,5 +1,4 @@
-//! The key of a join cell: the thread whose outcome the cell carries, and that thread's parent. It exists only for
-//! contracts.
+//! The key of a join cell, which exists only for contracts: the thread whose outcome the cell carries.
 ghost use Rattle.std.specs.Prelude.{◌≡◌};
 ghost use Rattle.arachne_jobs.specs.Cells.{IsFor};
 ghost use Rattle.arachne_jobs.specs.Threads.{tag_of};
@@ -10,22 +9,18 @@ use arachne_machine::{DetachedOutcome, Thread};
 use arachne_program::{Name, Program};
 use std::snapshot::Snapshot;
 
-/// The key of a join cell: the thread whose outcome the cell carries to its parent. Exists only for contracts, and has
-/// size 0.
+/// The thread whose outcome (result) a join cell carries to its parent. Exists only for contracts, and has size 0.
 #[derive(Drop)]
 pub struct Wanted {
-    /// The thread's program.
     pub program: Snapshot<Program>,
-    /// The thread's name.
     pub name: Snapshot<Name>,
-    /// The tag with which the thread begins.
+    /// The tag (number in the run) with which the thread begins.
     pub tag: Snapshot<u64>,
     /// The id of the thread's parent, or `None` for the root.
     pub parent: Snapshot<Option<ThreadId>>,
 }
 
 impl Wanted {
-    /// Returns the key of the cell for the outcome of `thread`, whose parent has the id `parent`.
     #[inline(always)]
     pub(crate) fn of(thread: &Thread<'_>, parent: Option<ThreadId>) -> Wanted
         ensures thread { IsFor thread.now result }
@@ -47,8 +42,6 @@ impl Fits<Wanted> for DetachedOutcome {
     ghost fits = { IsWanted };
 }
 
-/// The sending end of a join cell, by which a thread puts its outcome into the cell.
 pub type OutcomeSender = Sender<DetachedOutcome, Wanted>;
 
-/// The receiving end of a join cell, by which a parent takes its child's outcome out of the cell.
 pub type OutcomeReceiver = Receiver<DetachedOutcome, Wanted>;

@@ -1,22 +1,17 @@
 -- Each step on a block of cells keeps its rule, and what it says of its seat is true.
 use Rattle.std.proofs.Common.{◌≡◌, ℕ, zero, suc, ◌+◌, ◌<◌, ◌≢◌, ◌⊎◌, inl, inr, ⊎_elim, List, [], ◌∷◌, ◌++◌, map, length, replicate, get_or, set, sym, refl, ap, ◌∙◌, subst, arith, length-set, get_or-set_same, get_or-set_other}
-use Rattle.std.proofs.lemmas.List.{set-get_or}
-use mathlib.Core.Option.{some, none, some-injective, some-ne-none}
+use Rattle.std.{proofs.lemmas.List.set-get_or, specs.declared.snapshot.Snapshot.Snapshot}
+use mathlib.Core.{Option.{some, none, some-injective, some-ne-none}, Logic.dite}
 use mathlib.Core.Option as maybe
-use mathlib.Core.Logic.{dite}
 use native.Mathlib.Decide.{ℕ_discrete}
 use lib.ListN.{get_elem?}
-use Rattle.std.specs.declared.snapshot.Snapshot.{Snapshot}
 use Rattle.atomic_table.specs.Table as table
 use Rattle.atomic_table.specs.Table.{Me, rest, keeps, takes, gives, opening, Allows, Splits}
 use Rattle.atomic_table.proofs.Lists.{at_set, set_here, set_else}
-use Rattle.arachne_join.specs.declared.part.Content.{Content}
-use Rattle.arachne_join.specs.declared.part.Content.TheVariants.{Empty, For, Value}
-use Rattle.arachne_join.specs.declared.part.Part.{Part}
+use Rattle.arachne_join.specs.declared.part.Content.{Content, TheVariants.{Empty, For, Value}}
+use Rattle.arachne_join.specs.{declared.part.{Part.Part, PartView.PartView}, BlockRule.{IsShared, all_cells}}
 use Rattle.arachne_join.specs.declared.part.Part.TheVariants.{Rest, Fresh, Unused, Opened, Sending, Receiving, Spent}
-use Rattle.arachne_join.specs.declared.part.PartView.{PartView}
 use Rattle.arachne_join.specs.Parts.{word_after, part_view, MaySend, MayReceive, IsSendingFor, IsReceivingFor, AreApart, HasCome, Knows}
-use Rattle.arachne_join.specs.BlockRule.{IsShared, all_cells}
 use Rattle.arachne_join.specs.BlockSteps.{without_first, the_first, sending_end, receiving_end, missed_once, with_slot, IsSendingAt, IsReceivingAt, Starts, Opens, Fetches}
 
 -- one more value flips the word
@@ -30,30 +25,15 @@ at_end [] a b (suc j) e = absurd (some-ne-none b (sym e))
 at_end (x ∷ xs) a b zero e = inl e
 at_end (x ∷ xs) a b (suc j) e = ⊎_elim inl (λ t. inr (ap suc t.0, t.1)) (at_end xs a b j e)
 
-in_front : {A : Type 0} (l : List A) (i : ℕ) (a : A) → get_elem? l i ≡ some a → i < length l
-in_front [] i a e = absurd (some-ne-none a (sym e))
-in_front (x ∷ xs) zero a e = omega arith
-in_front (x ∷ xs) (suc i) a e = let before = in_front xs i a e in omega arith
-
 module _ {K : Type 0} where
   -- who has an end of a cell has its right
   sends_there : (k : K) (p : Part K) (n : ℕ) → IsSendingFor k p → MaySend p n n
-  sends_there k Rest n s = absurd s
-  sends_there k Fresh n s = absurd s
-  sends_there k Unused n s = absurd s
-  sends_there k (Opened j) n s = absurd s
   sends_there k (Sending j) n s = refl
-  sends_there k (Receiving j misses) n s = absurd s
-  sends_there k Spent n s = absurd s
+  sends_there k _ n s = absurd s
 
   receives_there : (k : K) (p : Part K) (n : ℕ) → IsReceivingFor k p → MayReceive p n n
-  receives_there k Rest n s = absurd s
-  receives_there k Fresh n s = absurd s
-  receives_there k Unused n s = absurd s
-  receives_there k (Opened j) n s = absurd s
-  receives_there k (Sending j) n s = absurd s
   receives_there k (Receiving j misses) n s = refl
-  receives_there k Spent n s = absurd s
+  receives_there k _ n s = absurd s
 
   -- the seat keeps no end, and gets no right
   narrows : (v w u : PartView K) → ((i : ℕ) → MaySend w.part w.index i → MaySend v.part v.index i) → ((i : ℕ) → MayReceive w.part w.index i → MayReceive v.part v.index i)
@@ -145,12 +125,10 @@ module _ {T K : Type 0} (fits : K → T → Type 0) where
   elsewhere words words' homes homes' n long ws hs i q Rest no_send no_receive k = λ j le lt.
       let f = k j le (omega (arith, long, lt)) in let ne : j ≢ n = λ e. no_send (omega (arith, e, le)) in (ws j ne ∙ f.0, hs j ne ∙ f.1)
   elsewhere words words' homes homes' n long ws hs i q Fresh no_send no_receive k = λ lt. let f = k (omega (arith, long, lt)) in (ws i no_send ∙ f.0, hs i no_send ∙ f.1)
-  elsewhere words words' homes homes' n long ws hs i q Unused no_send no_receive k = ws i no_send ∙ k
-  elsewhere words words' homes homes' n long ws hs i q (Opened j) no_send no_receive k = ws i no_send ∙ k
-  elsewhere words words' homes homes' n long ws hs i q (Sending j) no_send no_receive k = ws i no_send ∙ k
   elsewhere words words' homes homes' n long ws hs i q (Receiving j misses) no_send no_receive k =
       ⊎_elim (λ x. inl (ws i no_receive ∙ x)) (λ x. inr (ws i no_receive ∙ x.0, (x.1.0, hs i no_receive ∙ x.1.1, x.1.2))) k
   elsewhere words words' homes homes' n long ws hs i q Spent no_send no_receive k = tt
+  elsewhere words words' homes homes' n long ws hs i q _ no_send no_receive k = ws i no_send ∙ k
 
   -- the receiving end at the cell knows that the value has come, and the others know as much
   others_told : (words words' : List ℕ) (homes homes' : List (maybe.Option (Content T K))) (n : ℕ) → length homes' ≡ length homes
@@ -171,14 +149,11 @@ module _ {T K : Type 0} (fits : K → T → Type 0) where
   -- nobody may send at a cell whose value has come
   nobody_sends : (words : List ℕ) (homes : List (maybe.Option (Content T K))) (n : ℕ) (key : K) (misses passed : ℕ) → get_or words n 0 ≡ word_after (passed + 1)
       → (i q : ℕ) (p : Part K) → AreApart (part_view (Receiving key misses) n passed) (part_view p i q) → AreApart (part_view p i q) (part_view (Receiving key misses) n passed) → Knows fits words homes i q p → MaySend p i n → ⊥
-  nobody_sends words homes n key misses passed come i q Rest a b k s = a.receive n refl s
-  nobody_sends words homes n key misses passed come i q Fresh a b k s = a.receive n refl s
-  nobody_sends words homes n key misses passed come i q Unused a b k s = a.receive n refl s
-  nobody_sends words homes n key misses passed come i q (Opened j) a b k s = a.receive n refl s
   nobody_sends words homes n key misses passed come i q (Sending j) a b k s = let same = b.paired j key refl refl s in
       flips passed (ap word_after (sym same.1) ∙ sym k ∙ ap (λ m. get_or words m 0) s ∙ come)
   nobody_sends words homes n key misses passed come i q (Receiving j others) a b k s = absurd s
   nobody_sends words homes n key misses passed come i q Spent a b k s = absurd s
+  nobody_sends words homes n key misses passed come i q _ a b k s = a.receive n refl s
 
   -- one seat's part changes, with the words and the slots
   changes : (s : table.State (Content T K) (PartView K)) (id : ℕ) (v w : PartView K) (words' : List ℕ) (homes' : List (maybe.Option (Content T K))) → IsShared fits s → get_elem? s.views id ≡ some v → length words' ≡ length homes'
@@ -263,10 +238,8 @@ module _ {T K : Type 0} (fits : K → T → Type 0) where
 
   -- an unused cell is opened for a key
   key_in : Snapshot K → List (ℕ × Content T K) → Snapshot K
-  key_in other [] = other
-  key_in other ((j, Empty) ∷ xs) = other
   key_in other ((j, For key) ∷ xs) = key
-  key_in other ((j, Value value) ∷ xs) = other
+  key_in other _ = other
 
   pub opens_for : (slots id n p : ℕ) (key : Snapshot K) (me : Me (Content T K) (PartView K)) → me ≡ with_slot (part_view Unused n p) (For key) → Allows (IsShared fits) slots id me n (λ k. k) (λ _ w. Opens me w)
   unfolding key_in

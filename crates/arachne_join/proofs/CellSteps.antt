@@ -1,31 +1,22 @@
 -- Each step on a cell keeps its rule, and what it says of its seat is true.
-use Rattle.std.proofs.Common.{◌≡◌, ℕ, zero, suc, ◌<◌, ◌≤◌, ◌≢◌, ◌⊎◌, inl, inr, ⊎_elim, List, [], ◌∷◌, ◌++◌, length, replicate, get_or, set, Option, Some, None, sym, refl, ap, ◌∙◌, subst, arith, length-set, get_or-set_same}
+use Rattle.std.proofs.Common.{◌≡◌, ℕ, zero, suc, ◌<◌, ◌≤◌, ◌≢◌, ◌⊎◌, inl, inr, ⊎_elim, List, [], ◌∷◌, ◌++◌, length, replicate, get_or, set, Option, Some, None, sym, refl, ap, ◌∙◌, subst, arith, length-set, get_or-set_same, ◌==◌}
 use mathlib.Core.Option.{some, none, some-injective, some-ne-none}
 use mathlib.Core.Option as maybe
 use lib.ListN.{get_elem?}
 use prog.Atomic.{either}
-use Rattle.std.specs.Prelude.{◌==◌}
 use Rattle.atomic_table.specs.Table as table
 use Rattle.atomic_table.specs.Table.{Me, rest, keeps, takes, gives, opening, Allows, Enters, Joins}
 use Rattle.atomic_table.proofs.Lists.{at_set, set_here, set_else, at_longer, set_again, at_snoc, exchanged}
-use Rattle.arachne_join.specs.declared.state.CellState.{CellState}
-use Rattle.arachne_join.specs.declared.view.Role.{Role}
+use Rattle.arachne_join.specs.declared.{state.CellState.CellState, view.{Role.Role, View.View}}
 use Rattle.arachne_join.specs.declared.view.Role.TheVariants.{Maker, Sender, Left, PutBack, Fetched, Saw, Never}
-use Rattle.arachne_join.specs.declared.view.View.{View}
-use Rattle.arachne_join.specs.States.{state_of}
-use Rattle.arachne_join.specs.Views.{view, blank}
+use Rattle.arachne_join.specs.{States.state_of, Views.{view, blank}, Steps.{joined_role, Becomes, Sends, Looks, Takes}}
 use Rattle.arachne_join.specs.Rule.{IsExclusive, IsMadeBy, Knows, IsHome, IsLawful, IsKept}
-use Rattle.arachne_join.specs.Steps.{joined_role, Becomes, Sends, Looks, Takes}
 
 -- the word that a seat's step made is one of the four
 is_state : (n : ℕ) (p : Role) → IsMadeBy n p → n ≤ 3
-is_state n Maker m = omega (arith, m)
-is_state n Sender m = omega (arith, m)
-is_state n Left m = omega (arith, m)
-is_state n PutBack m = omega (arith, m)
-is_state n Fetched m = omega (arith, m)
 is_state n (Saw s) m = absurd m
 is_state n Never m = absurd m
+is_state n _ m = omega (arith, m)
 
 -- a seat that only looked has not left the word as it is
 looked_made_nothing : (n : ℕ) (p : Role) (s : CellState) → p ≡ Saw s → IsMadeBy n p → ⊥
@@ -34,23 +25,18 @@ looked_made_nothing n p s e m = subst (IsMadeBy n) e m
 module _ {T : Type 0} where
   -- a seat that isn't exclusive knows as much after any step
   knows_after : (n m : ℕ) (h h' : List (maybe.Option (Option T))) (p : Role) → (IsExclusive p → ⊥) → Knows n h p → Knows m h' p
-  knows_after n m h h' Maker others k = absurd (others tt)
-  knows_after n m h h' Sender others k = absurd (others tt)
   knows_after n m h h' Left others k = tt
   knows_after n m h h' PutBack others k = tt
-  knows_after n m h h' Fetched others k = absurd (others tt)
   knows_after n m h h' (Saw s) others k = tt
-  knows_after n m h h' Never others k = absurd (others tt)
+  knows_after n m h h' _ others k = absurd (others tt)
 
   -- a seat is exclusive only if the cell is empty or taken
   exclusive_at : (n : ℕ) (h : List (maybe.Option (Option T))) (p : Role) → IsExclusive p → Knows n h p → (n ≡ 0) ⊎ (n ≡ 2)
   exclusive_at n h Maker a k = inl k.0
   exclusive_at n h Sender a k = inl k
-  exclusive_at n h Left a k = absurd a
-  exclusive_at n h PutBack a k = absurd a
   exclusive_at n h Fetched a k = inr k
-  exclusive_at n h (Saw s) a k = absurd a
   exclusive_at n h Never a k = absurd k
+  exclusive_at n h _ a k = absurd a
 
   -- a seat that holds one slot holds it last
   pub holds_one : (held : List (ℕ × Option T)) (value : T) → held ≡ (0, Some value) ∷ [] → (old : Option T) × (held ≡ (0, old) ∷ rest held)
@@ -70,12 +56,7 @@ only a b (suc i) e = absurd (some-ne-none b (sym e))
 -- the seat that is joined into the one that fetched had fetched too, or the joined seat has the role `Fetched`
 join_cases : (q : Role) → (q ≡ Fetched) ⊎ (joined_role q ≡ Fetched)
 join_cases Fetched = inl refl
-join_cases Maker = inr refl
-join_cases Sender = inr refl
-join_cases Left = inr refl
-join_cases PutBack = inr refl
-join_cases (Saw s) = inr refl
-join_cases Never = inr refl
+join_cases _ = inr refl
 
 module _ {T K : Type 0} (fits may_wait : T → Type 0) where
   -- no other seat is exclusive beside one that is

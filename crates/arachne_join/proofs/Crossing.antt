@@ -1,14 +1,11 @@
 -- The types of a block that may cross threads: all, if the value may.
-use denote.RattleType.{RattleType}
-use denote.Enum.Declared as enum
-use denote.Enum.Enum.{Enum}
-use denote.Struct.Declared as struct
-use denote.Struct.Struct.{Struct}
+use denote.{RattleType.RattleType, Enum.Enum.Enum, Struct.Struct.Struct, Builtin.unit}
 use denote.Param.Send.{IsSend, IsSync, AllSend, AllSync, sendable, recorded_send, recorded_sync, enum_send, struct_send, struct_sync}
+use denote.Enum.Declared as enum
+use denote.Struct.Declared as struct
 use Rattle.std.proofs.Crossing as std
 use Rattle.atomic_table.proofs.owned.Table.TheSendSync as table
 use Rattle.atomic_table.proofs.shared.Seat.TheSendSync as seat
-use denote.Builtin.{unit}
 use Rattle.std.specs.contracts.alloc.Global as heap
 use Rattle.std.specs.contracts.sync.Arc as Arc
 use Rattle.std.specs.contracts.impls.GlobalAllocator.TheImpl as heap_impl

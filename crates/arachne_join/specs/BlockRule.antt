@@ -1,15 +1,13 @@
--- The rule of a block of cells, which is true between any two steps.
+-- The invariant of a block of cells between any two steps.
 use Rattle.std.specs.Prelude.{◌≡◌, ◌≢◌, ℕ, length}
 use mathlib.Core.Option.{some}
 use lib.ListN.{get_elem?}
 use Rattle.atomic_table.specs.Table as table
-use Rattle.arachne_join.specs.declared.part.Content.{Content}
-use Rattle.arachne_join.specs.declared.part.Part.TheVariants.{Rest}
-use Rattle.arachne_join.specs.declared.part.PartView.{PartView}
+use Rattle.arachne_join.specs.declared.part.{Content.Content, Part.TheVariants.Rest, PartView.PartView}
 use Rattle.arachne_join.specs.Parts.{part_view, AreApart, Knows}
 
 module _ {T K : Type 0} (fits : K → T → Type 0) where
-  -- each cell has a word and a slot, no two seats have the same right, and what each seat knows is true
+  -- each cell has a word and a slot, no two seats have the same right, and each seat's record is true
   pub record IsShared (s : table.State (Content T K) (PartView K)) : Type 0 where
     pub sized : length s.words ≡ length s.homes
     pub apart : (a b : ℕ) (v w : PartView K) → get_elem? s.views a ≡ some v → get_elem? s.views b ≡ some w → a ≢ b → AreApart v w

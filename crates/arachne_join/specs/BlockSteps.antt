@@ -1,16 +1,12 @@
 -- For each step on a block, a relation between the seat before it, the word that was found, and the seat after it.
-use Rattle.std.specs.Prelude.{◌≡◌, ◌≢◌, ℕ, ◌+◌, [], ◌∷◌}
-use Rattle.std.specs.declared.snapshot.Snapshot.{Snapshot}
+use Rattle.std.specs.{Prelude.{◌≡◌, ◌≢◌, ℕ, ◌+◌, [], ◌∷◌}, declared.snapshot.Snapshot.Snapshot}
 use Rattle.atomic_table.specs.Table.{Me}
-use Rattle.arachne_join.specs.declared.part.Content.{Content}
-use Rattle.arachne_join.specs.declared.part.Content.TheVariants.{Empty, For, Value}
-use Rattle.arachne_join.specs.declared.part.Part.{Part}
+use Rattle.arachne_join.specs.{Parts.{part_view, as_part, word_after, IsReceivingFor}, declared.part.Content.Content}
+use Rattle.arachne_join.specs.declared.part.{Content.TheVariants.{Empty, For, Value}, Part.Part, PartView.PartView}
 use Rattle.arachne_join.specs.declared.part.Part.TheVariants.{Rest, Fresh, Unused, Opened, Sending, Receiving, Spent}
-use Rattle.arachne_join.specs.declared.part.PartView.{PartView}
-use Rattle.arachne_join.specs.Parts.{part_view, as_part, word_after, IsReceivingFor}
 
 module _ {K : Type 0} where
-  -- the two seats after the seat that has all cells from an index on has given the first of them to a new seat
+  -- the two seats after a seat that has all cells from an index on was split: the second has the first of these cells
   abbrev pub without_first : PartView K → PartView K
   without_first v = part_view Rest (v.index + 1) v.passed
 
@@ -92,8 +88,8 @@ module _ {T K : Type 0} where
   abbrev pub Opens : Me (Content T K) (PartView K) → Me (Content T K) (PartView K) → Type 0
   Opens m w = (asked : Snapshot K) → m ≡ with_slot m.0 (For asked) → w ≡ with_slot (as_part m.0 (Opened asked.value)) (For asked)
 
-  -- If the word that was found is the one after one more value, the seat has the whole cell, with a value that fits its
-  -- key. Otherwise it has missed once more.
+  -- If the word found says that one more value was left, the seat has the whole cell, with a value that fits its key.
+  -- Otherwise it has missed once more.
   abbrev pub Fetches : (K → T → Type 0) → Me (Content T K) (PartView K) → ℕ → Me (Content T K) (PartView K) → Type 0
   Fetches fits m found w = (key : K) → IsReceivingFor key m.0.part
       → (found ≡ word_after (m.0.passed + 1) → (value : T) × (w ≡ with_slot (emptied m.0) (Value value)) × fits key value)

@@ -3,11 +3,9 @@ use Rattle.std.specs.Prelude.{◌≡◌, ◌⊎◌, ℕ, ◌+◌, ◌%◌, ◌<�
 use mathlib.Core.Option.{some}
 use mathlib.Core.Option as maybe
 use lib.ListN.{get_elem?}
-use Rattle.arachne_join.specs.declared.part.Content.{Content}
-use Rattle.arachne_join.specs.declared.part.Content.TheVariants.{Empty, Value}
-use Rattle.arachne_join.specs.declared.part.Part.{Part}
+use Rattle.arachne_join.specs.declared.part.Content.{Content, TheVariants.{Empty, Value}}
+use Rattle.arachne_join.specs.declared.part.{Part.Part, PartView.PartView}
 use Rattle.arachne_join.specs.declared.part.Part.TheVariants.{Rest, Fresh, Unused, Opened, Sending, Receiving, Spent}
-use Rattle.arachne_join.specs.declared.part.PartView.{PartView}
 
 -- a cell's word after `passed` values were left in it
 abbrev pub word_after : ℕ → ℕ

@@ -1,11 +1,10 @@
--- The rule of a cell, which is true between any two steps.
+-- The invariant of a cell between any two steps.
 use Rattle.std.specs.Prelude.{◌≡◌, ℕ, List, length, slice_index, Option, Some, None}
 use mathlib.Core.Option.{some}
 use mathlib.Core.Option as maybe
 use lib.ListN.{get_elem?}
 use Rattle.atomic_table.specs.Table as table
-use Rattle.arachne_join.specs.declared.view.Role.{Role}
-use Rattle.arachne_join.specs.declared.view.Role.TheVariants.{Maker, Sender, Left, PutBack, Fetched, Saw, Never}
+use Rattle.arachne_join.specs.declared.view.Role.{Role, TheVariants.{Maker, Sender, Left, PutBack, Fetched, Saw, Never}}
 use Rattle.arachne_join.specs.declared.view.View.{View}
 
 -- At most one seat has one of these roles: the seat that has the slot, or the one that fetched the value.
@@ -18,7 +17,7 @@ IsExclusive Fetched = Unit {0}
 IsExclusive (Saw s) = ⊥
 IsExclusive Never = Unit {0}
 
--- the word is the one that a seat with this role has left
+-- the word is what a seat with this role leaves there
 abbrev pub IsMadeBy : ℕ → Role → Type 0
 IsMadeBy word Maker = word ≡ 0
 IsMadeBy word Sender = word ≡ 0
@@ -39,7 +38,7 @@ module _ {T : Type 0} where
   Knows word homes (Saw s) = Unit {0}
   Knows word homes Never = ⊥
 
-  -- the slot is in the table, with a value that fulfils P
+  -- the slot is in the table, with a value of which P is true
   abbrev pub IsHome : (T → Type 0) → List (maybe.Option (Option T)) → Type 0
   IsHome P homes = (value : T) × (get_elem? homes 0 ≡ some (some (Some value))) × P value
 
@@ -54,6 +53,6 @@ module _ {T K : Type 0} (fits may_wait : T → Type 0) where
     pub known : (i : ℕ) (v : View K) → get_elem? views i ≡ some v → Knows word homes v.role
     pub exclusive : (i j : ℕ) (v w : View K) → get_elem? views i ≡ some v → get_elem? views j ≡ some w → IsExclusive v.role → IsExclusive w.role → i ≡ j
 
-  -- the rule of a cell's table, which has one word
+  -- the invariant of a cell's table, which has one word
   abbrev pub IsKept : table.State (Option T) (View K) → Type 0
   IsKept s = (length s.words ≡ 1) × IsLawful (slice_index s.words 0) s.homes s.views

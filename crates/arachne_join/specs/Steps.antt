@@ -1,11 +1,8 @@
 -- For each step on a cell, a relation between the seat before it, the word that was found, and the seat after it.
 use Rattle.std.specs.Prelude.{◌≡◌, ◌≢◌, ◌≤◌, ℕ, [], ◌∷◌, Option, Some, None}
 use Rattle.atomic_table.specs.Table.{Me}
-use Rattle.arachne_join.specs.declared.view.Role.{Role}
-use Rattle.arachne_join.specs.declared.view.Role.TheVariants.{Sender, Fetched, Saw, Never}
-use Rattle.arachne_join.specs.declared.view.View.{View}
-use Rattle.arachne_join.specs.States.{state_of}
-use Rattle.arachne_join.specs.Views.{view}
+use Rattle.arachne_join.specs.declared.view.Role.{Role, TheVariants.{Sender, Fetched, Saw, Never}}
+use Rattle.arachne_join.specs.{declared.view.View.View, States.state_of, Views.view}
 
 -- the role of the seat that fetched, after another seat with this role was joined into it: they can't both have fetched
 abbrev pub joined_role : Role → Role
@@ -29,7 +26,7 @@ module _ {T K : Type 0} where
   abbrev pub Looks : Me (Option T) (View K) → ℕ → Me (Option T) (View K) → Type 0
   Looks m found w = (found ≤ 3) × (w ≡ (view m.0.key (Saw (state_of found)), []))
 
-  -- If the word was the expected one, the seat has role p and the slot, with a value that fulfils P for the seat's key.
+  -- If the word was as expected, the seat has role p and the slot, with a value of which P is true for the seat's key.
   -- Otherwise it only looked.
   abbrev pub Takes : (K → T → Type 0) → ℕ → Role → Me (Option T) (View K) → ℕ → Me (Option T) (View K) → Type 0
   Takes P expected p m found w =

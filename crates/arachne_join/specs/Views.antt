@@ -1,10 +1,8 @@
 -- The models of a cell, of its sending end and of a receipt, and what a seat knows.
 use Rattle.std.specs.Prelude.{Option, None, List, [], ◌∷◌}
 use Rattle.atomic_table.specs.Seated.{TableId}
-use Rattle.arachne_join.specs.declared.state.CellState.TheVariants.{Empty}
-use Rattle.arachne_join.specs.declared.view.Role.{Role}
-use Rattle.arachne_join.specs.declared.view.Role.TheVariants.{Saw, Never}
-use Rattle.arachne_join.specs.declared.view.View.{View}
+use Rattle.arachne_join.specs.declared.{state.CellState.TheVariants.Empty, view.Role.Role}
+use Rattle.arachne_join.specs.declared.view.{Role.TheVariants.{Saw, Never}, View.View}
 
 -- a cell: the identity of its table, and the key for which it was made
 pub record Cell (K : Type 0) : Type 0 where

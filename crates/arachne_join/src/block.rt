@@ -13,7 +13,6 @@ use std::alloc::{AllocError, Global};
 use std::marker::Model;
 use std::snapshot::Snapshot;
 
-/// The number of cells of a block.
 pub(crate) const CELLS: usize = 64;
 
 /// A thread's right to use some cells of a block.
@@ -21,7 +20,7 @@ pub(crate) type BlockSeat<T, K> = Seat<Content<T, K>, PartView<K>>;
 
 /// A block of cells, each of which carries one value at a time from a sender to a receiver.
 ///
-/// Each cell has an atomic word, which `leave` flips, and a slot, which is the field for the value.
+/// Each cell has a field for the value, and an atomic word that says if the value is there.
 #[derive(Drop)]
 pub(crate) struct CellBlock<T: Fits<K>, K> {
     table: Table<Content<T, K>, PartView<K>, (), BlockRule, Global>,
@@ -38,7 +37,6 @@ impl<T: Fits<K>, K> Model for CellBlock<T, K> {
     ghost invariant = { λ b. b.table.shared.table_id.words ≡ b.table.shared.table_id.slots };
 }
 
-// Returns the value slots of a new block, all empty.
 fn empty_slots<T: Drop, K>(alloc: Global) -> Result<Vec<Content<T, K>>, AllocError>
     ensures { IfOk result (λ slots. slots.items ≡ replicate CELLS Empty) }
 {
@@ -50,7 +48,7 @@ fn empty_slots<T: Drop, K>(alloc: Global) -> Result<Vec<Content<T, K>>, AllocErr
 }
 
 impl<T: Fits<K> + Drop, K> CellBlock<T, K> {
-    /// Creates a block, and the seat that owns all its cells.
+    /// Creates a block, and the seat (right to use it) that owns all its cells.
     pub(crate) fn new(alloc: Global) -> Result<(CellBlock<T, K>, BlockSeat<T, K>), AllocError>
         ensures size { IfOk result (λ made. made.0.slots ≡ CELLS) }
         ensures seat { IfOk result (λ made. (made.1.table_id ≡ made.0) × (made.1.me ≡ (part_view Rest 0 0, []))) }
@@ -64,8 +62,7 @@ impl<T: Fits<K> + Drop, K> CellBlock<T, K> {
 }
 
 impl<T: Fits<K>, K> CellBlock<T, K> {
-    /// Moves cell `index`, the first that `all` still owns, to a new seat. Returns that seat, which owns only this
-    /// cell.
+    /// Splits cell `index`, the first that `all` owns, off `all`, and returns a seat for it.
     pub(crate) fn give_first(&self, all: &mut BlockSeat<T, K>, index: usize) -> BlockSeat<T, K>
         requires own { all.old.table_id ≡ self.now }
         requires inside { index < self.now.slots }
@@ -80,9 +77,8 @@ impl<T: Fits<K>, K> CellBlock<T, K> {
         cell
     }
 
-    /// Opens the unused cell `index` for a value that fits `key`. Returns a seat that may only receive the value.
-    ///
-    /// After the call, `seat` may only send the value.
+    /// Opens the unused cell `index` for a value that fits `key`. `seat` may then only send the value, and the returned
+    /// seat only receive it.
     pub(crate) fn open(&self, seat: &mut BlockSeat<T, K>, index: usize, key: &K) -> BlockSeat<T, K>
         requires own { seat.old.table_id ≡ self.now }
         requires inside { index < self.now.slots }
@@ -100,7 +96,7 @@ impl<T: Fits<K>, K> CellBlock<T, K> {
         shared.split_seat::<PartEnds>(seat)
     }
 
-    /// Sends `value`: stores it in the slot of cell `index`, and then sets the cell's word to `full`.
+    /// Stores `value` in cell `index` before it sets the cell's word to `full`, so that the value can be fetched.
     pub(crate) fn leave(&self, seat: BlockSeat<T, K>, index: usize, full: u64, value: T)
         requires own { seat.table_id ≡ self.now }
         requires inside { index < self.now.slots }
@@ -116,9 +112,7 @@ impl<T: Fits<K>, K> CellBlock<T, K> {
         shared.store::<LeaveThere>(&mut seat, index, full);
     }
 
-    /// Returns the value that the sender has left in cell `index`, or `None` if the cell's word is not `full` yet.
-    ///
-    /// After it has returned a value, the cell is unused again, and `seat` owns the whole cell.
+    /// Takes the value out of cell `index`, or returns `None` if the cell's word isn't `full` yet.
     pub(crate) fn fetch(&self, seat: &mut BlockSeat<T, K>, index: usize, full: u64) -> Option<T>
         requires own { seat.old.table_id ≡ self.now }
         requires inside { index < self.now.slots }

@@ -1,5 +1,4 @@
-//! The invariant of a block's table, and the effect of each atomic operation on a seat. These types are only for
-//! proofs.
+//! The invariant of a block's table, and the effect of each atomic operation on it. All types here are only for proofs.
 use crate::fits::Fits;
 use crate::part::{Content, PartView};
 use atomic_table::{Play, Split, TableRule};
@@ -14,8 +13,7 @@ impl<T: Fits<K>, K> TableRule<Content<T, K>, PartView<K>, ()> for BlockRule {
     ghost first = { λ _. all_cells };
 }
 
-/// The split of the seat (a right to use the cell) that owns all remaining cells: the new seat gets the first of these
-/// cells.
+/// The split by which a seat gives the first of its cells to a new seat.
 pub(crate) struct GiveFirst;
 
 impl<K> Split<PartView<K>> for GiveFirst {
@@ -26,8 +24,7 @@ impl<K> Split<PartView<K>> for GiveFirst {
     ghost right = { the_first };
 }
 
-/// The operation by which a seat (a right to use the cell) takes the empty slot (the field for the value) out of a cell
-/// that was never used.
+/// The operation by which a seat takes over the value field of a cell that was never used.
 pub(crate) struct Start;
 
 impl<T, K> Play<Content<T, K>, PartView<K>> for Start {
@@ -44,7 +41,7 @@ impl<T, K> Play<Content<T, K>, PartView<K>> for Open {
     ghost then = { λ _ m n w. Opens m w };
 }
 
-/// The split of the seat (a right to use the cell) of an opened cell into the sending end and the receiving end.
+/// The split of the right to use an opened cell into the sending end and the receiving end.
 pub(crate) struct PartEnds;
 
 impl<K> Split<PartView<K>> for PartEnds {

@@ -17,11 +17,9 @@ use atomic_table::{Seat, Table};
 use std::alloc::{AllocError, Global};
 use std::marker::Model;
 
-/// A cell for one value. Each thread that shares the cell, for example by an `Arc`, may fetch the value, but only one
-/// fetch gets it.
+/// A cell for one value. Each thread that shares the cell, such as by an `Arc`, may fetch, but only one gets the value.
 ///
-/// A cell is made for a key, which exists only in proofs and says which values can be left. Contracts refer to the
-/// cell's table and to its key.
+/// A cell is made for a key, which exists only in proofs and says which values can be left.
 #[derive(Drop)]
 pub struct JoinCell<T: Fits<K>, K> {
     pub(crate) table: Table<Option<T>, View<K>, K, CellRule, Global>,
@@ -38,8 +36,7 @@ impl<T: Fits<K>, K> Model for JoinCell<T, K> {
     ghost invariant = { λ c. (c.table.shared.table_id.words ≡ 1) × (c.table.shared.table_id.slots ≡ 1) };
 }
 
-/// The error of a call that got no value: the state in which the call found the cell, and a receipt, by which contracts
-/// know that state.
+/// The error of a call that got no value.
 #[derive(Drop)]
 pub struct Missed<K> {
     pub state: CellState,
@@ -68,7 +65,6 @@ impl<T: Fits<K>, K> JoinCell<T, K> {
         Ok((JoinCell { table }, SendingEnd::of(seat)))
     }
 
-    // Returns the value of the cell's word, and a new seat that has read it.
     fn look(&self) -> (u64, Seat<Option<T>, View<K>>)
         ensures place { result.1.table_id ≡ self.now.table }
         ensures look { Looks (view (Some self.now.key) Maker, []) result.0 result.1.me }
@@ -76,7 +72,6 @@ impl<T: Fits<K>, K> JoinCell<T, K> {
         self.table.shared.load_new_seat::<Look>(0)
     }
 
-    // Puts `value` into the cell's slot. `seat` must be the sending end, which owns the slot.
     pub(crate) fn fill(&self, seat: &mut Seat<Option<T>, View<K>>, value: T)
         requires { (seat.old.table_id ≡ self.now.table) × Sends seat.old.me }
         ensures place { (seat.new.table_id ≡ seat.old.table_id) × (seat.new.id ≡ seat.old.id) }
@@ -88,7 +83,6 @@ impl<T: Fits<K>, K> JoinCell<T, K> {
         }
     }
 
-    // Takes the value out of the cell's slot, which `seat` owns.
     fn take_out(&self, seat: &mut Seat<Option<T>, View<K>>) -> T
         requires { (seat.old.table_id ≡ self.now.table) × HoldsValue seat.old.me }
         ensures place { (seat.new.table_id ≡ seat.old.table_id) × (seat.new.id ≡ seat.old.id) }
@@ -97,8 +91,7 @@ impl<T: Fits<K>, K> JoinCell<T, K> {
         self.table.shared.exchange(seat, 0, None).unwrap()
     }
 
-    /// Returns the state of the cell at one moment of the call, with a receipt, by which contracts know that state.
-    /// Doesn't take the value out.
+    /// Returns the state of the cell at one moment of the call, with a receipt (proof without bytes) of that state.
     pub fn seen(&self) -> (CellState, Receipt<K>)
         ensures { result.1 ≡ shown self.now.table (Saw result.0) }
     {
@@ -106,8 +99,8 @@ impl<T: Fits<K>, K> JoinCell<T, K> {
         (CellState::of(found), Receipt::of(seat))
     }
 
-    /// Takes the value out of the cell. If the child hasn't left a value there yet, or another call has fetched it,
-    /// returns the state of the cell as an error.
+    /// Takes the value out of the cell. If no value was left there yet, or an earlier call has fetched it, returns the
+    /// cell's state as the error.
     pub fn fetch(&self) -> Result<(T, Receipt<K>), Missed<K>>
         ensures value { IfOk result (λ got. T.fits self.now.key got.0) }
         ensures fetched { IfOk result (λ got. got.1 ≡ shown self.now.table Fetched) }
@@ -129,7 +122,7 @@ impl<T: Fits<K>, K> JoinCell<T, K> {
 
     /// Takes back a value that `put_back` has put into the cell, and returns it with the cell's sending end.
     ///
-    /// If there is no such value now, returns the state of the cell as an error.
+    /// If the cell has no such value now, returns the cell's state as the error.
     pub fn take_back(&self) -> Result<(T, SendingEnd<T, K>), Missed<K>>
         ensures value { IfOk result (λ got. T.may_wait self.now.key got.0) }
         ensures sending_end { IfOk result (λ got. got.1 ≡ self.now.table) }
@@ -148,8 +141,7 @@ impl<T: Fits<K>, K> JoinCell<T, K> {
         Ok((value, SendingEnd::of(seat)))
     }
 
-    /// Does nothing. Its contract is a law: at most one call has fetched from a cell. So at most one of all receipts of
-    /// a cell is the receipt of a fetch.
+    /// Does nothing when it runs. The contract says that at most one call has fetched from a cell.
     pub fn fetched_once(&self, fetched: Receipt<K>, other: Receipt<K>)
         requires fetched { fetched ≡ shown self.now.table Fetched }
         requires other { other.table ≡ self.now.table }

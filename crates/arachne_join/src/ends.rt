@@ -1,5 +1,5 @@
-//! Reusable cells. Opening a cell returns a `Sender` and a `Receiver` for one value; when the receiver gets the value,
-//! it also gets the unused cell.
+//! Reusable cells. Opening a cell returns a `Sender` and a `Receiver` for one value. The receiver gets the value with
+//! the cell, which is then unused.
 ghost use Rattle.std.specs.Prelude.{◌≡◌, ◌<◌, IfOk, IfErr};
 ghost use Rattle.std.specs.Arc.{arc_value};
 ghost use Rattle.arachne_join.specs.BlockSteps.{IsUnusedAt};
@@ -11,10 +11,7 @@ use std::marker::Model;
 use std::snapshot::Snapshot;
 use std::sync::Arc;
 
-/// A cell that is not in use. `open` uses the cell for one value, and `Receiver::fetch` returns the cell with that
-/// value.
-///
-/// Contracts refer to the cell, and to the number of values that have passed through it.
+/// A cell that is not in use. `open` uses it for one value, and `Receiver::fetch` returns it with that value.
 #[derive(Drop)]
 pub struct UnusedCell<T: Fits<K>, K> {
     block: Arc<CellBlock<T, K>>,
@@ -35,11 +32,7 @@ impl<T: Fits<K>, K> Model for UnusedCell<T, K> {
     ghost invariant = { λ c. IsPlaced (arc_value c.block) c.seat.table_id c.index c.full c.seat.me.0.passed × IsUnusedAt c.index c.seat.me.0.passed c.seat.me };
 }
 
-/// The sending end of an opened cell. If the sender is dropped, the receiver never gets a value, and the cell is not
-/// used again.
-///
-/// Contracts refer to the cell, the number of values that had passed through the cell before this sender's, and the
-/// key.
+/// The sending end of an opened cell. If it is dropped, the receiver gets no value, and the cell is not used again.
 #[derive(Drop)]
 pub struct Sender<T: Fits<K>, K> {
     block: Arc<CellBlock<T, K>>,
@@ -62,9 +55,6 @@ impl<T: Fits<K>, K> Model for Sender<T, K> {
 }
 
 /// The receiving end of an opened cell. If the receiver is dropped, the cell is not used again.
-///
-/// Contracts refer to the cell, the number of values that had passed through the cell before this receiver's, the key,
-/// and the number of calls of `fetch` that found no value.
 #[derive(Drop)]
 pub struct Receiver<T: Fits<K>, K> {
     block: Arc<CellBlock<T, K>>,
@@ -90,7 +80,6 @@ impl<T: Fits<K>, K> Model for Receiver<T, K> {
 }
 
 impl<T: Fits<K> + Drop, K> UnusedCell<T, K> {
-    /// Returns the cell `index` of `block`, through which no value has passed yet.
     pub(crate) fn new(
         block: Arc<CellBlock<T, K>>,
         seat: BlockSeat<T, K>,
@@ -111,7 +100,7 @@ impl<T: Fits<K> + Drop, K> UnusedCell<T, K> {
 
     /// Opens the cell for one value that fits `key`, which only proofs use. Does not allocate.
     ///
-    /// If the reference count of the cell's block can't grow, returns the cell as an error.
+    /// If the reference count of the cell's block can't grow, returns the cell as the error.
     pub fn open(self, key: &K) -> Result<(Receiver<T, K>, Sender<T, K>), UnusedCell<T, K>>
         ensures receiver { IfOk result (λ ends. ends.0 ≡ awaited (opening self key.now)) }
         ensures sender { IfOk result (λ ends. ends.1 ≡ opening self key.now) }
@@ -164,7 +153,7 @@ impl<T: Fits<K> + Drop, K> Sender<T, K> {
 impl<T: Fits<K> + Drop, K> Receiver<T, K> {
     /// Returns the value that the sender has left, together with the cell, which can be opened again.
     ///
-    /// Reads the cell's word once. If there is no value yet, returns the receiver as an error.
+    /// Reads the cell's word once. If there is no value yet, returns the receiver as the error.
     pub fn fetch(self) -> Result<(T, UnusedCell<T, K>), Receiver<T, K>>
         ensures value { IfOk result (λ got. T.fits self.opening.key got.0) }
         ensures cell { IfOk result (λ got. got.1 ≡ used_once_more self.opening.cell) }

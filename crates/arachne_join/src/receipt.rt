@@ -6,9 +6,7 @@ use crate::view::View;
 use atomic_table::{Badge, Seat};
 use std::marker::Model;
 
-/// The proof of how one call changed a cell, or in which state the call found the cell. Only contracts use it.
-///
-/// A receipt has no bytes, and can be dropped at any time.
+/// The proof, without bytes, of how one call changed a cell, or in which state the call found the cell.
 #[derive(Drop)]
 pub struct Receipt<K> {
     badge: Badge<View<K>>,

@@ -13,10 +13,7 @@ use crate::view::View;
 use atomic_table::Seat;
 use std::marker::Model;
 
-/// The only sending end of a cell. It owns the cell's empty slot (the field for the value). Leaving a value consumes
-/// the sending end.
-///
-/// A sending end has no bytes. If it is dropped, the cell stays empty. Contracts refer to its cell's table.
+/// The only sending end of a cell. Leaving a value consumes the end. If the end is dropped, the cell stays empty.
 #[derive(Drop)]
 pub struct SendingEnd<T, K> {
     seat: Seat<Option<T>, View<K>>,

@@ -8,11 +8,10 @@ use crate::fits::Fits;
 use std::alloc::{AllocError, Global};
 use std::sync::Arc;
 
-/// The greatest number of unused cells in a store. If a store is full, `give` drops the cell, so that a thread doesn't
-/// collect the cells that other threads create.
+/// The greatest number of cells in a store. Without a limit, a thread that only receives could collect ever more cells.
 const MOST: usize = 4 * CELLS;
 
-/// A store of unused cells for one thread. If the store is empty, `take` allocates a new block of cells.
+/// A store of unused cells for one thread. Cells are allocated 64 at a time, in blocks.
 ///
 /// A block is freed after its last cell was dropped.
 #[derive(Drop)]
@@ -36,7 +35,7 @@ impl<T: Fits<K> + Drop, K> SpareCells<T, K> {
         }
     }
 
-    /// Puts `cell` into the store. Drops it if the store already has `MOST` cells or memory is refused.
+    /// Puts `cell` into the store. Drops the cell if the store is full or memory is refused.
     pub fn give(&mut self, cell: UnusedCell<T, K>) {
         if self.cells.len() < MOST {
             let _ = self.cells.push(cell);
@@ -61,7 +60,6 @@ impl<T: Fits<K> + Drop, K> SpareCells<T, K> {
         }
     }
 
-    // Creates a block, puts all its cells except the first into the store, and returns the first.
     fn add_block(&mut self, alloc: Global) -> Result<UnusedCell<T, K>, AllocError> {
         self.cells.reserve(CELLS - 1)?;
         let (block, mut all) = CellBlock::new(alloc)?;

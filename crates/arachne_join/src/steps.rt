@@ -1,4 +1,4 @@
-//! The invariant of a cell's table, and the effect of each atomic operation on a seat. These types are only for proofs.
+//! The invariant of a cell's table, and the effect of each atomic operation on it. All types here are only for proofs.
 ghost use Rattle.std.specs.Prelude.{◌≡◌, ◌≢◌, Some, [], ◌∷◌};
 ghost use Rattle.arachne_join.specs.declared.view.Role.TheVariants.{Maker, Sender, Left, PutBack, Fetched, Never};
 ghost use Rattle.arachne_join.specs.Views.{view, blank};
@@ -17,8 +17,7 @@ impl<T: Fits<K>, K> TableRule<Option<T>, View<K>, K> for CellRule {
     ghost first = { λ key. view (Some key) Maker };
 }
 
-/// The operation by which the first seat (a right to use the cell) takes the slot (the field for the value) out of the
-/// table. The seat then is the sending end.
+/// The operation by which the first seat takes the value field, and becomes the sending end.
 pub(crate) struct TakeSlot;
 
 impl<T, K> Play<Option<T>, View<K>> for TakeSlot {
@@ -37,7 +36,6 @@ impl<T, K> Play<Option<T>, View<K>> for PutBack {
     ghost then = { λ _ m n w. Becomes PutBack w };
 }
 
-/// The load of the cell's word by a new seat (a right to use the cell).
 pub(crate) struct Look;
 
 impl<T, K> Play<Option<T>, View<K>> for Look {
@@ -56,15 +54,14 @@ impl<T: Fits<K>, K> Play<Option<T>, View<K>> for TakeBack {
     ghost then = { λ _ m n w. Takes T.may_wait 3 Sender m n w };
 }
 
-/// The operation by which the seat (a right to use the cell) that fetched the value puts the empty slot back into the
-/// table.
+/// The operation by which the seat that fetched the value gives the empty value field back.
 pub(crate) struct ReturnSlot;
 
 impl<T, K> Play<Option<T>, View<K>> for ReturnSlot {
     ghost then = { λ _ m n w. Becomes Fetched w };
 }
 
-/// The operation that joins another seat (a right to use the cell) into the seat that fetched the value.
+/// The operation that joins a seat into the one that fetched the value.
 pub(crate) struct JoinFetched;
 
 impl<K> Join<View<K>> for JoinFetched {
@@ -73,7 +70,7 @@ impl<K> Join<View<K>> for JoinFetched {
     ghost spent = { blank };
 }
 
-/// The fact that of two seats (rights to use the cell) that are joined, at most one has fetched the value.
+/// Of two joined seats, at most one has fetched the value.
 pub(crate) struct FetchedAlone;
 
 impl<T, K> Play<Option<T>, View<K>> for FetchedAlone {

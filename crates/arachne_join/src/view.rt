@@ -1,30 +1,25 @@
-//! The record that proofs keep of each seat of a cell (a thread's right to change it): the last operation, and the
-//! cell's key.
-//!
-//! These types exist only for proofs.
+//! The record that proofs keep of each call on a cell. All types here are only for proofs.
 use crate::state::CellState;
 
-/// The role of a seat (a thread's right to change the cell): creator, sending end, or the last operation made by the
-/// seat.
+/// The role of a call's seat on a cell: the end that it has, or its last operation on the cell.
 pub enum Role {
-    /// The seat that creates the cell, before it takes the slot (the field for the value) out of the table.
+    /// The caller creates the cell, and has not taken over the value field yet.
     Maker,
-    /// The sending end, which has the slot (the field for the value).
+    /// The caller has the sending end, which owns the value field.
     Sender,
-    /// The seat left the value.
+    /// The caller left the value.
     Left,
-    /// The seat put a value into the cell that only `take_back` can take.
+    /// The caller put into the cell a value that only `take_back` can take.
     PutBack,
-    /// The seat fetched the value.
+    /// The caller fetched the value.
     Fetched,
-    /// The seat read the cell's word, and found the cell in this state.
+    /// The caller read the cell's word, and found the cell in this state.
     Saw(CellState),
-    /// A role that no seat has.
+    /// A role that no call ever has.
     Never,
 }
 
-/// The role of a seat (a right to use the cell), and the key for which the cell was made. Without a key if the seat's
-/// record doesn't have it.
+/// The record of a call on a cell: its role, and the key for which the cell was made, if the record has it.
 pub struct View<K> {
     pub role: Role,
     pub key: Option<K>,

@@ -1,4 +1,4 @@
--- The rules by their numbers, and the break that counts.
+-- The rules in the order of their numbers, and the first break of a rule in a log.
 use Rattle.std.specs.Prelude.{ℕ, Bool, true, false, List, [], ◌∷◌, Option, None, Some}
 use Rattle.arachne_judge.specs.declared.rules.Broken.{Broken}
 use Rattle.arachne_judge.specs.declared.rules.Rule.{Rule}
@@ -24,18 +24,12 @@ number_of Waits = 11
 number_of Stays = 12
 number_of Pulls = 13
 
--- the first break counts
+-- the first break, given the first one so far and a later one
 abbrev pub first_broken : Option Broken → Broken → Option Broken
 first_broken None broken = Some broken
 first_broken (Some first) broken = Some first
 
--- counts a break if a rule is broken here, and otherwise keeps the earlier one
+-- the first break, given the first one so far, and one at this entry if a rule is broken there
 abbrev pub broken_if : Bool → Option Broken → Broken → Option Broken
 broken_if true before broken = first_broken before broken
 broken_if false before broken = before
-
--- A thread that a worker moves to its core breaks a rule at this entry if the program has an exclusive fork, and
--- another rule if the thread comes from that same core.
-abbrev pub broken_by_pull : (has_exclusive from_here : Bool) → Option Broken → ℕ → Option Broken
-broken_by_pull has_exclusive from_here before at =
-    broken_if from_here (broken_if has_exclusive before (record { rule = Stays; at = at })) (record { rule = Pulls; at = at })

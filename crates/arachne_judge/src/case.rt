@@ -1,58 +1,53 @@
-//! Reads the log of a run once, and checks each rule at the entries that concern it.
+//! Checks the log of a run against all rules, in one pass.
 //!
-//! A worker writes an entry just before or just after the event that it reports. So the log may show the effect of
-//! another core's event before the event: that a thread was moved, that a core was closed or opened, or that a thread
-//! was woken. Core 0 must report its actions before its next slice begins; each other core must report an action at
-//! once. As long as such a report is missing, the core *owes* it.
-ghost use Rattle.std.specs.Prelude.{◌≡◌, ◌≢◌, ◌<◌, ◌==◌, IsSome, not};
-ghost use Rattle.arachne_judge.specs.Rules.{broken_by_pull, broken_if, first_broken};
+//! A worker writes an entry just before or just after the event that the entry reports. So the log may show the effect
+//! of an event (a thread was moved or woken, or a core closed or opened) before the event itself. Core 0 must then
+//! report the event before its next slice begins, and other cores must do so at once. A core *owes* a report that it
+//! must still make.
+ghost use Rattle.std.specs.Prelude.{◌≡◌, ◌≢◌, ◌<◌, ◌≤◌, ◌+◌, ℕ, true, min, slice_index_or, slice_set, IsSome, IsTrue};
+ghost use Rattle.arachne_judge.specs.Breaks.{AreDue, broken_by_begin, broken_by_delay, broken_by_end, broken_by_moves, broken_by_order, broken_by_pull, broken_by_scan, broken_by_second_turn, broken_by_silence, broken_by_turn, core_of, is_early, judged, order_at, taken_by, thread_of};
+ghost use Rattle.arachne_judge.specs.Rules.{broken_if, first_broken, number_of};
 ghost use Rattle.arachne_judge.specs.declared.rules.Rule.TheVariants.{CoreZero};
 
 use crate::cores::Core;
 use crate::log::{Entry, Log, What};
 use crate::rules::{Broken, Counts, Rule, Run, Verdict};
-use crate::scans::Scans;
+use crate::scans::{Scans, TurnFindings};
 use crate::threads::ThreadFacts;
 use arachne_core::ThreadId;
-use arachne_policy::OrderKind;
+use arachne_policy::{CoreOrder, OrderKind};
 use arachne_workers::{SliceEnd, WorkerEvent};
 use std::alloc::{AllocError, Global};
 
-/// The number of moves of threads between cores that may stay unreported.
+/// The number of moves of threads between cores that may have no log entry, besides one for each `TURNS_PER_UNTOLD`
+/// times that a thread continued.
 ///
-/// Such a move occurs if a thread leaves its slot just before a worker moves it away: then the worker moves the slot's
-/// next thread instead. It is rare, since it needs a delay between two steps of a worker. One more such move is allowed
-/// for each `TURNS_PER_UNTOLD` times that a thread continued. A program with an exclusive fork has no such moves.
+/// Rarely, a thread leaves its slot just before a worker moves it away. The worker then moves the next thread of that
+/// slot, and doesn't report it.
 const UNTOLD: u64 = 2;
 
 const TURNS_PER_UNTOLD: u64 = 64;
 
-/// The facts about the run's cores, threads and slots that the log entries read so far have shown.
 #[derive(Drop)]
 struct Case<'r> {
     run: Run<'r>,
-    /// The number of the log entry that is checked now.
     at: usize,
     cores: Vec<Core>,
     /// For each context, the facts about its last thread.
     threads: Vec<Option<ThreadFacts>>,
     root: Option<ThreadId>,
-    /// True if the root thread has ended.
     is_over: bool,
-    /// The number of orders that core 0 has reported as carried out so far.
+    /// The number of orders that core 0 has reported as carried out.
     applied: usize,
-    /// The number of slices that all cores have reported as ended.
     ended: u64,
-    /// The number of slices of other cores that must have been counted as ended before core 0's last event.
+    /// The number of slices that other cores had ended, each with a later entry of its core, when core 0 last reported
+    /// something other than a slice, a turn, or what it did to cores.
     counted: u64,
-    /// True if some core must still report an event whose effect an entry has already shown.
     owes: bool,
-    /// The number of moves of threads between cores that were not reported.
     untold: u64,
-    /// The threads that have continued after a wait although no wake was reported yet.
+    /// The threads that have continued after a wait before a log entry reported their wake.
     ///
-    /// There is at most one such thread for each other core, which perhaps has woken it and not reported that yet. Such
-    /// a thread may have ended since, and its context may have another thread.
+    /// There is room for one thread fewer than there are cores.
     unwoken: Vec<Option<ThreadId>>,
     scans: Scans,
     counts: Counts,
@@ -83,23 +78,12 @@ pub fn judge(alloc: Global, log: &Log, run: Run<'_>) -> Result<Verdict, AllocErr
 
 impl<'r> Case<'r> {
     fn new(alloc: Global, run: Run<'r>) -> Result<Case<'r>, AllocError> {
-        let mut cores = Vec::new(alloc);
-        for _ in 0..run.cores {
-            cores.push(Core::new())?;
-        }
-        let mut threads = Vec::new(alloc);
-        for _ in 0..u32::from(run.cores) * u32::from(run.slots) {
-            threads.push(None)?;
-        }
-        let mut unwoken = Vec::new(alloc);
-        for _ in 1..run.cores {
-            unwoken.push(None)?;
-        }
+        let count = usize::from(run.cores);
         Ok(Case {
             run,
             at: 0,
-            cores,
-            threads,
+            cores: vec![in alloc; Core::default(); count]?,
+            threads: vec![in alloc; None; count * usize::from(run.slots)]?,
             root: None,
             is_over: false,
             applied: 0,
@@ -107,7 +91,7 @@ impl<'r> Case<'r> {
             counted: 0,
             owes: false,
             untold: 0,
-            unwoken,
+            unwoken: vec![in alloc; None; count.saturating_sub(1)]?,
             scans: Scans::new(run),
             counts: Counts::new(),
             broken: None,
@@ -115,25 +99,36 @@ impl<'r> Case<'r> {
         })
     }
 
-    fn core(&self, core: u8) -> Core {
-        match self.cores.get(usize::from(core)) {
-            Some(known) => *known,
-            None => Core::new(),
-        }
+    fn core(&self, core: u8) -> Core
+        ensures { result ≡ core_of self.now core }
+    {
+        self.cores
+            .get(usize::from(core))
+            .copied()
+            .unwrap_or_default()
     }
 
     fn set_core(&mut self, core: u8, known: Core)
-        ensures { self.new.broken ≡ self.old.broken }
+        ensures { self.new ≡ record self.old { cores = self.new.cores } }
     {
         if let Some(place) = self.cores.get_mut(usize::from(core)) {
             *place = known;
         }
     }
 
-    /// Returns the facts about the thread with this id, if a worker has taken it before.
-    fn thread(&self, id: ThreadId) -> Option<ThreadFacts> {
+    /// Returns the facts about the thread, if a worker has taken it before.
+    fn thread(&self, id: ThreadId) -> Option<ThreadFacts>
+        ensures { result ≡ thread_of self.now id }
+    {
         let thread = (*self.threads.get(id.context as usize)?)?;
         if thread.id == id { Some(thread) } else { None }
+    }
+
+    /// Returns the facts about the thread that the worker of `core` took last.
+    fn taken(&self, core: u8) -> Option<ThreadFacts>
+        ensures { result ≡ taken_by self.now core }
+    {
+        self.thread(self.core(core).turn?)
     }
 
     fn set_thread(&mut self, thread: ThreadFacts)
@@ -145,12 +140,12 @@ impl<'r> Case<'r> {
     }
 
     fn counts(&mut self, rule: Rule)
-        ensures { self.new ≡ record self.old { counts = self.new.counts } }
+        ensures same { self.new ≡ record self.old { counts = self.new.counts } }
+        ensures counted { self.new.counts.counts ≡ slice_set self.old.counts.counts (number_of rule) (min (slice_index_or self.old.counts.counts (number_of rule) 0 + 1) u64.MAX) }
     {
         self.counts.add(rule, 1);
     }
 
-    /// Records that the current entry breaks `rule`, unless an earlier entry has broken a rule.
     fn breaks(&mut self, rule: Rule)
         ensures { self.new ≡ record self.old { broken = first_broken self.old.broken (record { rule = rule; at = self.old.at }) } }
     {
@@ -159,7 +154,6 @@ impl<'r> Case<'r> {
         }
     }
 
-    /// Counts one check of `rule`, and records if the rule is broken.
     fn judges(&mut self, rule: Rule, is_broken: bool)
         ensures { self.new ≡ record self.old { counts = self.new.counts; broken = broken_if is_broken self.old.broken (record { rule = rule; at = self.old.at }) } }
     {
@@ -214,32 +208,38 @@ impl<'r> Case<'r> {
     }
 
     fn slice(&mut self, core: u8, nth: u64) {
-        let mut known = self.core(core);
-        self.judges(Rule::Numbers, nth != known.next);
-        known.next = nth.saturating_add(1);
-        let is_second = known.is_in_slice;
-        known.is_in_slice = true;
-        self.set_core(core, known);
-        self.counts(Rule::InHand);
-        match known.turn.and_then(|id| self.thread(id)) {
-            Some(mut thread)
-                if thread.core == core
-                    && !thread.is_in_slice
-                    && !is_second
-                    && !thread.has_ended() => {
-                thread.is_in_slice = true;
-                self.set_thread(thread);
-            }
-            _ => self.breaks(Rule::InHand),
-        }
+        self.begins(core, nth);
         if core == 0 {
             self.settle();
             self.look_due();
         }
     }
 
-    /// Checks, when a slice of core 0 begins, that core 0 has carried out all orders that are due.
-    fn look_due(&mut self) {
+    /// Checks a report that `core` is about to begin the slice with the number `nth`.
+    fn begins(&mut self, core: u8, nth: u64)
+        ensures { self.new.broken ≡ broken_by_begin self.old core nth }
+    {
+        let mut known = self.core(core);
+        self.judges(Rule::Numbers, nth != known.next);
+        let taken = self.taken(core);
+        let is_in_hand = match taken {
+            Some(thread) => thread.is_in_hand(core),
+            None => false,
+        };
+        self.judges(Rule::InHand, known.is_in_slice || !is_in_hand);
+        if let Some(mut thread) = taken {
+            thread.is_in_slice = true;
+            self.set_thread(thread);
+        }
+        known.next = nth.saturating_add(1);
+        known.is_in_slice = true;
+        self.set_core(core, known);
+    }
+
+    /// Checks, when core 0 begins a slice, that no order is due.
+    fn look_due(&mut self)
+        ensures { self.new.broken ≡ broken_by_delay self.old }
+    {
         let Some(order) = self.run.orders.get(self.applied) else {
             return;
         };
@@ -247,52 +247,66 @@ impl<'r> Case<'r> {
         self.judges(Rule::Due, order.after <= ended);
     }
 
-    /// Records that a rule is broken for each report that is still missing. Called when core 0 begins a slice, and at
-    /// the end of the log.
+    /// Records a broken rule for each event that the log has shown by its effect, but not reported.
+    ///
+    /// Called when core 0 begins a slice, and at the end of the log.
     fn settle(&mut self) {
         if !self.owes {
             return;
         }
         self.owes = false;
         for core in 0..self.run.cores {
-            let mut known = self.core(core);
-            if known.owes_move {
-                known.owes_move = false;
-                self.untold = self.untold.saturating_add(1);
-                let turns = self.counts.of(Rule::OwnCore);
-                let most = UNTOLD.saturating_add(turns / TURNS_PER_UNTOLD);
-                if self.run.has_exclusive || self.untold > most {
-                    self.breaks(Rule::OwnCore);
-                }
+            self.settle_core(core);
+        }
+    }
+
+    /// Records a broken rule for each event that the log has shown by its effect on `core`, but not reported.
+    fn settle_core(&mut self, core: u8)
+        ensures { self.new.broken ≡ broken_by_silence self.old core }
+    {
+        let mut known = self.core(core);
+        if known.owes_move {
+            known.owes_move = false;
+            self.untold = self.untold.saturating_add(1);
+            let turns = self.counts.of(Rule::OwnCore);
+            let most = UNTOLD.saturating_add(turns / TURNS_PER_UNTOLD);
+            if self.run.has_exclusive || self.untold > most {
+                self.breaks(Rule::OwnCore);
             }
-            if known.owes_close || known.owes_return {
-                known.owes_close = false;
-                known.owes_return = false;
-                self.breaks(Rule::Parks);
-            }
-            let ends = u64::from(self.is_over);
-            if known.unparks > known.grants.saturating_add(ends) {
-                self.breaks(Rule::Unparks);
-            }
-            self.set_core(core, known);
+        }
+        if known.owes_close || known.owes_return {
+            known.owes_close = false;
+            known.owes_return = false;
+            self.breaks(Rule::Parks);
+        }
+        let ends = u64::from(self.is_over);
+        if known.unparks > known.grants.saturating_add(ends) {
+            self.breaks(Rule::Unparks);
+        }
+        self.set_core(core, known);
+    }
+
+    /// Checks that the worker of `core` may take the thread.
+    fn may_take(&mut self, core: u8, id: ThreadId)
+        ensures { self.new.broken ≡ broken_by_turn self.old core id }
+    {
+        let known = self.core(core);
+        if known.is_in_slice || (self.root.is_none() && core > 0) {
+            self.breaks(Rule::InHand);
+        }
+        if known.alone.is_some_and(|other| other != id) {
+            self.breaks(Rule::Alone);
         }
     }
 
     fn turn(&mut self, core: u8, id: ThreadId, is_alone: bool) {
+        self.may_take(core, id);
         let mut known = self.core(core);
-        if known.is_in_slice || (self.root.is_none() && core > 0) {
-            self.breaks(Rule::InHand);
-        }
         if self.root.is_none() {
             self.root = Some(id);
         }
         if is_alone {
             self.counts(Rule::Alone);
-        }
-        if known.alone.is_some_and(|other| other != id) {
-            self.breaks(Rule::Alone);
-        }
-        if is_alone {
             known.alone = Some(id);
         }
         known.turn = Some(id);
@@ -310,9 +324,10 @@ impl<'r> Case<'r> {
         self.set_core(core, known);
     }
 
-    /// Checks the core on which a worker has taken a thread: the thread must have been on this core before, or moved to
-    /// it.
-    fn look_where(&mut self, known: &mut Core, core: u8, before: ThreadFacts) {
+    /// Checks that a thread that was taken before may be taken on `core`.
+    fn look_where(&mut self, known: &mut Core, core: u8, before: ThreadFacts)
+        ensures { self.new.broken ≡ broken_by_second_turn self.old before }
+    {
         if before.has_ended() || before.is_in_slice {
             self.breaks(Rule::InHand);
         }
@@ -330,11 +345,10 @@ impl<'r> Case<'r> {
         }
     }
 
-    /// Checks that a thread that has waited was woken before it continues. Returns the number of the thread's wakes
-    /// that are left after this turn has used up one.
+    /// Checks that a thread that has waited was woken, and returns the number of its wakes for which it has not
+    /// continued yet.
     ///
-    /// If another core has just woken the thread, that core must report this at once. A wake may also be reported just
-    /// before the turn that follows it.
+    /// The worker of another core that has woken the thread may report this just after the thread has continued.
     fn waits(&mut self, before: ThreadFacts) -> u64 {
         if !matches!(before.end, SliceEnd::AwaitsChild | SliceEnd::Awaits(_)) {
             return before.woken;
@@ -346,8 +360,6 @@ impl<'r> Case<'r> {
         before.woken.saturating_sub(1)
     }
 
-    /// Replaces `from` by `to` in the list of threads that continued before their wake was reported. Returns whether
-    /// `from` was in the list.
     fn replace_unwoken(&mut self, from: Option<ThreadId>, to: Option<ThreadId>) -> bool {
         for place in self.unwoken.iter_mut() {
             if *place == from {
@@ -358,10 +370,8 @@ impl<'r> Case<'r> {
         false
     }
 
-    /// Checks the order in which the worker takes threads.
-    ///
-    /// The slots' indexes must rise in one scan (a pass over the core's slots), and no child may wait for a slot while
-    /// one is free. `is_first` is true if the worker takes thread `id` for the first time.
+    /// Checks that the threads of one scan (pass over the slots) are in ascending order of slots, and that no child
+    /// waits while a slot is free.
     fn scan(&mut self, id: ThreadId, is_first: bool) {
         let last = self.scans.last();
         let goes_on = match last.and_then(|last| *self.threads.get(last as usize)?) {
@@ -369,6 +379,13 @@ impl<'r> Case<'r> {
             None => false,
         };
         let found = self.scans.turn(id.context, goes_on, is_first);
+        self.scanned(found);
+    }
+
+    /// Records the rules that are broken as a scan reaches a thread.
+    fn scanned(&mut self, found: TurnFindings)
+        ensures { self.new.broken ≡ broken_by_scan self.old found.is_downward found.was_free }
+    {
         if found.is_judged {
             self.counts(Rule::Upwards);
         }
@@ -380,9 +397,8 @@ impl<'r> Case<'r> {
         }
     }
 
-    /// Checks that a slice that has ended after `steps` steps was not longer than the quantum.
     fn sliced(&mut self, core: u8, steps: u32, end: SliceEnd)
-        ensures { self.old.run.quantum < steps → IsSome self.new.broken }
+        ensures { self.new.broken ≡ broken_by_end self.old core steps }
     {
         self.judges(Rule::Quantum, steps > self.run.quantum);
         self.steps = self.steps.saturating_add(u64::from(steps));
@@ -393,7 +409,7 @@ impl<'r> Case<'r> {
         known.is_in_slice = false;
         known.ended = known.ended.saturating_add(1);
         self.ended = self.ended.saturating_add(1);
-        if let Some(mut thread) = known.turn.and_then(|id| self.thread(id)) {
+        if let Some(mut thread) = self.taken(core) {
             thread.is_in_slice = false;
             thread.end = end;
             self.set_thread(thread);
@@ -422,11 +438,11 @@ impl<'r> Case<'r> {
         }
     }
 
-    /// Checks the report that the worker of `core` has moved a thread from the core `from` to its own.
+    /// Checks a report that the worker of `core` has moved a thread to `core` from the core `from`.
     ///
-    /// If `home` is given, the thread stays in its slot on that core, and the worker only runs the thread next.
+    /// If `home` is given, the worker only runs the thread next, and the thread stays in its slot on the core `home`.
     fn pulled(&mut self, core: u8, id: ThreadId, from: u8, home: Option<u8>)
-        ensures { self.new.broken ≡ broken_by_pull self.old.run.has_exclusive (from == core) self.old.broken self.old.at }
+        ensures { self.new.broken ≡ broken_by_pull self.old core from }
     {
         if self.run.has_exclusive {
             self.breaks(Rule::Stays);
@@ -439,9 +455,10 @@ impl<'r> Case<'r> {
         }
     }
 
-    /// Checks a park of `core`: the core must have been closed and empty at some time since its last entry.
+    /// Checks a report that the worker of `core` parks (sleeps until the core is opened).
     ///
-    /// After that time, orders may have opened and closed the core again, and threads may have been put there.
+    /// Since the worker's last entry, the core must have been closed and empty at some time. Core 0 may report only
+    /// later that it closed the core, or that it moved threads away.
     fn parks(&mut self, core: u8) {
         self.counts(Rule::Parks);
         let mut known = self.core(core);
@@ -468,10 +485,11 @@ impl<'r> Case<'r> {
         self.set_core(core, known);
     }
 
-    /// Checks the report that `orders` orders to open or close cores have been carried out so far. Only core 0 may
-    /// report this.
+    /// Checks an entry, which only core 0 may write, that it has carried out `orders` orders so far.
     fn applied(&mut self, core: u8, orders: usize)
-        ensures { core ≢ 0 → IsSome self.new.broken }
+        ensures another { core ≢ 0 → self.new.broken ≡ judged self.old CoreZero true self.old.broken }
+        ensures due { core ≡ 0 → AreDue self.old orders → self.new.broken ≡ self.old.broken }
+        ensures early { (nth : ℕ) → self.old.applied ≤ nth → nth < orders → IsTrue (is_early self.old (order_at self.old nth)) → IsSome self.new.broken }
     {
         self.judges(Rule::CoreZero, core > 0);
         for nth in self.applied..orders {
@@ -479,26 +497,33 @@ impl<'r> Case<'r> {
                 self.breaks(Rule::Due);
                 break;
             };
-            self.judges(Rule::Due, self.ended < order.after);
-            let of = u8::try_from(order.core).unwrap_or(u8::MAX);
-            let mut known = self.core(of);
-            if order.kind == OrderKind::Grant {
-                known.grants = known.grants.saturating_add(u64::from(known.is_closed));
-                known.is_closed = false;
-            } else {
-                known.is_closed = true;
-                known.was_closed = true;
-                known.owes_close = false;
-            }
-            self.set_core(of, known);
+            self.apply(*order);
         }
         self.applied = orders;
     }
 
-    /// Checks the report that threads were moved away from closed cores to the cores in `receivers`, which has a bit
-    /// for each. Only core 0 may report this.
+    /// Checks that the order is due, and carries it out.
+    fn apply(&mut self, order: CoreOrder)
+        ensures { self.new ≡ record self.old { cores = self.new.cores; counts = self.new.counts; broken = broken_by_order self.old order } }
+    {
+        self.judges(Rule::Due, self.ended < order.after);
+        let of = u8::try_from(order.core).unwrap_or(u8::MAX);
+        let mut known = self.core(of);
+        if order.kind == OrderKind::Grant {
+            known.grants = known.grants.saturating_add(u64::from(known.is_closed));
+            known.is_closed = false;
+        } else {
+            known.is_closed = true;
+            known.was_closed = true;
+            known.owes_close = false;
+        }
+        self.set_core(of, known);
+    }
+
+    /// Checks an entry, which only core 0 may write, that threads were moved from closed cores to `receivers` (a bit
+    /// mask).
     fn moved_away(&mut self, core: u8, receivers: u64)
-        ensures { self.new.broken ≡ broken_if (not (core == 0)) self.old.broken (record { rule = CoreZero; at = self.old.at }) }
+        ensures { self.new.broken ≡ broken_by_moves self.old core }
     {
         self.judges(Rule::CoreZero, core != 0);
         for receiver in 0..self.run.cores {

@@ -1,10 +1,9 @@
-//! Checks the log of a run in tests.
+//! Checks the log of a run, in tests.
 //!
-//! The crate records the events that workers report to the run's observer (`Gate`), and finds the first rule of a run
-//! that the log breaks. A *turn* of a thread is the time from when a worker takes it until the worker puts it back or
-//! ends it; it has one or more *slices* of some steps. A *scan* is a worker's pass over its core's slots. An *order*
-//! closes a core, which then takes no more threads, or opens it; the worker of core 0 carries out all orders. Other
-//! terms are in `docs/glossary.md`.
+//! The observer of a run (`Gate`) logs the events that workers report, and the judge finds the first rule that the log
+//! breaks. A *turn* of a thread lasts from when a worker takes the thread until the worker puts it back or ends it. A
+//! turn has one or more *slices* of some steps each. A *scan* is a worker's pass over its core's slots. An *order*
+//! closes a core, which then takes no more threads, or opens it again. Core 0 carries out all orders.
 #![tactic(auto)]
 
 mod case;

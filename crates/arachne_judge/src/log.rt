@@ -7,13 +7,11 @@ use boxcar::tag::Tag;
 use std::alloc::{AllocError, Global};
 use std::sync::atomic::{AtomicU64, Ordering};
 
-/// An event of a core that is reported to the observer of a run (`Gate`), as an entry of a log has it.
 #[derive(Clone, Copy, Debug, PartialEq, Eq)]
 pub enum What {
-    /// The core is about to begin its slice of this number, counted from 0.
+    /// The core is about to begin the slice with this number, counted from 0.
     Slice(u64),
-    /// The core's worker has taken this thread to run it. The second field is true if the thread has the core to
-    /// itself.
+    /// The core's worker has taken this thread. The second field is true if the thread has the core to itself.
     Turn(ThreadId, bool),
     Told(WorkerEvent),
 }
@@ -24,7 +22,6 @@ pub struct Entry {
     pub what: What,
 }
 
-/// The rule of a log's entries: any event may be an entry.
 pub struct AnyEvent;
 
 impl SlotRule<Entry> for AnyEvent {
@@ -33,8 +30,7 @@ impl SlotRule<Entry> for AnyEvent {
 
 /// A log of the events that the cores of a run report to the run's observer (`Gate`).
 ///
-/// The kernel threads of all cores write to the log at the same time. Events for which there is no room are counted but
-/// not stored.
+/// All cores write to the log at the same time. Events for which there is no room are counted but not stored.
 #[derive(Drop)]
 pub struct Log {
     entries: Vec<OnceSlot<Entry, AnyEvent>>,
@@ -55,12 +51,12 @@ impl Log {
         })
     }
 
-    /// Returns the number of entries, including those that were not stored for want of room.
+    /// Returns the number of events, including those that were not stored for want of room.
     pub fn count(&self) -> u64 {
         self.count.load(Ordering::SeqCst)
     }
 
-    /// Returns whether all entries were stored.
+    /// Returns true if the log had room for all events.
     pub fn is_whole(&self) -> bool {
         self.count() <= self.entries.len() as u64
     }
@@ -84,7 +80,7 @@ impl Log {
         self.note(core, What::Told(event));
     }
 
-    /// Returns the entry of number `at`, counted from 0, if it is stored.
+    /// Returns the entry with the number `at`, counted from 0, if the entry was stored.
     pub fn entry(&self, at: usize) -> Option<Entry> {
         self.entries.get(at)?.get().copied()
     }

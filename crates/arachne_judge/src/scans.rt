@@ -5,35 +5,31 @@ ghost use Rattle.std.specs.Prelude.{◌≡◌, ◌≤◌, ◌<◌, ◌+◌, ◌�
 
 use crate::rules::Run;
 
-/// The facts that the log has shown so far about the core's scans (the worker's passes over the core's slots) and about
-/// its slots.
-#[derive(Drop)]
+/// The facts that the log has shown so far about a worker's scans (passes over the core's slots) and about the slots.
+#[derive(Default, Drop)]
 pub(crate) struct Scans {
-    /// True if the order of threads in a scan can be checked: there is one core, and no lock whose next holder would
-    /// run before others.
+    /// True if the order of threads in a scan (pass over the slots) can be checked, since there is one core and no
+    /// lock.
     is_judged: bool,
-    /// True if the use of slots can be checked too: the worker keeps no slots for later children.
+    /// True if the use of slots can be checked too, since the worker claims no slots in advance.
     are_places: bool,
     slots: u64,
-    /// The slot of the thread that the worker took last.
     last: Option<u32>,
-    /// The index of a slot that has a ready thread and that the current scan must still reach, if one is known.
+    /// The slot of a ready thread that the current scan (pass over the slots) must still reach, if one is known.
     due: Option<u32>,
     /// The number of threads that are known to be on the core.
     threads: u64,
-    /// The number of threads that no entry has named, but that must be on the core, because a child waits for a slot.
-    /// The worker takes each of them before the next scan ends.
+    /// The number of threads that no entry has named yet, but that must be on the core, since a child waits for a slot.
     unseen: u64,
-    /// The number of scans that have begun since a child began to wait for a slot.
+    /// The number of scans (passes over the slots) that have begun since a child began to wait for a slot.
     scans: u32,
 }
 
-/// The result of `turn`: whether a new scan has begun, and the mistakes in the scan before it.
-#[derive(Clone, Copy)]
+#[derive(Clone, Copy, Default)]
 pub(crate) struct TurnFindings {
-    /// True if a new scan has begun.
+    /// True if a new scan (pass over the slots) has begun.
     pub(crate) is_judged: bool,
-    /// True if the previous scan has not taken a thread that was ready.
+    /// True if the previous scan (pass over the slots) has missed a ready thread.
     pub(crate) is_downward: bool,
     /// True if a child has waited for a slot although one was free.
     pub(crate) was_free: bool,
@@ -46,25 +42,19 @@ impl Scans {
             is_judged,
             are_places: is_judged && run.has_exclusive,
             slots: u64::from(run.slots),
-            last: None,
-            due: None,
-            threads: 0,
-            unseen: 0,
-            scans: 0,
+            ..Scans::default()
         }
     }
 
-    /// Returns the slot of the thread that the worker took last.
     pub(crate) fn last(&self) -> Option<u32> {
         self.last
     }
 
-    /// Records that a thread of the core has ended.
     pub(crate) fn ended(&mut self) {
         self.threads = self.threads.saturating_sub(1);
     }
 
-    /// Records that a child waits for a slot. Returns whether this run's use of slots is checked.
+    /// Returns true if the run's use of slots is checked.
     pub(crate) fn spilled(&mut self) -> bool
         ensures { result ≡ self.old.are_places }
     {
@@ -78,20 +68,14 @@ impl Scans {
         true
     }
 
-    /// Records that the worker has taken the thread in slot `index`.
-    ///
     /// `goes_on` is true if the thread that the worker took before this one is still ready. `is_first` is true if the
-    /// worker takes this thread for the first time.
+    /// thread in slot `index` is taken for the first time.
     pub(crate) fn turn(&mut self, index: u32, goes_on: bool, is_first: bool) -> TurnFindings
         ensures downward { IsTrue result.is_downward ↔ (result.is_judged ≡ true) × IsSome self.old.due }
         ensures free { IsTrue result.was_free ↔ (result.is_judged ≡ true) × (0 < self.old.unseen) × (1 < min (self.old.scans + 1) u32.MAX) }
         ensures judged { IsTrue result.is_judged ↔ (self.old.is_judged ≡ true) × IsSome self.old.last × IfSome self.old.last (λ last. index ≤ last) }
     {
-        let mut found = TurnFindings {
-            is_judged: false,
-            is_downward: false,
-            was_free: false,
-        };
+        let mut found = TurnFindings::default();
         if !self.is_judged {
             return found;
         }

@@ -1,5 +1,6 @@
 //! The facts about one thread that the entries of a log read so far have shown.
-ghost use Rattle.std.specs.Prelude.{◌≡◌, ◌↔◌, IsTrue};
+ghost use Rattle.std.specs.Prelude.{◌≡◌};
+ghost use Rattle.arachne_judge.specs.Breaks.{has_ended, is_in_hand};
 
 use arachne_core::ThreadId;
 use arachne_workers::SliceEnd;
@@ -8,30 +9,23 @@ use arachne_workers::SliceEnd;
 #[derive(Clone, Copy)]
 pub(crate) struct ThreadFacts {
     pub(crate) id: ThreadId,
-    /// The core of the thread's last turn (the time from when a worker took it until the worker put it back).
+    /// The core on which a worker last took the thread.
     pub(crate) core: u8,
-    /// The number of the log entry that reports the start of the thread's last turn.
     pub(crate) turned: usize,
-    /// The core whose worker has reported, since the thread's last turn, that it has moved the thread to its core, or
-    /// will run it next without moving it.
+    /// The core whose worker has reported, since the thread was last taken, that it has moved the thread there or will
+    /// run it.
     pub(crate) pulled: Option<u8>,
-    /// If the worker of another core runs the thread: the core on which the thread's slot is.
+    /// The core on which the thread's slot is, if the worker of another core runs the thread.
     pub(crate) home: Option<u8>,
     pub(crate) is_in_slice: bool,
-    /// The reason why the thread's last slice has ended.
     pub(crate) end: SliceEnd,
-    /// The number of reported wakes of the thread after which it has not continued yet.
     pub(crate) woken: u64,
-    /// If the thread's core has parked since the thread's last turn: 1 plus the number of the core's last entry before
-    /// that park; otherwise 0.
-    ///
-    /// The thread must have been moved away between that entry and the park.
+    /// The number of the core's last entry before the core parked, plus 1; or 0 if the core has not parked since the
+    /// thread's last turn. The thread must have left between that entry and the park.
     pub(crate) left: usize,
 }
 
 impl ThreadFacts {
-    /// Returns the facts about a thread that a worker takes for the first time, on `core`, as the entry of number `at`
-    /// reports.
     pub(crate) fn new(id: ThreadId, core: u8, at: usize) -> ThreadFacts {
         ThreadFacts {
             id,
@@ -46,15 +40,21 @@ impl ThreadFacts {
         }
     }
 
-    /// Returns the core on which the thread's slot was in its last turn (when a worker took it last).
+    /// Returns the core on which the thread's slot was when a worker last took the thread.
     pub(crate) fn place(&self) -> u8 {
         self.home.unwrap_or(self.core)
     }
 
-    /// Returns whether the thread has ended.
     pub(crate) fn has_ended(&self) -> bool
-        ensures { IsTrue result ↔ self.now.end ≡ SliceEnd.Ended }
+        ensures { result ≡ has_ended self.now.end }
     {
-        self.end == SliceEnd::Ended
+        matches!(self.end, SliceEnd::Ended)
+    }
+
+    /// Returns true if a slice of the thread may begin on `core`.
+    pub(crate) fn is_in_hand(&self, core: u8) -> bool
+        ensures { result ≡ is_in_hand core self.now }
+    {
+        self.core == core && !self.is_in_slice && !self.has_ended()
     }
 }

@@ -1,19 +1,12 @@
 -- The growth of the accounts of an evaluation.
-use Rattle.std.proofs.Common.{◌≡◌, ℕ, zero, suc, ◌+◌, ◌^◌, ◌<◌, ◌≤◌, List, [], ◌∷◌, ◌++◌, length, get_or, take, drop, Vec, Global, Bool, true, false, refl, ap, sym, ◌∙◌, subst, arith, append_assoc, append-nil, length-append, add-one, inl, inr}
-use Rattle.std.specs.Prelude.{◌==◌}
-use Rattle.std.specs.Cmp.{unsigned_Decides}
-use Rattle.std.proofs.Math.ListN.{set, replicate, get_or-append}
-use Rattle.std.proofs.Math.Seq.{set-append_seam, get_or-append_seam, take-length}
-use Rattle.std.specs.Vec.{with_items}
-use Rattle.std.proofs.lemmas.Bool.{cases_eq}
+use Rattle.std.proofs.Common.{◌≡◌, ℕ, zero, suc, ◌+◌, ◌^◌, ◌<◌, ◌≤◌, List, [], ◌∷◌, ◌++◌, length, get_or, take, drop, Vec, Global, Bool, true, false, refl, ap, sym, ◌∙◌, subst, arith, append_assoc, append-nil, length-append, add-one, inl, inr, ◌==◌}
+use Rattle.std.{specs.{Cmp.unsigned_Decides, Vec.with_items}, proofs.Math.ListN.{set, replicate, get_or-append}}
+use Rattle.std.proofs.{Math.Seq.{set-append_seam, get_or-append_seam, take-length}, lemmas.Bool.cases_eq}
 use Rattle.std.proofs.lemmas.List.{ext_get_or, get_or-set_same, get_or-set_other, length-set, set_past, take-append-le}
-use Rattle.std.proofs.Math.Nat.{mod-add-mod}
-use Rattle.std.proofs.lemmas.Grind.{replicate_next}
-use Rattle.arachne_lang.specs.declared.evaluator.Own.{Own}
-use Rattle.arachne_program.specs.declared.meaning.Line.{Line}
-use Rattle.arachne_program.specs.Value.{wrapped}
+use Rattle.std.proofs.{Math.Nat.mod-add-mod, lemmas.Grind.replicate_next}
+use Rattle.arachne_lang.specs.{declared.evaluator.Own.Own, Evaluation.{Gains, HasDone, HasEnded}}
+use Rattle.arachne_program.specs.{declared.meaning.Line.Line, Value.wrapped}
 use Rattle.arachne_program.specs.Effects.{Effects, Child, nothing, ◌⨾◌, tallied, held, forked, tabulated, line_of}
-use Rattle.arachne_lang.specs.Evaluation.{Gains, HasDone, HasEnded}
 
 pub tabulated-same : (count : ℕ) (f g : ℕ → ℕ) → ((k : ℕ) → f k ≡ g k) → tabulated count f ≡ tabulated count g
 tabulated-same zero f g same = refl

@@ -1,24 +1,15 @@
 -- The effects of an expression are the sum of the effects of its parts.
-use Rattle.std.proofs.Common.{◌≡◌, ℕ, zero, suc, ◌+◌, ◌-◌, ◌*◌, ◌/◌, ◌^◌, ◌<◌, ◌≤◌, List, [], ◌∷◌, ◌++◌, length, Bool, true, false, refl, ap, sym, ◌∙◌, subst, arith, append_assoc, length-append, add-one, max, take}
-use Rattle.std.specs.Prelude.{◌==◌, if◌then◌else◌, nat_le}
-use Rattle.std.proofs.Math.ListN.{set, replicate}
-use Rattle.std.proofs.Math.Seq.{set-append_seam, take-append_seam}
-use Rattle.std.proofs.Math.Nat.{two-pow-succ}
+use Rattle.std.proofs.Common.{◌≡◌, ℕ, zero, suc, ◌+◌, ◌-◌, ◌*◌, ◌/◌, ◌^◌, ◌<◌, ◌≤◌, List, [], ◌∷◌, ◌++◌, length, Bool, true, false, refl, ap, sym, ◌∙◌, subst, arith, append_assoc, length-append, add-one, max, take, ◌==◌, if◌then◌else◌, nat_le}
+use Rattle.std.proofs.Math.{ListN.{set, replicate}, Seq.{set-append_seam, take-append_seam}, Nat.two-pow-succ}
 use Rattle.std.proofs.lemmas.Bool.Decides.{nat_tests}
-use Rattle.arachne_lang.specs.declared.evaluator.Own.{Own}
-use Rattle.arachne_lang.specs.declared.evaluator.Shared.{Shared}
-use Rattle.arachne_program.specs.declared.meaning.Line.{Line}
-use Rattle.arachne_program.specs.declared.program.Class.{Class}
-use Rattle.arachne_program.specs.declared.program.Operation.{Operation}
-use Rattle.arachne_program.specs.declared.program.Reduction.{Reduction}
+use Rattle.arachne_lang.{specs.declared.evaluator.{Own.Own, Shared.Shared}, proofs.Reductions.over-halves}
+use Rattle.arachne_lang.specs.Evaluation.{Gains, HasDone, HasEnded, IsEvaluated, IsRun, folded, folded_effects, IsFolded, reduced, reduced_effects, IsReduced, halved_effects, IsHalved, IsHalfRun, MaySplit}
+use Rattle.arachne_lang.proofs.Accounts.{Gains-all, HasDone-nothing, HasDone-then, HasDone-tallied, HasDone-held, HasDone-forked, HasEnded-line}
+use Rattle.arachne_program.specs.declared.{meaning.Line.Line, program.{Class.Class, Operation.Operation}}
+use Rattle.arachne_program.specs.{declared.program.Reduction.Reduction, Nesting.nesting, Meaning.meaning_of}
 use Rattle.arachne_program.specs.Tree.{Tree, Source, Binary, Choose, Bind, Tally, Hold, Fork, Fold, Sweep}
 use Rattle.arachne_program.specs.Value.{Environment, apply, operation_of, unit_of, value_of, with_newest}
 use Rattle.arachne_program.specs.Effects.{Effects, Evaluate, half, effects_of, ◌⨾◌, tallied, held, forked, tabulated, line_of}
-use Rattle.arachne_program.specs.Nesting.{nesting}
-use Rattle.arachne_program.specs.Meaning.{meaning_of}
-use Rattle.arachne_lang.specs.Evaluation.{Gains, HasDone, HasEnded, IsEvaluated, IsRun, folded, folded_effects, IsFolded, reduced, reduced_effects, IsReduced, halved_effects, IsHalved, IsHalfRun, MaySplit}
-use Rattle.arachne_lang.proofs.Accounts.{Gains-all, HasDone-nothing, HasDone-then, HasDone-tallied, HasDone-held, HasDone-forked, HasEnded-line}
-use Rattle.arachne_lang.proofs.Reductions.{over-halves}
 
 module _ (program : Source) where
   abbrev value : Tree → Environment → ℕ

@@ -1,20 +1,15 @@
 -- An expression is read exactly: each fault is at its byte.
-use Rattle.std.proofs.Common.{◌≡◌, ℕ, zero, suc, List, [], ◌∷◌, ◌++◌, Some, Err, refl, sym, ap, subst, ◌∙◌, lit<}
-use Rattle.std.specs.Prelude.{◌==◌, if◌then◌else◌, Bool, true, false, codes}
-use Rattle.std.proofs.lemmas.Bool.{eqb-true, eqb-false}
-use Rattle.std.proofs.lemmas.List.{append_cancel_left}
-use Rattle.arachne_lang.specs.declared.reading.heads.Head.{Head}
-use Rattle.arachne_lang.specs.declared.reading.heads.Head.TheVariants as head
-use Rattle.arachne_program.specs.Tree.{Tree, Number}
-use Rattle.arachne_lang.specs.Spelling.{spelling}
-use Rattle.arachne_lang.specs.Text.{NumbersFit}
-use Rattle.arachne_lang.specs.Reading.{Departs, TooDeep, Reading, words_at, form_words, behind_word_at, form_at, expression_at}
-use Rattle.arachne_lang.proofs.Languages.{Language, first, Departure, Deepening, Exact, Residual, Exact-residual, byte_residual, same_residual, sequence, exact_sequence, after}
-use Rattle.arachne_lang.proofs.ExactWords.{vocabulary}
+use Rattle.std.proofs.Common.{◌≡◌, ℕ, zero, suc, List, [], ◌∷◌, ◌++◌, Some, Err, refl, sym, ap, subst, ◌∙◌, lit<, ◌==◌, if◌then◌else◌, Bool, true, false, codes}
+use Rattle.std.proofs.lemmas.{Bool.{eqb-true, eqb-false}, List.append_cancel_left}
+use Rattle.arachne_lang.proofs.ExactForms.{Exactly, contents, contents_at, exact_contents, contents_shown, contents_of_shown, range_contents_shown, range_of_contents_shown}
+use Rattle.arachne_lang.proofs.{ExactWords.vocabulary, ExpressionTexts.{expression, opens}}
 use Rattle.arachne_lang.proofs.Forms.{contents_text, kind_of, made, word_of, formed, made-text, made-fits, fits-made}
 use Rattle.arachne_lang.proofs.HeadWords.{heads, exact_head, spelled, word_spelled}
-use Rattle.arachne_lang.proofs.ExpressionTexts.{expression, opens}
-use Rattle.arachne_lang.proofs.ExactForms.{Exactly, contents, contents_at, exact_contents, contents_shown, contents_of_shown, range_contents_shown, range_of_contents_shown}
+use Rattle.arachne_lang.proofs.Languages.{Language, first, Departure, Deepening, Exact, Residual, Exact-residual, byte_residual, same_residual, sequence, exact_sequence, after}
+use Rattle.arachne_lang.specs.Reading.{Departs, TooDeep, Reading, words_at, form_words, behind_word_at, form_at, expression_at}
+use Rattle.arachne_lang.specs.{Spelling.spelling, Text.NumbersFit, declared.reading.heads.Head.Head}
+use Rattle.arachne_lang.specs.declared.reading.heads.Head.TheVariants as head
+use Rattle.arachne_program.specs.Tree.{Tree, Number}
 
 -- ---- a form
 
@@ -22,17 +17,7 @@ use Rattle.arachne_lang.proofs.ExactForms.{Exactly, contents, contents_at, exact
 form_is : (h : Head) (tree_at : List ℕ → Reading Tree) (bytes : List ℕ) → contents_at (kind_of h) (made h) tree_at bytes ≡ behind_word_at tree_at h bytes
 unfolding behind_word_at
 form_is head.Num tree_at bytes = refl
-form_is head.Var tree_at bytes = refl
-form_is head.Len tree_at bytes = refl
-form_is head.Item tree_at bytes = refl
-form_is (head.Binary operation) tree_at bytes = refl
-form_is head.If tree_at bytes = refl
-form_is head.Let tree_at bytes = refl
-form_is head.Tally tree_at bytes = refl
-form_is head.Hold tree_at bytes = refl
-form_is (head.Fork class) tree_at bytes = refl
-form_is head.Fold tree_at bytes = refl
-form_is (head.Sweep reduction) tree_at bytes = refl
+form_is _ tree_at bytes = refl
 
 -- behind the opening bracket
 unfoldable forms : Language Tree

@@ -1,16 +1,12 @@
 -- The rest of a form behind its word is read exactly.
-use Rattle.std.proofs.Common.{◌≡◌, ℕ, zero, suc, ◌^◌, ◌<◌, List, [], ◌++◌, Some, Ok, refl, sym, ap, subst, ◌∙◌, append_assoc, lit<}
-use Rattle.std.specs.Prelude.{codes}
-use Rattle.std.proofs.lemmas.List.{append-nil}
+use Rattle.std.proofs.Common.{◌≡◌, ℕ, zero, suc, ◌^◌, ◌<◌, List, [], ◌++◌, Some, Ok, refl, sym, ap, subst, ◌∙◌, append_assoc, lit<, codes, append-nil}
 use Rattle.arachne_program.specs.Tree.{Tree, Number}
-use Rattle.arachne_lang.specs.Spelling.{numeral, spelling}
-use Rattle.arachne_lang.specs.Text.{NumbersFit}
-use Rattle.arachne_lang.specs.Reading.{Reading, ◌>>=◌, word_at, number_at, part_at}
-use Rattle.arachne_lang.proofs.Numerals.{bracket_is_no_digit, space_is_no_digit}
-use Rattle.arachne_lang.proofs.Languages.{levels_behind, Language, Exact, Exact-residual, same_residual, sequence, exact_sequence, nothing_more, exact_nothing_more, behind_word, exact_word}
-use Rattle.arachne_lang.proofs.ExactNumber.{number_before, exact_number}
-use Rattle.arachne_lang.proofs.Forms.{Values, Each, joined, Kind, Numeral, Parts, Both, Contents, contents_text, Fit}
+use Rattle.arachne_lang.{proofs.ExactNumber.{number_before, exact_number}, specs.Text.NumbersFit}
 use Rattle.arachne_lang.proofs.ExpressionTexts.{expression, spelling-unique}
+use Rattle.arachne_lang.proofs.Forms.{Values, Each, joined, Kind, Numeral, Parts, Both, Contents, contents_text, Fit}
+use Rattle.arachne_lang.proofs.Languages.{levels_behind, Language, Exact, Exact-residual, same_residual, sequence, exact_sequence, nothing_more, exact_nothing_more, behind_word, exact_word}
+use Rattle.arachne_lang.proofs.Numerals.{bracket_is_no_digit, space_is_no_digit}
+use Rattle.arachne_lang.specs.{Reading.{Reading, ◌>>=◌, word_at, number_at, part_at}, Spelling.{numeral, spelling}}
 
 -- An expression is read exactly with this many levels left.
 abbrev pub Exactly : ℕ → (List ℕ → Reading Tree) → Type 0

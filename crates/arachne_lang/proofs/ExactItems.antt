@@ -1,11 +1,8 @@
 -- The items of an array are read exactly.
-use Rattle.std.proofs.Common.{◌≡◌, ℕ, zero, suc, ◌^◌, ◌<◌, List, [], ◌∷◌, ◌++◌, length, Option, Some, Ok, Err, refl, sym, ap, subst, ◌∙◌, append_assoc, arith, lit<}
-use Rattle.std.specs.Prelude.{◌==◌, if◌then◌else◌, Bool, true, false, map}
-use Rattle.std.specs.List.{AllByRecursion}
-use Rattle.std.proofs.lemmas.Bool.{eqb-true, eqb-false}
-use Rattle.std.proofs.lemmas.List.{append-nil, append_cancel_left}
-use Rattle.arachne_lang.specs.Spelling.{numeral, after_spaces}
-use Rattle.arachne_lang.specs.Reading.{Departs, ◌>>=◌, figures_at, items_at}
+use Rattle.std.proofs.Common.{◌≡◌, ℕ, zero, suc, ◌^◌, ◌<◌, List, [], ◌∷◌, ◌++◌, length, Option, Some, Ok, Err, refl, sym, ap, subst, ◌∙◌, append_assoc, arith, lit<, ◌==◌, if◌then◌else◌, Bool, true, false, map, append-nil}
+use Rattle.std.{specs.List.AllByRecursion, proofs.lemmas.Bool.{eqb-true, eqb-false}}
+use Rattle.std.proofs.lemmas.List.{append_cancel_left}
+use Rattle.arachne_lang.specs.{Spelling.{numeral, after_spaces}, Reading.{Departs, ◌>>=◌, figures_at, items_at}}
 use Rattle.arachne_lang.proofs.Numerals.{NoDigit, space_is_no_digit, newline_is_no_digit}
 use Rattle.arachne_lang.proofs.Languages.{Language, first, Departure, Exact, Residual, Exact-residual, byte_residual}
 use Rattle.arachne_lang.proofs.ExactNumber.{Ends, Shaped, Ranged, numbered, exact_numbered, numeral-apart}

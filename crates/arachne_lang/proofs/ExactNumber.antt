@@ -1,8 +1,6 @@
 -- A number is read exactly: each fault is at its byte.
-use Rattle.std.proofs.Common.{◌≡◌, ℕ, ◌+◌, ◌-◌, ◌*◌, ◌<◌, ◌≤◌, List, [], ◌∷◌, ◌++◌, length, Some, Result, Ok, Err, refl, sym, ap, subst, ◌∙◌, append_assoc, arith, inl, inr}
-use Rattle.std.specs.Prelude.{◌==◌, ◌&&◌, nat_le, nat_lt, if◌then◌else◌, Bool, true, false}
+use Rattle.std.proofs.Common.{◌≡◌, ℕ, ◌+◌, ◌-◌, ◌*◌, ◌<◌, ◌≤◌, List, [], ◌∷◌, ◌++◌, length, Some, Result, Ok, Err, refl, sym, ap, subst, ◌∙◌, append_assoc, arith, inl, inr, ◌==◌, ◌&&◌, nat_le, nat_lt, if◌then◌else◌, Bool, true, false, append-nil}
 use Rattle.std.proofs.lemmas.Bool.{eqb-true, eqb-false, ne_eqb, leb-true, leb-false, ltb-true, ltb-false, and_parts, and_cases}
-use Rattle.std.proofs.lemmas.List.{append-nil}
 use Rattle.arachne_lang.specs.Spelling.{numeral}
 use Rattle.arachne_lang.specs.Reading.{Halt, Departs, Overflows, ◌>>=◌, word_at, digits_at, figures_at, number_at}
 use Rattle.arachne_lang.proofs.Numerals.{IsDigit, AreDigits, NoDigit, numeral-digit, numeral-more, numeral-AreDigits, numeral-unique, numeral-not_empty, worth, worth-append, worth-grows, worth-numeral, digits_before, zero_first}

@@ -1,21 +1,16 @@
 -- The text of a program is read exactly.
-use Rattle.std.proofs.Common.{◌≡◌, ℕ, zero, suc, ◌<◌, List, [], ◌∷◌, ◌++◌, length, Option, Some, Result, Ok, Err, refl, sym, ap, subst, ◌∙◌, append_assoc, arith, lit<}
-use Rattle.std.specs.Prelude.{◌==◌, Bool, true, false, codes}
-use Rattle.std.specs.List.{AllByRecursion, flat_map}
-use Rattle.std.proofs.lemmas.Bool.{eqb-true, eqb-false}
-use Rattle.std.proofs.lemmas.List.{append-nil, append_cancel_left}
+use Rattle.std.proofs.Common.{◌≡◌, ℕ, zero, suc, ◌<◌, List, [], ◌∷◌, ◌++◌, length, Option, Some, Result, Ok, Err, refl, sym, ap, subst, ◌∙◌, append_assoc, arith, lit<, ◌==◌, Bool, true, false, codes, append-nil}
+use Rattle.std.{specs.List.{AllByRecursion, flat_map}, proofs.lemmas.Bool.{eqb-true, eqb-false}}
+use Rattle.std.proofs.lemmas.List.{append_cancel_left}
 use Rattle.arachne_program.specs.Tree.{Tree, Number, Source}
+use Rattle.arachne_lang.proofs.{ArraySteps.{line_more, lines_end, line_shorter}, ExactExpression.exact_expression}
+use Rattle.arachne_lang.proofs.ExactItems.{items_text, items_text-more, items_text-unique, InRange, items_behind, exact_items}
+use Rattle.arachne_lang.proofs.{ExactNumber.{number_before, exact_number}, ExpressionTexts.expression}
+use Rattle.arachne_lang.proofs.Languages.{levels_behind, first, Language, same_residual, Exact, Exact-residual, Exact-among, sequence, exact_sequence, exact_sequence_on, nothing_more, exact_nothing_more, behind_word, exact_word}
+use Rattle.arachne_lang.proofs.{Levels.{nesting_within, levels_of_tree, levels_numeral}, Numerals.newline_is_no_digit}
+use Rattle.arachne_lang.specs.Reading.{Halt, Reading, ◌>>=◌, word_at, number_at, expression_at, items_at, arrays_at, lines_at, source_at}
 use Rattle.arachne_lang.specs.Spelling.{numeral, spelling, line, header, text_of}
 use Rattle.arachne_lang.specs.Text.{NumbersFit, IsInRange, IsAccepted, StartsWith}
-use Rattle.arachne_lang.specs.Reading.{Halt, Reading, ◌>>=◌, word_at, number_at, expression_at, items_at, arrays_at, lines_at, source_at}
-use Rattle.arachne_lang.proofs.Numerals.{newline_is_no_digit}
-use Rattle.arachne_lang.proofs.Languages.{levels_behind, first, Language, same_residual, Exact, Exact-residual, Exact-among, sequence, exact_sequence, exact_sequence_on, nothing_more, exact_nothing_more, behind_word, exact_word}
-use Rattle.arachne_lang.proofs.ExactNumber.{number_before, exact_number}
-use Rattle.arachne_lang.proofs.ExpressionTexts.{expression}
-use Rattle.arachne_lang.proofs.ExactExpression.{exact_expression}
-use Rattle.arachne_lang.proofs.ArraySteps.{line_more, lines_end, line_shorter}
-use Rattle.arachne_lang.proofs.ExactItems.{items_text, items_text-more, items_text-unique, InRange, items_behind, exact_items}
-use Rattle.arachne_lang.proofs.Levels.{nesting_within, levels_of_tree, levels_numeral}
 
 -- ---- the lines behind the arrays
 
@@ -169,9 +164,6 @@ lines_of_range arrays s t e ledgers locks root text = (
 
 abbrev pub arrays_text : List (List ℕ) → List ℕ
 arrays_text arrays = flat_map (line (codes "array")) arrays
-
-array_line : (array : List ℕ) → line (codes "array") array ≡ codes "array" ++ items_text array
-array_line array = refl
 
 arrays_text-more : (array : List ℕ) (arrays : List (List ℕ)) (x : List ℕ) → arrays_text (array ∷ arrays) ++ x ≡ codes "array" ++ (items_text array ++ (arrays_text arrays ++ x))
 arrays_text-more array arrays x =

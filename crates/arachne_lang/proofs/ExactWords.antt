@@ -1,8 +1,6 @@
 -- Words that their letters distinguish are read exactly.
-use Rattle.std.proofs.Common.{◌≡◌, ℕ, zero, suc, List, [], ◌∷◌, ◌++◌, Option, Some, None, refl, sym, ap, subst, ◌∙◌, append_assoc, inl, inr}
-use Rattle.std.specs.Prelude.{◌==◌, ◌&&◌, if◌then◌else◌, Bool, true, false, ◌⊎◌}
-use Rattle.std.proofs.lemmas.Bool.{eqb-true, eqb-false, and_parts}
-use Rattle.std.proofs.lemmas.List.{append_cancel_left, append-nil}
+use Rattle.std.proofs.Common.{◌≡◌, ℕ, zero, suc, List, [], ◌∷◌, ◌++◌, Option, Some, None, refl, sym, ap, subst, ◌∙◌, append_assoc, inl, inr, ◌==◌, ◌&&◌, if◌then◌else◌, Bool, true, false, ◌⊎◌, append-nil}
+use Rattle.std.proofs.lemmas.{Bool.{eqb-true, eqb-false, and_parts}, List.append_cancel_left}
 use Rattle.arachne_lang.specs.Reading.{Words, End, Behind, Letter, words_at}
 use Rattle.arachne_lang.proofs.Languages.{level_behind, levels_behind, Language, first, Exact, Residual, Exact-residual, Exact-among, byte_residual, same_residual, behind_word, exact_word}
 

@@ -1,16 +1,11 @@
 -- No expression begins another.
-use Rattle.std.proofs.Common.{◌≡◌, ℕ, zero, suc, List, [], ◌∷◌, ◌++◌, refl, sym, ap, subst, ◌∙◌, append_assoc, lit<}
-use Rattle.std.specs.Prelude.{codes}
+use Rattle.std.proofs.Common.{◌≡◌, ℕ, zero, suc, List, [], ◌∷◌, ◌++◌, refl, sym, ap, subst, ◌∙◌, append_assoc, lit<, codes}
 use Rattle.std.proofs.lemmas.List.{append_cancel_left}
-use Rattle.arachne_lang.specs.declared.reading.heads.Head.{Head}
-use Rattle.arachne_program.specs.Tree.{Tree, Number}
-use Rattle.arachne_lang.specs.Spelling.{numeral, spelling}
-use Rattle.arachne_lang.specs.Text.{NumbersFit}
-use Rattle.arachne_lang.proofs.Numerals.{NoDigit, bracket_is_no_digit, space_is_no_digit}
-use Rattle.arachne_lang.proofs.Languages.{Language}
-use Rattle.arachne_lang.proofs.ExactNumber.{number_before}
+use Rattle.arachne_lang.specs.{declared.reading.heads.Head.Head, Spelling.{numeral, spelling}, Text.NumbersFit}
+use Rattle.arachne_lang.proofs.{Numerals.{NoDigit, bracket_is_no_digit, space_is_no_digit}, Languages.Language}
+use Rattle.arachne_lang.proofs.{ExactNumber.number_before, HeadWords.word-unique}
 use Rattle.arachne_lang.proofs.Forms.{Values, Each, joined, Kind, Numeral, Parts, Both, Contents, contents_text, EachPart, kind_of, made, word_of, formed, by_forms, made-text}
-use Rattle.arachne_lang.proofs.HeadWords.{word-unique}
+use Rattle.arachne_program.specs.Tree.{Tree, Number}
 
 -- numbers that end with the same byte
 same_number : (end : ℕ) → NoDigit end → (m n : ℕ) (x y : List ℕ) → numeral m ++ end ∷ x ≡ numeral n ++ end ∷ y → m ≡ n

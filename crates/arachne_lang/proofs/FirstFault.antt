@@ -13,7 +13,7 @@ use Rattle.arachne_program.specs.Tree.{Source}
 use Rattle.arachne_program.specs.Program.{source_of}
 use Rattle.arachne_lang.specs.Spelling.{header, text_of}
 use Rattle.arachne_lang.specs.Text.{IsInRange, IsAccepted, Begins, BeginsInRange, StartsWith, level, HasFault, byte_of, IsFirstFault}
-use Rattle.arachne_lang.specs.Reading.{Fails, fault_within, Halt, Departs, Overflows, TooDeep, ◌>>=◌, word_at, source_at, ended, program_at}
+use Rattle.arachne_lang.specs.Reading.{Fails, IsAtByte, fault_within, Halt, Departs, Overflows, TooDeep, ◌>>=◌, word_at, source_at, ended, program_at}
 use Rattle.arachne_lang.proofs.Languages.{levels_behind, Alive, first, Exact}
 use Rattle.arachne_lang.proofs.Levels.{level_within, level_left, level_more}
 use Rattle.arachne_lang.proofs.ExactProgram.{texts, exact_text, text_of-unique, accepted_within, levels_of_accepted, header_of}
@@ -356,11 +356,11 @@ said_every_text bytes (Err f) said source accepted text =
     ]
 
 -- the steps by which the code gets its result
-pub said_header : (bytes : List ℕ) (why : Stop) → (why ≡ stop.Memory → ⊥) → Fails why (word_at header bytes) → Said bytes (Err (fault.Header 0))
-said_header bytes stop.Memory no_memory e = absurd (no_memory refl)
-said_header bytes (stop.Departs rest) no_memory e = inr (judged_header bytes (Departs rest.now) e)
-said_header bytes (stop.Overflows rest) no_memory e = inr (judged_header bytes (Overflows rest.now) e)
-said_header bytes (stop.TooDeep rest) no_memory e = inr (judged_header bytes (TooDeep rest.now) e)
+pub said_header : (bytes : List ℕ) (why : Stop) → IsAtByte why → Fails why (word_at header bytes) → Said bytes (Err (fault.Header 0))
+said_header bytes stop.Memory at e = absurd at
+said_header bytes (stop.Departs rest) at e = inr (judged_header bytes (Departs rest.now) e)
+said_header bytes (stop.Overflows rest) at e = inr (judged_header bytes (Overflows rest.now) e)
+said_header bytes (stop.TooDeep rest) at e = absurd at
 
 pub said_program : (bytes rest : List ℕ) (p : Program) → word_at header bytes ≡ Ok rest → program_at rest ≡ Ok (source_of p) → Said bytes (Ok p)
 said_program bytes rest p at e = subst (λ (r : Result Source Halt). Judged bytes r) e (judged bytes rest at)

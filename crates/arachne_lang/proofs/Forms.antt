@@ -1,13 +1,10 @@
 -- A tree as the head of its form, its number if it has one, and its parts.
-use Rattle.std.proofs.Common.{◌≡◌, ℕ, zero, suc, ◌+◌, ◌^◌, ◌<◌, List, [], ◌∷◌, ◌++◌, refl, sym, ap, ◌∙◌, append_assoc}
-use Rattle.std.specs.Prelude.{codes, max}
-use Rattle.std.proofs.lemmas.List.{append-nil}
-use Rattle.arachne_lang.specs.declared.reading.heads.Head.{Head}
+use Rattle.std.proofs.Common.{◌≡◌, ℕ, zero, suc, ◌+◌, ◌^◌, ◌<◌, List, [], ◌∷◌, ◌++◌, refl, sym, ap, ◌∙◌, append_assoc, codes, max, append-nil}
+use Rattle.arachne_lang.specs.Spelling.{numeral, spelling, operation_word, class_word, reduction_word, after_spaces}
+use Rattle.arachne_lang.specs.{Text.NumbersFit, declared.reading.heads.Head.Head}
 use Rattle.arachne_lang.specs.declared.reading.heads.Head.TheVariants as head
 use Rattle.arachne_program.specs.Tree.{Tree, Number, Variable, Length, Item, Binary, Choose, Bind, Tally, Hold, Fork, Fold, Sweep}
-use Rattle.arachne_lang.specs.Spelling.{numeral, spelling, operation_word, class_word, reduction_word, after_spaces}
 use Rattle.arachne_program.specs.Nesting.{nesting}
-use Rattle.arachne_lang.specs.Text.{NumbersFit}
 
 -- ---- k + 1 trees
 
@@ -150,43 +147,27 @@ pub made-fits : (h : Head) (c : Contents (kind_of h)) → Fit (kind_of h) c → 
 made-fits head.Num c fit = fit
 made-fits head.Var c fit = fit
 made-fits head.Len c fit = fit
-made-fits head.Item c fit = (fit.0, fit.1)
-made-fits (head.Binary operation) c fit = (fit.0, fit.1)
 made-fits head.If c fit = (fit.0, fit.1.0, fit.1.1)
-made-fits head.Let c fit = (fit.0, fit.1)
 made-fits head.Tally c fit = (fit.0, fit.1.0, fit.1.1)
-made-fits head.Hold c fit = (fit.0, fit.1)
 made-fits (head.Fork class) c fit = (fit.0, fit.1.0, fit.1.1)
 made-fits head.Fold c fit = (fit.0, fit.1.0, fit.1.1.0, fit.1.1.1)
 made-fits (head.Sweep reduction) c fit = (fit.0, fit.1.0, fit.1.1.0, fit.1.1.1)
+made-fits _ c fit = (fit.0, fit.1)
 
 pub fits-made : (h : Head) (c : Contents (kind_of h)) → NumbersFit (made h c) → Fit (kind_of h) c
 fits-made head.Num c fit = fit
 fits-made head.Var c fit = fit
 fits-made head.Len c fit = fit
-fits-made head.Item c fit = (fit.0, fit.1)
-fits-made (head.Binary operation) c fit = (fit.0, fit.1)
 fits-made head.If c fit = (fit.0, (fit.1, fit.2))
-fits-made head.Let c fit = (fit.0, fit.1)
 fits-made head.Tally c fit = (fit.0, (fit.1, fit.2))
-fits-made head.Hold c fit = (fit.0, fit.1)
 fits-made (head.Fork class) c fit = (fit.0, (fit.1, fit.2))
 fits-made head.Fold c fit = (fit.0, (fit.1, (fit.2, fit.3)))
 fits-made (head.Sweep reduction) c fit = (fit.0, (fit.1, (fit.2, fit.3)))
+fits-made _ c fit = (fit.0, fit.1)
 
 pub made-nesting : (h : Head) (c : Contents (kind_of h)) → nesting (made h c) ≡ depth (kind_of h) c + 1
 made-nesting head.Num c = refl
-made-nesting head.Var c = refl
-made-nesting head.Len c = refl
-made-nesting head.Item c = refl
-made-nesting (head.Binary operation) c = refl
-made-nesting head.If c = refl
-made-nesting head.Let c = refl
-made-nesting head.Tally c = refl
-made-nesting head.Hold c = refl
-made-nesting (head.Fork class) c = refl
-made-nesting head.Fold c = refl
-made-nesting (head.Sweep reduction) c = refl
+made-nesting _ c = refl
 
 -- ---- texts
 

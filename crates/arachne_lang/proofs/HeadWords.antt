@@ -1,16 +1,13 @@
 -- The words of the forms are read exactly.
-use Rattle.std.proofs.Common.{◌≡◌, ℕ, List, [], ◌++◌, Some, Result, Ok, refl, sym, subst, ◌∙◌}
-use Rattle.std.specs.Prelude.{true}
-use Rattle.std.proofs.lemmas.List.{append-nil}
+use Rattle.std.proofs.Common.{◌≡◌, ℕ, List, [], ◌++◌, Some, Result, Ok, refl, sym, subst, ◌∙◌, true, append-nil}
 use Rattle.arachne_program.specs.declared.program.Class.TheVariants as class
 use Rattle.arachne_program.specs.declared.program.Operation.TheVariants as operation
 use Rattle.arachne_program.specs.declared.program.Reduction.TheVariants as reduction
+use Rattle.arachne_lang.proofs.ExactWords.{spells, spells-unique, are_told, vocabulary, exact_words, OfEach, of_each}
+use Rattle.arachne_lang.proofs.{Forms.word_of, Languages.{levels_behind, Language, Exact}}
+use Rattle.arachne_lang.specs.Reading.{Halt, words_at, form_words, words_in_f, words_in_i, words_in_l, words_in_m, words_in_s, words_of_sweeps, sweeps_in_m}
 use Rattle.arachne_lang.specs.declared.reading.heads.Head.{Head}
 use Rattle.arachne_lang.specs.declared.reading.heads.Head.TheVariants as head
-use Rattle.arachne_lang.specs.Reading.{Halt, words_at, form_words, words_in_f, words_in_i, words_in_l, words_in_m, words_in_s, words_of_sweeps, sweeps_in_m}
-use Rattle.arachne_lang.proofs.Languages.{levels_behind, Language, Exact}
-use Rattle.arachne_lang.proofs.ExactWords.{spells, spells-unique, are_told, vocabulary, exact_words, OfEach, of_each}
-use Rattle.arachne_lang.proofs.Forms.{word_of}
 
 pub form_words-told : are_told form_words ≡ true
 unfolding form_words words_in_f words_in_i words_in_l words_in_m words_in_s words_of_sweeps sweeps_in_m
@@ -19,30 +16,10 @@ form_words-told = refl
 -- each word is read
 again : (h : Head) → words_at form_words (word_of h) ≡ Ok (h, [])
 unfolding form_words words_in_f words_in_i words_in_l words_in_m words_in_s words_of_sweeps sweeps_in_m
-again head.Num = refl
-again head.Var = refl
-again head.Len = refl
-again head.Item = refl
 again (head.Binary operation.Add) = refl
-again (head.Binary operation.Sub) = refl
-again (head.Binary operation.Mul) = refl
-again (head.Binary operation.Min) = refl
-again (head.Binary operation.Max) = refl
-again (head.Binary operation.Xor) = refl
-again (head.Binary operation.Lt) = refl
-again (head.Binary operation.Eq) = refl
-again head.If = refl
-again head.Let = refl
-again head.Tally = refl
-again head.Hold = refl
 again (head.Fork class.Normal) = refl
-again (head.Fork class.Exclusive) = refl
-again head.Fold = refl
 again (head.Sweep reduction.Sum) = refl
-again (head.Sweep reduction.Product) = refl
-again (head.Sweep reduction.Parity) = refl
-again (head.Sweep reduction.Least) = refl
-again (head.Sweep reduction.Greatest) = refl
+again _ = refl
 
 -- and there is no other
 abbrev IsWord : Head → List ℕ → Type 0

@@ -1,8 +1,6 @@
 -- Languages of texts, and exact reading of a language.
-use Rattle.std.proofs.Common.{◌≡◌, ℕ, zero, suc, List, [], ◌∷◌, ◌++◌, Option, Some, None, Result, Ok, Err, refl, sym, ap, subst, ◌∙◌, append_assoc}
-use Rattle.std.specs.Prelude.{◌==◌, if◌then◌else◌, Bool, true, false}
-use Rattle.std.proofs.lemmas.Bool.{eqb-true, eqb-false}
-use Rattle.std.proofs.lemmas.List.{append-nil, append_cancel_left}
+use Rattle.std.proofs.Common.{◌≡◌, ℕ, zero, suc, List, [], ◌∷◌, ◌++◌, Option, Some, None, Result, Ok, Err, refl, sym, ap, subst, ◌∙◌, append_assoc, ◌==◌, if◌then◌else◌, Bool, true, false, append-nil}
+use Rattle.std.proofs.lemmas.{Bool.{eqb-true, eqb-false}, List.append_cancel_left}
 use Rattle.arachne_lang.specs.Reading.{Halt, Departs, Overflows, TooDeep, ◌>>=◌, word_at}
 
 -- ---- levels

@@ -1,20 +1,13 @@
 -- Levels: their relation to the counts of brackets, and the nesting of an expression's text.
-use Rattle.std.proofs.Common.{◌≡◌, ℕ, zero, suc, ◌+◌, ◌≤◌, ◌<◌, cond, List, [], ◌∷◌, ◌++◌, length, take, drop, Option, Some, None, refl, sym, ap, ◌∙◌, append_assoc, arith}
-use Rattle.std.specs.Prelude.{◌==◌, if◌then◌else◌, Bool, true, false, count_by, slice_index, codes}
-use Rattle.std.proofs.lemmas.Bool.{eqb-true, ne_eqb, eq-eqb}
+use Rattle.std.proofs.Common.{◌≡◌, ℕ, zero, suc, ◌+◌, ◌≤◌, ◌<◌, cond, List, [], ◌∷◌, ◌++◌, length, take, drop, Option, Some, None, refl, sym, ap, ◌∙◌, append_assoc, arith, ◌==◌, if◌then◌else◌, Bool, true, false, count_by, slice_index, codes, eqb-true, ne_eqb, eq-eqb}
 use Rattle.std.proofs.lemmas.List.{take-append-le, take-append-drop}
 use Rattle.std.proofs.lemmas.List.Sums.{sum_by-cons, count_by_more_no, count_by_more_yes}
-use Rattle.arachne_lang.specs.declared.reading.heads.Head.{Head}
-use Rattle.arachne_program.specs.Tree.{Tree}
-use Rattle.arachne_lang.specs.Spelling.{numeral, spelling}
-use Rattle.arachne_program.specs.Nesting.{nesting}
-use Rattle.arachne_lang.specs.Text.{level}
-use Rattle.arachne_lang.proofs.Numerals.{AreDigits, numeral-AreDigits}
+use Rattle.arachne_lang.specs.{declared.reading.heads.Head.Head, Spelling.{numeral, spelling}, Text.level}
+use Rattle.arachne_lang.proofs.{Numerals.{AreDigits, numeral-AreDigits}, ExactNumber.level_behind_digit}
 use Rattle.arachne_lang.proofs.Languages.{level_behind, levels_then, levels_behind, levels_behind-append, levels_between}
-use Rattle.arachne_lang.proofs.ExactNumber.{level_behind_digit}
 use Rattle.arachne_lang.proofs.Forms.{Values, Each, joined, deepest, Kind, Numeral, Parts, Both, Contents, contents_text, EachPart, depth, kind_of, made, word_of, by_forms, made-nesting}
-use Rattle.arachne_lang.proofs.HeadWords.{word-levels}
-use Rattle.arachne_lang.proofs.ExpressionTexts.{made-whole}
+use Rattle.arachne_lang.proofs.{HeadWords.word-levels, ExpressionTexts.made-whole}
+use Rattle.arachne_program.specs.{Tree.Tree, Nesting.nesting}
 
 -- ---- counts
 

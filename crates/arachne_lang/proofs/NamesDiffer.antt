@@ -1,14 +1,11 @@
 -- No name stands twice in a meaning: the threads that are forked below a thread have names that go on from its own, by
 -- a number of one of its forks.
-use Rattle.std.proofs.Common.{◌≡◌, ◌≢◌, ℕ, zero, suc, ◌+◌, ◌-◌, ◌/◌, ◌<◌, ◌≤◌, List, [], ◌∷◌, ◌++◌, length, refl, ap, sym, ◌∙◌, subst, arith, append_assoc, length-append, Bool, true, false, ◌⊎◌, inl, inr}
-use Rattle.std.specs.Prelude.{map, max, nat_le, ◌==◌, if◌then◌else◌, slice_index_or}
-use Rattle.std.specs.List.{AllByRecursion, AllPairs}
-use Rattle.std.proofs.lemmas.List.{append_cancel_left, map-append}
-use Rattle.arachne_program.specs.declared.meaning.Line.{Line}
-use Rattle.arachne_program.specs.Tree.{Tree, Number, Variable, Length, Item, Binary, Choose, Bind, Tally, Hold, Fork, Fold, Sweep, Source}
-use Rattle.arachne_program.specs.Value.{Environment, turns, value_of, with_newest}
+use Rattle.std.proofs.Common.{◌≡◌, ◌≢◌, ℕ, zero, suc, ◌+◌, ◌-◌, ◌/◌, ◌<◌, ◌≤◌, List, [], ◌∷◌, ◌++◌, length, refl, ap, sym, ◌∙◌, subst, arith, append_assoc, length-append, Bool, true, false, ◌⊎◌, inl, inr, map, max, nat_le, ◌==◌, if◌then◌else◌, slice_index_or}
+use Rattle.std.{specs.List.{AllByRecursion, AllPairs}, proofs.lemmas.List.{append_cancel_left, map-append}}
 use Rattle.arachne_program.specs.Effects.{Child, Evaluate, Effects, effects_of, ◌⨾◌, tallied, held, forked, half, turns_effects, halves, line_of}
 use Rattle.arachne_program.specs.Meaning.{meaning_of}
+use Rattle.arachne_program.specs.Tree.{Tree, Item, Binary, Choose, Bind, Tally, Hold, Fork, Fold, Sweep, Source}
+use Rattle.arachne_program.specs.{Value.{Environment, turns, value_of, with_newest}, declared.meaning.Line.Line}
 
 abbrev Name : Type 0
 Name = List ℕ
@@ -161,9 +158,6 @@ HasNames-halves locks task turn grain each (suc fuel) first n =
     (HasNames-halves locks task turn grain each fuel first (n / 2)) (HasNames-halves locks task turn grain each fuel (first + n / 2) (n - n / 2)))
 
 HasNames-effects_of : (arrays : List (List ℕ)) (locks : ℕ) (tree : Tree) (env : Environment) → HasNames (effects_of arrays locks tree env)
-HasNames-effects_of arrays locks (Number n) env = HasNames-no_lines (λ ledger. 0) (λ lock. 0)
-HasNames-effects_of arrays locks (Variable k) env = HasNames-no_lines (λ ledger. 0) (λ lock. 0)
-HasNames-effects_of arrays locks (Length a) env = HasNames-no_lines (λ ledger. 0) (λ lock. 0)
 HasNames-effects_of arrays locks (Item a index) env = HasNames-effects_of arrays locks index env
 HasNames-effects_of arrays locks (Binary operation a b) env =
     HasNames-then (effects_of arrays locks a env) (effects_of arrays locks b env) (HasNames-effects_of arrays locks a env) (HasNames-effects_of arrays locks b env)
@@ -206,6 +200,7 @@ HasNames-effects_of arrays locks (Sweep reduction grain from to body) env =
     HasNames-then (effects_of arrays locks from env ⨾ effects_of arrays locks to env) (halves locks (half reduction grain body env) turn grain n low n)
     (HasNames-then (effects_of arrays locks from env) (effects_of arrays locks to env) (HasNames-effects_of arrays locks from env) (HasNames-effects_of arrays locks to env))
     (HasNames-halves locks (half reduction grain body env) turn grain (λ i. HasNames-effects_of arrays locks body (with_newest env i)) n low n)
+HasNames-effects_of arrays locks _ env = HasNames-no_lines (λ ledger. 0) (λ lock. 0)
 
 pub names_differ : (program : Source) → AllPairs (λ a b. a ≢ b) (map (λ line. line.name) (meaning_of program).threads)
 names_differ program =

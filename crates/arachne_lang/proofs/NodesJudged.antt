@@ -1,50 +1,22 @@
 -- The nodes of an expression are checked part by part.
-use Rattle.std.proofs.Common.{◌≡◌, ℕ, ◌+◌, ◌<◌, ◌≤◌, List, [], ◌∷◌, ◌++◌, length, take, drop, refl, ap, sym, ◌∙◌, arith, length-append, Bool, true, false, Vec, Global, map, sum_by}
-use Rattle.std.specs.List.{fold}
-use Rattle.std.proofs.lemmas.List.{length-map}
-use Rattle.std.proofs.lemmas.Bool.Decides.{nat_tests}
-use Rattle.std.specs.Prelude.{nat_lt, Option, None, Some, Result, Ok, Err}
-use Rattle.arachne_program.specs.declared.check_fault.CheckFault.{CheckFault}
-use Rattle.arachne_program.specs.Tree.{Tree, Number, Variable, Length, Item, Binary, Choose, Bind, Tally, Hold, Fork, Fold, Sweep, Source}
-use Rattle.arachne_program.specs.Nesting.{nesting}
+use Rattle.std.proofs.Common.{◌≡◌, ℕ, ◌+◌, ◌<◌, ◌≤◌, List, [], ◌∷◌, ◌++◌, length, take, drop, refl, ap, sym, ◌∙◌, arith, length-append, Bool, true, false, Vec, Global, map, sum_by, nat_lt, Option, None, Some, Result, Ok, Err}
+use Rattle.std.{specs.List.fold, proofs.lemmas.{List.length-map, Bool.Decides.nat_tests}}
 use Rattle.arachne_program.specs.Checked.{NodeFault, node_faults, first_fault, node_count, is_within_limits, verdict_of}
-use Rattle.arachne_program.specs.Program.{tree_of, source_of}
+use Rattle.arachne_program.specs.{Nesting.nesting, Program.{tree_of, source_of}}
+use Rattle.arachne_program.specs.Tree.{Tree, Number, Item, Binary, Choose, Bind, Tally, Hold, Fork, Fold, Sweep, Source}
+use Rattle.arachne_program.specs.declared.{check_fault.CheckFault.CheckFault, program.Program.Program}
 use Rattle.arachne_program.specs.declared.check_fault.CheckFault.TheVariants as fault
-use Rattle.arachne_program.specs.declared.program.Program.{Program}
 use Rattle.arachne_lang.specs.Judgement.{judged, KeepsLimits}
 
 pub nesting_positive : (tree : Tree) → 0 < nesting tree
 nesting_positive (Number n) = omega arith
-nesting_positive (Variable k) = omega arith
-nesting_positive (Length a) = omega arith
-nesting_positive (Item a index) = omega arith
-nesting_positive (Binary operation a b) = omega arith
-nesting_positive (Choose condition first second) = omega arith
-nesting_positive (Bind bound body) = omega arith
-nesting_positive (Tally ledger amount body) = omega arith
-nesting_positive (Hold lock body) = omega arith
-nesting_positive (Fork class child during after) = omega arith
-nesting_positive (Fold from to first body) = omega arith
-nesting_positive (Sweep reduction grain from to body) = omega arith
+nesting_positive _ = omega arith
 
 pub node_count_positive : (tree : Tree) → 0 < node_count tree
 node_count_positive (Number n) = omega arith
-node_count_positive (Variable k) = omega arith
-node_count_positive (Length a) = omega arith
-node_count_positive (Item a index) = omega arith
-node_count_positive (Binary operation a b) = omega arith
-node_count_positive (Choose condition first second) = omega arith
-node_count_positive (Bind bound body) = omega arith
-node_count_positive (Tally ledger amount body) = omega arith
-node_count_positive (Hold lock body) = omega arith
-node_count_positive (Fork class child during after) = omega arith
-node_count_positive (Fold from to first body) = omega arith
-node_count_positive (Sweep reduction grain from to body) = omega arith
+node_count_positive _ = omega arith
 
 pub length-node_faults : (program : Source) (within : Bool) (bound : ℕ) (tree : Tree) → length (node_faults program within bound tree) ≡ node_count tree
-length-node_faults program within bound (Number n) = refl
-length-node_faults program within bound (Variable k) = refl
-length-node_faults program within bound (Length a) = refl
 length-node_faults program within bound (Item a index) = simp (length-node_faults program within bound index) (omega arith)
 length-node_faults program within bound (Binary operation a b) =
     simp (length-append, length-node_faults program within bound a, length-node_faults program within bound b) (omega arith)
@@ -61,6 +33,7 @@ length-node_faults program within bound (Fold from to first body) =
     simp (length-append, length-node_faults program within bound from, length-node_faults program within bound to, length-node_faults program within bound first, length-node_faults program within (bound + 2) body) (omega arith)
 length-node_faults program within bound (Sweep reduction grain from to body) =
     simp (length-append, length-node_faults program within bound from, length-node_faults program within bound to, length-node_faults program within (bound + 1) body) (omega arith)
+length-node_faults program within bound _ = refl
 
 -- nodes that follow others are checked if these have no fault
 pub judged_more : (node next : ℕ) (xs ys : List (Option NodeFault)) (answer : Result ℕ CheckFault) → Ok next ≡ judged node xs → answer ≡ judged next ys → answer ≡ judged node (xs ++ ys)
@@ -89,11 +62,6 @@ pub judged_parts : (node : ℕ) (xs : List (Option NodeFault)) (answer : Result 
 judged_parts node [] answer some top parts = absurd (omega arith)
 judged_parts node (None ∷ xs) answer some top parts = parts
 judged_parts node (Some fault ∷ xs) answer some top parts = cc
-
-pub judged_top : (node : ℕ) (xs : List (Option NodeFault)) (fault : CheckFault) → Err fault ≡ first_fault node (take 1 xs) → Err fault ≡ judged node xs
-judged_top node [] fault top = cc
-judged_top node (None ∷ xs) fault top = cc
-judged_top node (Some found ∷ xs) fault top = let same : fault ≡ found node = cc in ap Err same
 
 pub some_faults : (program : Source) (within : Bool) (bound : ℕ) (tree : Tree) → 0 < length (node_faults program within bound tree)
 some_faults program within bound tree = rw (length-node_faults program within bound tree) (node_count_positive tree)
@@ -127,11 +95,6 @@ false-from-not_true true not_true = absurd (not_true refl)
 false-from-not_true false not_true = refl
 
 -- the verdict, case by case
-pub verdict-nesting : (program : Program) → (nesting (tree_of program.root) ≤ 64 → ⊥) → Err fault.Nesting ≡ verdict_of (source_of program)
-verdict-nesting program deep =
-    let is_deep : nat_lt 64 (nesting (tree_of program.root)) ≡ true = grind (arith, nat_tests) in
-    rw is_deep refl
-
 pub verdict-limits : (program : Program) → nesting (tree_of program.root) ≤ 64 → (KeepsLimits program → ⊥) → Err fault.OverLimit ≡ verdict_of (source_of program)
 verdict-limits program flat over =
     let is_flat : nat_lt 64 (nesting (tree_of program.root)) ≡ false = grind (arith, nat_tests) in

@@ -1,7 +1,6 @@
 -- The digits of a number: their value, and that each number has one numeral.
 use Rattle.std.proofs.Common.{◌≡◌, ℕ, zero, suc, ◌+◌, ◌-◌, ◌*◌, ◌/◌, ◌%◌, ◌<◌, ◌≤◌, List, [], ◌∷◌, ◌++◌, refl, sym, ap, subst, ◌∙◌, arith, inl, inr}
-use Rattle.std.proofs.lemmas.Bool.{lt-ltb, le-ltb, cases_lt}
-use Rattle.std.proofs.lemmas.Nat.{div-mul-add, mod-mul-add}
+use Rattle.std.proofs.lemmas.{Bool.{lt-ltb, le-ltb, cases_lt}, Nat.{div-mul-add, mod-mul-add}}
 use Rattle.arachne_lang.specs.Spelling.{digits_within, numeral}
 
 abbrev pub IsDigit : ℕ → Type 0

@@ -1,8 +1,7 @@
 -- A reduction over a range is that over its halves, joined by the operation.
 use Rattle.std.proofs.Common.{◌≡◌, ℕ, zero, suc, ◌+◌, ◌*◌, ◌^◌, ◌<◌, refl, ap, sym, ◌∙◌, arith, add_assoc}
-use Rattle.std.specs.Int.Bits.{xor_assoc, xor_zero_r}
 use Rattle.std.proofs.Math.Nat.{mul_assoc, mod-eq_of_lt, mod-add-mod, add-mod-mod}
-use Rattle.std.proofs.lemmas.Nat.{mul-mod_first, mul-mod_second}
+use Rattle.std.{proofs.lemmas.Nat.{mul-mod_first, mul-mod_second}, specs.Int.Bits.{xor_assoc, xor_zero_r}}
 use Rattle.arachne_program.specs.declared.program.Reduction.{Reduction}
 use Rattle.arachne_program.specs.declared.program.Reduction.TheVariants.{Sum, Product, Parity, Least, Greatest}
 use Rattle.arachne_program.specs.Value.{wrapped, apply, operation_of, unit_of, turns}

@@ -1,6 +1,5 @@
 -- Words of which the letters are known.
-use Rattle.std.proofs.Common.{◌≡◌, ℕ, suc, ◌-◌, ◌≤◌, List, [], ◌∷◌, length, get_or, take, drop, refl, arith}
-use Rattle.std.specs.Prelude.{codes}
+use Rattle.std.proofs.Common.{◌≡◌, ℕ, suc, ◌-◌, ◌≤◌, List, [], ◌∷◌, length, get_or, take, drop, refl, arith, codes}
 use Rattle.std.proofs.Math.Seq.{take-length}
 use Rattle.arachne_program.specs.declared.program.Operation.TheVariants as operation
 use Rattle.arachne_program.specs.declared.program.Reduction.TheVariants as reduction

@@ -1,16 +1,12 @@
 -- The definitions on programs whose results were found by hand.
-use Rattle.std.proofs.Common.{◌≡◌, ℕ, ◌-◌, ◌^◌, List, [], ◌∷◌, refl}
-use Rattle.std.specs.Prelude.{map, ◌++◌, length, codes, Some, Ok, Err}
+use Rattle.std.proofs.Common.{◌≡◌, ℕ, ◌-◌, ◌^◌, List, [], ◌∷◌, refl, map, ◌++◌, length, codes, Some, Ok, Err}
 use Rattle.arachne_program.specs.declared.check_fault.CheckFault.TheVariants as fault
 use Rattle.arachne_lang.specs.Spelling.{header, text_of}
-use Rattle.arachne_program.specs.Checked.{verdict_of}
-use Rattle.arachne_program.specs.declared.program.Class.TheVariants.{Normal, Exclusive}
-use Rattle.arachne_program.specs.declared.meaning.Line.{Line}
-use Rattle.arachne_program.specs.declared.program.Operation.TheVariants.{Add, Sub}
+use Rattle.arachne_program.specs.{Checked.verdict_of, declared.program.Class.TheVariants.{Normal, Exclusive}}
+use Rattle.arachne_program.specs.declared.{meaning.Line.Line, program.Operation.TheVariants.{Add, Sub}}
 use Rattle.arachne_program.specs.declared.program.Reduction.TheVariants.{Sum, Product, Least}
 use Rattle.arachne_program.specs.Tree.{Tree, Number, Variable, Length, Item, Binary, Tally, Hold, Fork, Fold, Sweep, Source}
-use Rattle.arachne_program.specs.Effects.{Evaluate, Reduce}
-use Rattle.arachne_program.specs.Meaning.{meaning_of, child_of}
+use Rattle.arachne_program.specs.{Effects.{Evaluate, Reduce}, Meaning.{meaning_of, child_of}}
 
 -- a program with no arrays
 plain : ℕ → ℕ → Tree → Source

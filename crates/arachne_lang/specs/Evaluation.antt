@@ -1,25 +1,22 @@
--- The changes that the evaluation of an expression makes to the account of its thread, and to what all threads share.
+-- The changes that the evaluation of an expression makes to the counts of its thread, and to the data of all threads.
 use Rattle.std.specs.Prelude.{ℕ, ◌≡◌, ◌+◌, ◌*◌, ◌^◌, ◌<◌, ◌≤◌, List, [], ◌∷◌, ◌++◌, length, replicate}
-use Rattle.arachne_lang.specs.declared.evaluator.Own.{Own}
-use Rattle.arachne_lang.specs.declared.evaluator.Shared.{Shared}
-use Rattle.arachne_program.specs.declared.meaning.Line.{Line}
-use Rattle.arachne_program.specs.declared.program.Reduction.{Reduction}
-use Rattle.arachne_program.specs.Tree.{Tree, Source}
+use Rattle.arachne_lang.specs.declared.evaluator.{Own.Own, Shared.Shared}
+use Rattle.arachne_program.specs.{declared.{meaning.Line.Line, program.Reduction.Reduction}, Tree.{Tree, Source}}
 use Rattle.arachne_program.specs.Nesting.{nesting}
 use Rattle.arachne_program.specs.Value.{Environment, value_of, turns, apply, operation_of, unit_of, with_newest}
 use Rattle.arachne_program.specs.Effects.{Effects, half, effects_of, turns_effects, halves, tabulated, line_of}
 
--- Each number of an account has grown, modulo 2 ^ 64, by the amount for its index.
+-- Each number of a list has grown, modulo 2 ^ 64, by the amount for its index.
 abbrev pub Gains : (ℕ → ℕ) → List ℕ → List ℕ → Type 0
 Gains added old new = (count : ℕ) (before : ℕ → ℕ) → old ≡ tabulated count before → new ≡ tabulated count (λ k. before k + added k)
 
--- The account of a thread of this name that has done nothing yet.
+-- The counts of a thread of this name that has done nothing yet.
 pub record IsFresh (locks : ℕ) (name : List ℕ) (own : Own) : Type 0 where
   pub named : own.name ≡ name
   pub forks : own.forks ≡ 0
   pub holds : own.holds.items ≡ replicate locks 0
 
--- These effects were added to the accounts: to the thread's own, to the sums of the ledgers, and to the lines.
+-- These effects were added to the thread's own counts, to the sums of the ledgers, and to the lines of threads.
 pub record HasDone (effects : Effects) (own : Own) (sums : List ℕ) (lines : List Line) (own' : Own) (sums' : List ℕ) (lines' : List Line) : Type 0 where
   pub same_name : own'.name ≡ own.name
   pub forks : own'.forks ≡ own.forks + length effects.children
@@ -96,9 +93,9 @@ pub record IsHalfRun (program : Source) (reduction : Reduction) (grain : ℕ) (b
   pub ended : (fuel : ℕ) → n ≤ fuel → HasEnded program.locks (halved_effects program reduction grain body shared.environment.items fuel first n)
       name shared.sums.items shared.lines.items shared'.sums.items shared'.lines.items
 
--- The number of the next fork stays in range. Each thread that was forked has a line, or its line has yet to be
--- pushed. For each level of an expression at most 65 have yet to be pushed, since a range of less than 2 ^ 64 numbers
--- is halved at most 64 times.
+-- The number of the next fork stays in range. Each thread that was forked has a line, or its line must still be
+-- pushed. For each level of an expression at most 65 lines must still be pushed, since a range of less than 2 ^ 64
+-- numbers is halved at most 64 times.
 abbrev pub MayFork : Tree → ℕ → List Line → Type 0
 MayFork tree forks lines = (nesting tree ≤ 64) × (forks + 65 * nesting tree ≤ length lines + 65 * 64)
 

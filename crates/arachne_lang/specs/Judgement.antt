@@ -1,9 +1,7 @@
 -- The check of the nodes of an expression, part by part.
 use Rattle.std.specs.Prelude.{ℕ, ◌+◌, ◌≤◌, length, sum_by, List, [], ◌∷◌, Option, None, Some, Result, Ok, Err}
-use Rattle.arachne_program.specs.declared.check_fault.CheckFault.{CheckFault}
-use Rattle.arachne_program.specs.declared.program.Program.{Program}
-use Rattle.arachne_program.specs.Program.{tree_of}
-use Rattle.arachne_program.specs.Checked.{NodeFault, node_count}
+use Rattle.arachne_program.specs.declared.{check_fault.CheckFault.CheckFault, program.Program.Program}
+use Rattle.arachne_program.specs.{Program.tree_of, Checked.{NodeFault, node_count}}
 
 -- the number of the node that follows these nodes, whose first has the number `node`; or their first fault
 abbrev pub judged : ℕ → List (Option NodeFault) → Result ℕ CheckFault

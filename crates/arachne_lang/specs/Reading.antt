@@ -1,14 +1,12 @@
 -- Reading the front of a text, as functions on its bytes. Each gives a value and the bytes behind it, or the reason why
 -- reading stops there.
 use Rattle.std.specs.Prelude.{ℕ, zero, suc, ◌≡◌, ◌+◌, ◌-◌, ◌*◌, ◌^◌, nat_lt, nat_le, ◌==◌, ◌&&◌, if◌then◌else◌, List, [], ◌∷◌, ◌++◌, length, Result, Ok, Err, codes}
-use Rattle.arachne_lang.specs.declared.reading.stop.Stop.{Stop}
+use Rattle.arachne_lang.specs.declared.{reading.{stop.Stop.Stop, heads.Head.Head}, text_fault.TextFault.TextFault}
 use Rattle.arachne_lang.specs.declared.reading.stop.Stop.TheVariants as stop
 use Rattle.arachne_program.specs.declared.program.Class.TheVariants as class
-use Rattle.arachne_lang.specs.declared.text_fault.TextFault.{TextFault}
 use Rattle.arachne_lang.specs.declared.text_fault.TextFault.TheVariants as fault
 use Rattle.arachne_program.specs.declared.program.Operation.TheVariants as operation
 use Rattle.arachne_program.specs.declared.program.Reduction.TheVariants as reduction
-use Rattle.arachne_lang.specs.declared.reading.heads.Head.{Head}
 use Rattle.arachne_lang.specs.declared.reading.heads.Head.TheVariants as head
 use Rattle.arachne_program.specs.Tree.{Tree, Number, Variable, Length, Item, Binary, Choose, Bind, Tally, Hold, Fork, Fold, Sweep, Source}
 
@@ -37,6 +35,13 @@ Fails (stop.TooDeep rest) read = read ≡ Err (TooDeep rest.now)
 abbrev pub Gives : {A B : Type 0} → (A → B) → Result A Stop → Result B Halt → Type 0
 Gives view (Ok x) read = read ≡ Ok (view x)
 Gives view (Err e) read = Fails e read
+
+-- The code stopped at a byte that breaks the grammar, or at a digit that takes a number out of its range.
+abbrev pub IsAtByte : Stop → Type 0
+IsAtByte stop.Memory = ⊥
+IsAtByte (stop.Departs rest) = Unit {0}
+IsAtByte (stop.Overflows rest) = Unit {0}
+IsAtByte (stop.TooDeep rest) = ⊥
 
 -- the fault of this text that the code makes of a stop within it
 abbrev pub fault_within : List ℕ → Stop → TextFault

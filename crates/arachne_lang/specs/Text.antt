@@ -1,11 +1,10 @@
 -- The texts that are accepted, and the faults of the others.
 use Rattle.std.specs.Prelude.{ℕ, ◌≡◌, ◌+◌, ◌-◌, ◌^◌, ◌<◌, ◌≤◌, ◌==◌, List, ◌++◌, length, take, count_by, slice_index, ◌⊎◌}
 use Rattle.std.specs.List.{AllByRecursion}
-use Rattle.arachne_lang.specs.declared.text_fault.TextFault.{TextFault}
+use Rattle.arachne_lang.specs.{Spelling.{header, text_of}, declared.text_fault.TextFault.TextFault}
 use Rattle.arachne_lang.specs.declared.text_fault.TextFault.TheVariants.{Memory, Header, Syntax, Number as Overflow, Nesting}
 use Rattle.arachne_program.specs.Tree.{Tree, Number, Variable, Length, Item, Binary, Choose, Bind, Tally, Hold, Fork, Fold, Sweep, Source}
 use Rattle.arachne_program.specs.Nesting.{nesting}
-use Rattle.arachne_lang.specs.Spelling.{header, text_of}
 
 -- each number of an expression is in range
 abbrev pub NumbersFit : Tree → Type 0

@@ -1,4 +1,4 @@
-//! Checks if a program may run: its nesting, its size, and each node in the order of the program's text.
+//! Checks that a program is valid: its nesting depth, its size, and each node in the order of the program's text.
 ghost use Rattle.std.specs.Prelude.{◌≡◌, ◌+◌, ◌-◌, ◌*◌, ◌^◌, ◌<◌, ◌≤◌, ◌↔◌, ◌++◌, IsTrue, IfOk, SomeIff, length, sum_by, take};
 ghost use Rattle.arachne_program.specs.Program.{tree_of, source_of};
 ghost use Rattle.arachne_program.specs.Nesting.{nesting};
@@ -14,14 +14,13 @@ const MOST_NODES: u64 = 4_096;
 
 const MOST_ARRAYS: usize = 64;
 
-/// The greatest number of items in all arrays together.
 const MOST_ITEMS: usize = 1_000_000;
 
 const MOST_LEDGERS: u8 = 16;
 
 const MOST_LOCKS: u8 = 16;
 
-/// Checks if a program may run. Returns the first fault.
+/// Checks that `program` is valid. Returns the first fault as the error.
 ///
 /// Checks the nesting depth first, then the size, then the nodes in the order of the program's text. Allocates no
 /// memory. The recursion goes at most 64 levels deep, however deep the program is nested.
@@ -43,7 +42,7 @@ pub fn check(program: &Program) -> Result<(), CheckFault>
     Ok(())
 }
 
-/// Returns whether `expr` is nested at most `levels` levels deep. Looks at no deeper level.
+/// Returns true if `expr` is nested at most `levels` deep, which it checks without looking at any deeper level.
 #[tactic(auto, using(crate::proofs::NodesJudged::nesting_positive))]
 fn nests_within(expr: &Expr, levels: u32) -> bool
     ensures { IsTrue result ↔ (nesting (tree_of expr.now) ≤ levels) }
@@ -83,7 +82,6 @@ fn is_within_limits(program: &Program) -> bool
         && nodes_left(&program.root, MOST_NODES).is_some()
 }
 
-/// Returns whether `arrays` have at most `items` items together.
 fn have_items_within(arrays: &[Vec<u64>], items: usize) -> bool
     ensures { IsTrue result ↔ (sum_by (λ array. length array.items) arrays.now ≤ items) }
 {
@@ -97,8 +95,9 @@ fn have_items_within(arrays: &[Vec<u64>], items: usize) -> bool
     true
 }
 
-/// Returns `nodes` minus the number of nodes in `expr`, or `None` if `expr` has more than `nodes`. Stops at the first
-/// node that is too many.
+/// Returns `nodes` minus the number of nodes in `expr`, or `None` if `expr` has more.
+///
+/// Stops at the first node that is too many.
 #[tactic(auto, using(crate::proofs::NodesJudged::node_count_positive))]
 fn nodes_left(expr: &Expr, nodes: u64) -> Option<u64>
     ensures { SomeIff result (node_count (tree_of expr.now) ≤ nodes) (nodes - node_count (tree_of expr.now)) }
@@ -119,19 +118,14 @@ fn nodes_left(expr: &Expr, nodes: u64) -> Option<u64>
     }
 }
 
-/// The surroundings of an expression that the checker must know: the program, if a lock is held, and how many variables
-/// are bound.
 #[derive(Clone, Copy)]
 struct Scope<'p> {
     program: &'p Program,
-    /// True if the thread holds a lock while it evaluates the expression.
     within: bool,
-    /// The number of variables that the expressions around this one bind.
     bound: u64,
 }
 
 impl<'p> Scope<'p> {
-    /// Returns this scope with `variables` more bound variables.
     fn binding(self, variables: u64) -> Scope<'p>
         requires { self.bound + variables < 2 ^ 64 }
         ensures { result ≡ record self.entry { bound = self.entry.bound + variables } }
@@ -148,7 +142,7 @@ impl<'p> Scope<'p> {
         array < self.program.arrays.len() as u64
     }
 
-    /// Checks `expr`, the node of number `node`, without its subexpressions.
+    /// Checks `expr`, but not its subexpressions. Its number in the order of the program's text is `node`.
     fn judge(self, expr: &Expr, node: u64) -> Result<(), CheckFault>
         ensures { result ≡ first_fault node (take 1
             (node_faults (source_of self.entry.program.now) self.entry.within self.entry.bound (tree_of expr.now))) }
@@ -171,8 +165,7 @@ impl<'p> Scope<'p> {
         }
     }
 
-    /// Checks `expr`, the node of number `node`, and all its subexpressions. Returns the number of the node that
-    /// follows these in the program's text.
+    /// Checks `expr` and its subexpressions, and returns the number of the node after them.
     #[cycle(judging)]
     #[tactic(auto, using(crate::proofs::NodesJudged::judged_parts, crate::proofs::NodesJudged::some_faults))]
     fn check(self, expr: &Expr, node: u64) -> Result<u64, CheckFault>
@@ -196,14 +189,26 @@ impl<'p> Scope<'p> {
             }
             Expr::Binary(_, a, b) | Expr::Tally(_, a, b) => self.two(a, self, b, first),
             Expr::Let(a, b) => self.two(a, self.binding(1), b, first),
-            Expr::If(a, b, c) => self.three(a, b, self, c, first),
-            Expr::Sweep(_, _, a, b, c) => self.three(a, b, self.binding(1), c, first),
-            Expr::Fork(_, a, b, c) => self.three(a, b, self.binding(2), c, first),
-            Expr::Fold(a, b, c, d) => self.four(a, b, c, self.binding(2), d, first),
+            Expr::If(a, b, c) => {
+                let third = self.two(a, self, b, first)?;
+                self.check(c, third)
+            }
+            Expr::Sweep(_, _, a, b, c) => {
+                let third = self.two(a, self, b, first)?;
+                self.binding(1).check(c, third)
+            }
+            Expr::Fork(_, a, b, c) => {
+                let third = self.two(a, self, b, first)?;
+                self.binding(2).check(c, third)
+            }
+            Expr::Fold(a, b, c, d) => {
+                let third = self.two(a, self, b, first)?;
+                self.two(c, self.binding(2), d, third)
+            }
         }
     }
 
-    /// Checks `a` in this scope, and then `b` in the scope `last`, as `check` does. `node` is the number of `a`.
+    /// `node` is the number of `a`, which is checked in this scope, and `b` in the scope `last`.
     #[cycle(judging)]
     fn two(self, a: &Expr, last: Scope, b: &Expr, node: u64) -> Result<u64, CheckFault>
         requires nodes { node + node_count (tree_of a.now) + node_count (tree_of b.now) ≤ MOST_NODES }
@@ -216,54 +221,5 @@ impl<'p> Scope<'p> {
     {
         let second = self.check(a, node)?;
         last.check(b, second)
-    }
-
-    /// Checks `a` and `b` in this scope, and then `c` in the scope `last`, as `check` does. `node` is the number of
-    /// `a`.
-    #[cycle(judging)]
-    fn three(self, a: &Expr, b: &Expr, last: Scope, c: &Expr, node: u64) -> Result<u64, CheckFault>
-        requires nodes { node + node_count (tree_of a.now) + node_count (tree_of b.now) + node_count (tree_of c.now) ≤ MOST_NODES }
-        requires first { self.bound + 2 * nesting (tree_of a.now) ≤ 2 * MOST_LEVELS }
-        requires second { self.bound + 2 * nesting (tree_of b.now) ≤ 2 * MOST_LEVELS }
-        requires last { last.bound + 2 * nesting (tree_of c.now) ≤ 2 * MOST_LEVELS }
-        ensures judged { result ≡ judged node
-            (node_faults (source_of self.entry.program.now) self.entry.within self.entry.bound (tree_of a.now)
-            ++ node_faults (source_of self.entry.program.now) self.entry.within self.entry.bound (tree_of b.now)
-            ++ node_faults (source_of last.entry.program.now) last.entry.within last.entry.bound (tree_of c.now)) }
-        ensures next { IfOk result (λ next.
-            next ≡ node + node_count (tree_of a.now) + node_count (tree_of b.now) + node_count (tree_of c.now)) }
-    {
-        let second = self.two(a, self, b, node)?;
-        last.check(c, second)
-    }
-
-    /// Checks `a`, `b` and `c` in this scope, and then `d` in the scope `last`, as `check` does. `node` is the number
-    /// of `a`.
-    #[cycle(judging)]
-    fn four(
-        self,
-        a: &Expr,
-        b: &Expr,
-        c: &Expr,
-        last: Scope,
-        d: &Expr,
-        node: u64,
-    ) -> Result<u64, CheckFault>
-        requires nodes { node + node_count (tree_of a.now) + node_count (tree_of b.now) + node_count (tree_of c.now)
-            + node_count (tree_of d.now) ≤ MOST_NODES }
-        requires first { self.bound + 2 * nesting (tree_of a.now) ≤ 2 * MOST_LEVELS }
-        requires second { self.bound + 2 * nesting (tree_of b.now) ≤ 2 * MOST_LEVELS }
-        requires third { self.bound + 2 * nesting (tree_of c.now) ≤ 2 * MOST_LEVELS }
-        requires last { last.bound + 2 * nesting (tree_of d.now) ≤ 2 * MOST_LEVELS }
-        ensures judged { result ≡ judged node
-            (node_faults (source_of self.entry.program.now) self.entry.within self.entry.bound (tree_of a.now)
-            ++ node_faults (source_of self.entry.program.now) self.entry.within self.entry.bound (tree_of b.now)
-            ++ node_faults (source_of self.entry.program.now) self.entry.within self.entry.bound (tree_of c.now)
-            ++ node_faults (source_of last.entry.program.now) last.entry.within last.entry.bound (tree_of d.now)) }
-        ensures next { IfOk result (λ next. next ≡ node + node_count (tree_of a.now) + node_count (tree_of b.now)
-            + node_count (tree_of c.now) + node_count (tree_of d.now)) }
-    {
-        let second = self.three(a, b, self, c, node)?;
-        last.check(d, second)
     }
 }

@@ -3,7 +3,7 @@
 ghost use Rattle.std.specs.Prelude.{◌≡◌, ◌+◌, ◌^◌, ◌<◌, [], ◌∷◌, ◌++◌, IfOk, length, slice_index};
 ghost use Rattle.arachne_program.specs.declared.program.Class.{Class};
 ghost use Rattle.arachne_program.specs.declared.program.Class.TheVariants.{Normal};
-ghost use Rattle.arachne_program.specs.Tree.{Binary, Choose, Bind, Tally, Hold, Fork, Fold, Sweep};
+ghost use Rattle.arachne_program.specs.Tree.{Fork};
 ghost use Rattle.arachne_program.specs.Program.{tree_of, source_of};
 ghost use Rattle.arachne_program.specs.Value.{array_at, with_newest};
 ghost use Rattle.arachne_program.specs.Effects.{tallied};
@@ -11,21 +11,20 @@ ghost use Rattle.arachne_program.specs.Checked.{IsChecked};
 ghost use Rattle.arachne_program.specs.Meaning.{meaning_of};
 ghost use Rattle.arachne_lang.specs.Evaluation.{Gains, IsFresh, MayFork, MaySplit, HasLines, IsEvaluated, IsFolded, IsReduced, IsHalved, IsRun, IsHalfRun};
 
-use arachne_program::{Expr, Line, Meaning, Name, Operation, Program, Reduction, Sequence};
+use arachne_program::{Expr, Line, Meaning, Name, Program, Reduction, Sequence};
 use std::alloc::{AllocError, Global};
 
-/// The name and the counts of the program's thread that is being evaluated, without the counts of its children.
+/// The name and the counts of the thread that is being evaluated, without the counts of its children.
 #[derive(Drop)]
 struct Own {
     name: Name,
     /// For each lock, the number of times that the thread held it, modulo 2^64.
     holds: Vec<u64>,
-    /// The number of children that the thread has forked. The next child gets this number.
+    /// The number of children that the thread has forked, which is the next child's number.
     forks: u64,
 }
 
 impl Own {
-    /// Returns the name `name` with counts that are all 0, for a thread that has not begun.
     fn new(alloc: Global, name: Name, locks: u8) -> Result<Own, AllocError>
         ensures { IfOk result (IsFresh locks name) }
     {
@@ -36,7 +35,6 @@ impl Own {
         })
     }
 
-    /// Returns the name of the thread's next child, and adds one to `forks`.
     fn fork(&mut self, alloc: Global) -> Result<Name, AllocError>
         requires { self.old.forks + 1 < 2 ^ 64 }
         ensures name { IfOk result (λ name. name ≡ self.old.name ++ self.old.forks ∷ []) }
@@ -57,7 +55,7 @@ impl Own {
     }
 }
 
-/// Returns a placeholder for a thread's report line, which replaces it when the thread has ended.
+/// Returns an empty line, which the thread's line replaces when the thread has ended.
 fn unwritten_line(alloc: Global) -> Line {
     Line {
         name: Name::root(alloc),
@@ -65,19 +63,16 @@ fn unwritten_line(alloc: Global) -> Line {
     }
 }
 
-/// The data that all threads of the program share: the variables of the thread that is being evaluated, the ledgers'
-/// sums, and the report lines.
 #[derive(Drop)]
 struct Shared {
-    /// The variables of the program's thread that is being evaluated, the oldest first.
+    /// The variables of the thread that is being evaluated, the oldest first.
     environment: Vec<u64>,
     /// For each ledger, the sum of the amounts that were added to it so far, modulo 2^64.
     sums: Vec<u64>,
-    /// The report lines of the threads that have begun so far.
+    /// For each thread that has begun, a line with its name and lock counts, empty until the thread has ended.
     lines: Vec<Line>,
 }
 
-/// The parameters of a sweep (a parallel reduction) that are the same for all parts of its range.
 #[derive(Clone, Copy)]
 struct Reducer<'p> {
     reduction: Reduction,
@@ -85,7 +80,7 @@ struct Reducer<'p> {
     body: &'p Expr,
 }
 
-/// Adds `amount`, modulo 2^64, to the number at index `place`. Does nothing if there is no such index.
+/// Adds `amount`, modulo 2^64, to the number at index `place`, if there is one.
 fn add_at(numbers: &mut [u64], place: u64, amount: u64)
     ensures { Gains (tallied place amount).sums numbers.old numbers.new }
 {
@@ -98,8 +93,7 @@ fn add_at(numbers: &mut [u64], place: u64, amount: u64)
 
 /// An evaluator of a program's expressions, by plain recursion on one kernel thread.
 ///
-/// Its functions return `Err` only if memory was refused. The sums and the lines in `Shared` are then incomplete and
-/// must not be used.
+/// Its functions return `Err` only if memory was refused; the sums and lines in `Shared` are then incomplete.
 #[derive(Clone, Copy)]
 struct Evaluator<'p> {
     alloc: Global,
@@ -107,7 +101,7 @@ struct Evaluator<'p> {
 }
 
 impl Evaluator<'_> {
-    /// Returns the item at `index` of the array of number `array`, or 0 if there is no such item.
+    /// Returns an item of an array, or 0 if there is no such item.
     fn item(&self, array: u64, index: u64) -> u64
         ensures { result ≡ slice_index (array_at (source_of self.now.program.now).arrays array) index }
     {
@@ -117,7 +111,6 @@ impl Evaluator<'_> {
         }
     }
 
-    /// Returns the number of items of the array of number `array`.
     fn length(&self, array: u64) -> u64
         ensures { result ≡ length (array_at (source_of self.now.program.now).arrays array) }
     {
@@ -127,8 +120,9 @@ impl Evaluator<'_> {
         }
     }
 
-    /// Evaluates `expr` as a new thread of the program, with the name `name`. Appends the thread's report line, and
-    /// then those of its descendants.
+    /// Evaluates `expr` as a new thread of the program.
+    ///
+    /// Appends the thread's line to `shared.lines`, and then those of its descendants.
     #[cycle(evaluation)]
     fn run(&self, shared: &mut Shared, name: Name, expr: &Expr) -> Result<u64, AllocError>
         requires { MayFork (tree_of expr.now) 0 shared.old.lines.items }
@@ -144,8 +138,9 @@ impl Evaluator<'_> {
         Ok(value)
     }
 
-    /// Reduces the numbers from `first` to `first + n - 1` as a new thread of the program. Appends the thread's report
-    /// line, and then those of its descendants.
+    /// Reduces the numbers from `first` to `first + n - 1` as a new thread of the program.
+    ///
+    /// Appends the thread's line to `shared.lines`, and then those of its descendants.
     #[cycle(evaluation)]
     fn run_half(
         &self,
@@ -170,7 +165,7 @@ impl Evaluator<'_> {
         Ok(value)
     }
 
-    /// Evaluates `expr` in the program's thread whose counts are `own`. Leaves the thread's variables unchanged.
+    /// Evaluates `expr` in the thread whose counts are `own`. Leaves the thread's variables unchanged.
     #[cycle(evaluation)]
     fn value(&self, shared: &mut Shared, own: &mut Own, expr: &Expr) -> Result<u64, AllocError>
         requires { MayFork (tree_of expr.now) own.old.forks shared.old.lines.items }
@@ -183,96 +178,48 @@ impl Evaluator<'_> {
             Expr::Num(n) => Ok(*n),
             Expr::Var(k) => Ok(shared.environment.get(*k as usize).copied().unwrap_or(0)),
             Expr::Len(array) => Ok(self.length(*array)),
-            Expr::Item(array, index) => {
-                let index = self.value(shared, own, index)?;
-                Ok(self.item(*array, index))
+            Expr::Item(array, index) => Ok(self.item(*array, self.value(shared, own, index)?)),
+            Expr::Binary(operation, a, b) => {
+                let x = self.value(shared, own, a)?;
+                Ok(operation.apply(x, self.value(shared, own, b)?))
             }
-            Expr::Binary(operation, a, b) => self.binary(shared, own, *operation, a, b),
-            Expr::If(condition, first, second) => {
-                self.choose(shared, own, condition, first, second)
+            Expr::If(condition, first, second) => match self.value(shared, own, condition)? {
+                0 => self.value(shared, own, second),
+                _ => self.value(shared, own, first),
+            },
+            Expr::Let(bound, body) => {
+                let newest = self.value(shared, own, bound)?;
+                self.body(shared, own, newest, body)
             }
-            Expr::Let(bound, body) => self.bind(shared, own, bound, body),
-            Expr::Tally(ledger, amount, body) => self.tally(shared, own, *ledger, amount, body),
-            Expr::Hold(lock, body) => self.hold(shared, own, *lock, body),
+            Expr::Tally(ledger, amount, body) => {
+                let amount = self.value(shared, own, amount)?;
+                add_at(shared.sums.as_mut_slice(), *ledger, amount);
+                self.value(shared, own, body)
+            }
+            Expr::Hold(lock, body) => {
+                add_at(own.holds.as_mut_slice(), *lock, 1);
+                self.value(shared, own, body)
+            }
             Expr::Fork(_, child, during, after) => self.fork(shared, own, child, during, after),
-            Expr::Fold(from, to, first, body) => self.fold(shared, own, from, to, first, body),
+            Expr::Fold(from, to, first, body) => {
+                let low = self.value(shared, own, from)?;
+                let high = self.value(shared, own, to)?;
+                let start = self.value(shared, own, first)?;
+                self.turns(shared, own, low, high.saturating_sub(low), start, body)
+            }
             Expr::Sweep(reduction, grain, from, to, body) => {
                 let reducer = Reducer {
                     reduction: *reduction,
                     grain: *grain,
                     body,
                 };
-                self.sweep(shared, own, reducer, from, to)
+                let low = self.value(shared, own, from)?;
+                let high = self.value(shared, own, to)?;
+                self.halves(shared, own, reducer, low, high.saturating_sub(low))
             }
         }
     }
 
-    #[cycle(evaluation)]
-    fn binary(
-        &self,
-        shared: &mut Shared,
-        own: &mut Own,
-        operation: Operation,
-        a: &Expr,
-        b: &Expr,
-    ) -> Result<u64, AllocError>
-        requires { MayFork (Binary operation (tree_of a.now) (tree_of b.now)) own.old.forks shared.old.lines.items }
-        ensures value { IfOk result (λ value.
-            IsEvaluated (source_of self.now.program.now) (Binary operation (tree_of a.now) (tree_of b.now))
-            shared.old.environment.items own.old shared.old value own.new shared.new) }
-        ensures lines { IfOk result (λ _. HasLines own.old shared.old own.new shared.new) }
-    {
-        let x = self.value(shared, own, a)?;
-        let y = self.value(shared, own, b)?;
-        Ok(operation.apply(x, y))
-    }
-
-    #[cycle(evaluation)]
-    fn choose(
-        &self,
-        shared: &mut Shared,
-        own: &mut Own,
-        condition: &Expr,
-        first: &Expr,
-        second: &Expr,
-    ) -> Result<u64, AllocError>
-        requires { MayFork (Choose (tree_of condition.now) (tree_of first.now) (tree_of second.now))
-            own.old.forks shared.old.lines.items }
-        ensures value { IfOk result (λ value.
-            IsEvaluated (source_of self.now.program.now)
-            (Choose (tree_of condition.now) (tree_of first.now) (tree_of second.now))
-            shared.old.environment.items own.old shared.old value own.new shared.new) }
-        ensures lines { IfOk result (λ _. HasLines own.old shared.old own.new shared.new) }
-    {
-        let choice = self.value(shared, own, condition)?;
-        if choice == 0 {
-            let value = self.value(shared, own, second)?;
-            return Ok(value);
-        }
-        let value = self.value(shared, own, first)?;
-        Ok(value)
-    }
-
-    #[cycle(evaluation)]
-    fn bind(
-        &self,
-        shared: &mut Shared,
-        own: &mut Own,
-        bound: &Expr,
-        body: &Expr,
-    ) -> Result<u64, AllocError>
-        requires { MayFork (Bind (tree_of bound.now) (tree_of body.now)) own.old.forks shared.old.lines.items }
-        ensures value { IfOk result (λ value.
-            IsEvaluated (source_of self.now.program.now) (Bind (tree_of bound.now) (tree_of body.now))
-            shared.old.environment.items own.old shared.old value own.new shared.new) }
-        ensures lines { IfOk result (λ _. HasLines own.old shared.old own.new shared.new) }
-    {
-        let newest = self.value(shared, own, bound)?;
-        let value = self.body(shared, own, newest, body)?;
-        Ok(value)
-    }
-
-    /// Evaluates `expr` with `newest` as an additional variable.
     #[cycle(evaluation)]
     fn body(
         &self,
@@ -294,48 +241,8 @@ impl Evaluator<'_> {
         Ok(value)
     }
 
-    #[cycle(evaluation)]
-    fn tally(
-        &self,
-        shared: &mut Shared,
-        own: &mut Own,
-        ledger: u64,
-        amount: &Expr,
-        body: &Expr,
-    ) -> Result<u64, AllocError>
-        requires { MayFork (Tally ledger (tree_of amount.now) (tree_of body.now)) own.old.forks shared.old.lines.items }
-        ensures value { IfOk result (λ value.
-            IsEvaluated (source_of self.now.program.now) (Tally ledger (tree_of amount.now) (tree_of body.now))
-            shared.old.environment.items own.old shared.old value own.new shared.new) }
-        ensures lines { IfOk result (λ _. HasLines own.old shared.old own.new shared.new) }
-    {
-        let amount = self.value(shared, own, amount)?;
-        add_at(shared.sums.as_mut_slice(), ledger, amount);
-        let value = self.value(shared, own, body)?;
-        Ok(value)
-    }
-
-    #[cycle(evaluation)]
-    fn hold(
-        &self,
-        shared: &mut Shared,
-        own: &mut Own,
-        lock: u64,
-        body: &Expr,
-    ) -> Result<u64, AllocError>
-        requires { MayFork (Hold lock (tree_of body.now)) own.old.forks shared.old.lines.items }
-        ensures value { IfOk result (λ value.
-            IsEvaluated (source_of self.now.program.now) (Hold lock (tree_of body.now))
-            shared.old.environment.items own.old shared.old value own.new shared.new) }
-        ensures lines { IfOk result (λ _. HasLines own.old shared.old own.new shared.new) }
-    {
-        add_at(own.holds.as_mut_slice(), lock, 1);
-        let value = self.value(shared, own, body)?;
-        Ok(value)
-    }
-
-    /// Evaluates a fork: first `during`, then the child, so that the report lines are appended in their final order,
-    /// and then `after`.
+    /// Evaluates `during`, then `child`, so that the threads' lines are in the order of the result, and then `after`. A
+    /// separate function, so that `value` doesn't initialise memory for the name at each call.
     #[cycle(evaluation)]
     fn fork(
         &self,
@@ -356,11 +263,9 @@ impl Evaluator<'_> {
         let name = own.fork(self.alloc)?;
         let own_value = self.value(shared, own, during)?;
         let child_value = self.run(shared, name, child)?;
-        let value = self.after(shared, own, child_value, own_value, after)?;
-        Ok(value)
+        self.after(shared, own, child_value, own_value, after)
     }
 
-    /// Evaluates `expr` with two additional variables: `first`, and then `second`.
     #[cycle(evaluation)]
     fn after(
         &self,
@@ -385,36 +290,10 @@ impl Evaluator<'_> {
         Ok(value)
     }
 
-    #[cycle(evaluation)]
-    fn fold(
-        &self,
-        shared: &mut Shared,
-        own: &mut Own,
-        from: &Expr,
-        to: &Expr,
-        first: &Expr,
-        body: &Expr,
-    ) -> Result<u64, AllocError>
-        requires { MayFork (Fold (tree_of from.now) (tree_of to.now) (tree_of first.now) (tree_of body.now))
-            own.old.forks shared.old.lines.items }
-        ensures value { IfOk result (λ value.
-            IsEvaluated (source_of self.now.program.now)
-            (Fold (tree_of from.now) (tree_of to.now) (tree_of first.now) (tree_of body.now))
-            shared.old.environment.items own.old shared.old value own.new shared.new) }
-        ensures lines { IfOk result (λ _. HasLines own.old shared.old own.new shared.new) }
-    {
-        let low = self.value(shared, own, from)?;
-        let high = self.value(shared, own, to)?;
-        let start = self.value(shared, own, first)?;
-        let value = self.turns(shared, own, low, high.saturating_sub(low), start, body)?;
-        Ok(value)
-    }
-
-    /// Evaluates the iterations of a fold (a sequential loop) for the numbers from `from` to `from + n - 1`. The
-    /// initial value is `first`.
+    /// Evaluates the iterations of a fold (a sequential loop) for the numbers from `from` to `from + n - 1`, with the
+    /// initial value `first`.
     ///
-    /// In each iteration the two newest variables are the current number and the value so far. Each iteration
-    /// overwrites these two variables.
+    /// In each iteration the two newest variables are the current number and the value so far.
     #[cycle(evaluation)]
     fn turns(
         &self,
@@ -446,33 +325,10 @@ impl Evaluator<'_> {
         Ok(so_far)
     }
 
-    #[cycle(evaluation)]
-    fn sweep(
-        &self,
-        shared: &mut Shared,
-        own: &mut Own,
-        reducer: Reducer,
-        from: &Expr,
-        to: &Expr,
-    ) -> Result<u64, AllocError>
-        requires { MayFork (Sweep reducer.reduction reducer.grain (tree_of from.now) (tree_of to.now) (tree_of reducer.body.now))
-            own.old.forks shared.old.lines.items }
-        ensures value { IfOk result (λ value.
-            IsEvaluated (source_of self.now.program.now)
-            (Sweep reducer.entry.reduction reducer.entry.grain (tree_of from.now) (tree_of to.now) (tree_of reducer.entry.body.now))
-            shared.old.environment.items own.old shared.old value own.new shared.new) }
-        ensures lines { IfOk result (λ _. HasLines own.old shared.old own.new shared.new) }
-    {
-        let low = self.value(shared, own, from)?;
-        let high = self.value(shared, own, to)?;
-        let value = self.halves(shared, own, reducer, low, high.saturating_sub(low))?;
-        Ok(value)
-    }
-
     /// Reduces the numbers from `first` to `first + n - 1`, for a sweep (a parallel reduction).
     ///
-    /// If `n` is greater than the grain (the greatest length that is not halved), a child thread reduces the left half.
-    /// The child is evaluated after the right half, so that the report lines are appended in their final order.
+    /// A child thread reduces the left half if `n` is greater than the grain (the greatest length that is not halved).
+    /// It is evaluated after the right half, so that the threads' lines are in the order of the result.
     #[cycle(evaluation)]
     fn halves(
         &self,
@@ -501,7 +357,7 @@ impl Evaluator<'_> {
     }
 
     /// Evaluates the sweep's body for each number from `first` to `first + n - 1`, without a fork, and combines the
-    /// values. In the body, that number is the newest variable.
+    /// values.
     #[cycle(evaluation)]
     fn reduce(
         &self,

@@ -17,5 +17,5 @@ pub use laws::{
     accepted_texts_have_no_fault, names_differ, other_texts_have_a_first_fault, texts_differ,
 };
 pub use printing::print;
-pub use reading::parse;
+pub use reading::{Stop, figures, number, parse, word};
 pub use text_fault::TextFault;

@@ -34,7 +34,6 @@ pub fn print(alloc: Global, program: &Program) -> Result<Vec<u8>, AllocError>
     Ok(text)
 }
 
-/// Appends a line to `text`: the word `word`, and then `numbers`, each after a space.
 fn push_line(text: &mut Vec<u8>, word: &[u8], numbers: &[u64]) -> Result<(), AllocError>
     ensures text { OnOk result (text.new.items ≡ text.old.items ++ line word.now numbers.now) }
     ensures fit { OnOk result (AllByRecursion (λ n. n < 2 ^ 64) numbers.now) }
@@ -47,7 +46,6 @@ fn push_line(text: &mut Vec<u8>, word: &[u8], numbers: &[u64]) -> Result<(), All
     Ok(())
 }
 
-/// Appends a space and the decimal digits of `number` to `text`.
 fn push_number(text: &mut Vec<u8>, number: u64) -> Result<(), AllocError>
     ensures { OnOk result (text.new.items ≡ text.old.items ++ 32 ∷ numeral number) }
 {
@@ -57,7 +55,6 @@ fn push_number(text: &mut Vec<u8>, number: u64) -> Result<(), AllocError>
     Ok(())
 }
 
-/// Returns the keyword of an operation in a program's text, such as `add`.
 fn word_of(operation: Operation) -> &'static [u8]
     ensures { result.now ≡ operation_word operation }
 {
@@ -73,134 +70,52 @@ fn word_of(operation: Operation) -> &'static [u8]
     }
 }
 
-/// Appends the text of `expr`.
 #[cycle(expression)]
 fn push_expression(text: &mut Vec<u8>, expr: &Expr) -> Result<(), AllocError>
     ensures text { OnOk result (text.new.items ≡ text.old.items ++ spelling (tree_of expr.now)) }
     ensures fit { OnOk result (NumbersFit (tree_of expr.now)) }
 {
     match expr {
-        Expr::Num(n) => push_leaf(text, b"num", *n),
-        Expr::Var(k) => push_leaf(text, b"var", *k),
-        Expr::Len(array) => push_leaf(text, b"len", *array),
-        Expr::Item(array, index) => push_with_one(text, b"item", *array, index),
-        Expr::Binary(operation, a, b) => push_with_two(text, word_of(*operation), None, a, b),
-        Expr::If(condition, a, b) => push_with_three(text, b"if", None, condition, a, b),
-        Expr::Let(bound, body) => push_with_two(text, b"let", None, bound, body),
-        Expr::Tally(ledger, a, b) => push_with_two(text, b"tally", Some(*ledger), a, b),
-        Expr::Hold(lock, body) => push_with_one(text, b"hold", *lock, body),
-        Expr::Fork(class, a, b, c) => push_with_three(text, fork_words(*class), None, a, b, c),
-        Expr::Fold(from, to, first, body) => push_with_four(text, b"fold", from, to, first, body),
-        Expr::Sweep(reduction, grain, from, to, body) => push_with_three(
-            text,
-            sweep_words(*reduction),
-            Some(*grain),
-            from,
-            to,
-            body,
-        ),
+        Expr::Num(n) => push_form(text, b"num", Some(*n), &[]),
+        Expr::Var(k) => push_form(text, b"var", Some(*k), &[]),
+        Expr::Len(array) => push_form(text, b"len", Some(*array), &[]),
+        Expr::Item(array, index) => push_form(text, b"item", Some(*array), &[index]),
+        Expr::Binary(operation, a, b) => push_form(text, word_of(*operation), None, &[a, b]),
+        Expr::If(condition, a, b) => push_form(text, b"if", None, &[condition, a, b]),
+        Expr::Let(bound, body) => push_form(text, b"let", None, &[bound, body]),
+        Expr::Tally(ledger, a, b) => push_form(text, b"tally", Some(*ledger), &[a, b]),
+        Expr::Hold(lock, body) => push_form(text, b"hold", Some(*lock), &[body]),
+        Expr::Fork(class, a, b, c) => push_form(text, fork_words(*class), None, &[a, b, c]),
+        Expr::Fold(from, to, first, body) => {
+            push_form(text, b"fold", None, &[from, to, first, body])
+        }
+        Expr::Sweep(reduction, grain, from, to, body) => {
+            let word = sweep_words(*reduction);
+            push_form(text, word, Some(*grain), &[from, to, body])
+        }
     }
 }
 
-/// Appends a space and the text of `part`.
 #[cycle(expression)]
-fn push_part(text: &mut Vec<u8>, part: &Expr) -> Result<(), AllocError>
-    ensures text { OnOk result (text.new.items ≡ text.old.items ++ 32 ∷ spelling (tree_of part.now)) }
-    ensures fit { OnOk result (NumbersFit (tree_of part.now)) }
-{
-    text.push(b' ')?;
-    push_expression(text, part)?;
-    Ok(())
-}
-
-/// Appends an expression in brackets: the keyword `word` and `number`.
-fn push_leaf(text: &mut Vec<u8>, word: &[u8], number: u64) -> Result<(), AllocError>
-    ensures { OnOk result (text.new.items ≡ text.old.items ++ bracketed word.now (numeral number ∷ [])) }
-{
-    push_opening(text, word, Some(number))?;
-    text.push(b')')?;
-    Ok(())
-}
-
-/// Appends an expression in brackets: the keyword `word`, `number` and the subexpression `a`.
-#[cycle(expression)]
-fn push_with_one(text: &mut Vec<u8>, word: &[u8], number: u64, a: &Expr) -> Result<(), AllocError>
-    ensures text { OnOk result (text.new.items ≡ text.old.items ++ bracketed word.now (numeral number ∷ spelling (tree_of a.now) ∷ [])) }
-    ensures fit { OnOk result (NumbersFit (tree_of a.now)) }
-{
-    push_opening(text, word, Some(number))?;
-    push_part(text, a)?;
-    text.push(b')')?;
-    Ok(())
-}
-
-/// Appends an expression in brackets: the keyword `word`, the number if there is one, and two subexpressions.
-#[cycle(expression)]
-fn push_with_two(
+fn push_form(
     text: &mut Vec<u8>,
     word: &[u8],
     number: Option<u64>,
-    a: &Expr,
-    b: &Expr,
+    parts: &[&Expr],
 ) -> Result<(), AllocError>
     ensures text { OnOk result (text.new.items ≡ text.old.items
-        ++ bracketed word.now (map numeral (option_to_list number) ++ spelling (tree_of a.now) ∷ spelling (tree_of b.now) ∷ [])) }
-    ensures fit { OnOk result (NumbersFit (tree_of a.now) × NumbersFit (tree_of b.now)) }
+        ++ bracketed word.now (map numeral (option_to_list number) ++ map (λ part. spelling (tree_of part.now)) parts.now)) }
+    ensures fit { OnOk result (AllByRecursion (λ part. NumbersFit (tree_of part.now)) parts.now) }
 {
     push_opening(text, word, number)?;
-    push_part(text, a)?;
-    push_part(text, b)?;
+    for part in parts {
+        text.push(b' ')?;
+        push_expression(text, part)?;
+    }
     text.push(b')')?;
     Ok(())
 }
 
-/// Appends an expression in brackets: the keyword `word`, the number if there is one, and three subexpressions.
-#[cycle(expression)]
-fn push_with_three(
-    text: &mut Vec<u8>,
-    word: &[u8],
-    number: Option<u64>,
-    a: &Expr,
-    b: &Expr,
-    c: &Expr,
-) -> Result<(), AllocError>
-    ensures text { OnOk result (text.new.items ≡ text.old.items
-        ++ bracketed word.now (map numeral (option_to_list number)
-        ++ spelling (tree_of a.now) ∷ spelling (tree_of b.now) ∷ spelling (tree_of c.now) ∷ [])) }
-    ensures fit { OnOk result (NumbersFit (tree_of a.now) × NumbersFit (tree_of b.now) × NumbersFit (tree_of c.now)) }
-{
-    push_opening(text, word, number)?;
-    push_part(text, a)?;
-    push_part(text, b)?;
-    push_part(text, c)?;
-    text.push(b')')?;
-    Ok(())
-}
-
-/// Appends an expression in brackets: the keyword `word` and four subexpressions.
-#[cycle(expression)]
-fn push_with_four(
-    text: &mut Vec<u8>,
-    word: &[u8],
-    a: &Expr,
-    b: &Expr,
-    c: &Expr,
-    d: &Expr,
-) -> Result<(), AllocError>
-    ensures text { OnOk result (text.new.items ≡ text.old.items
-        ++ bracketed word.now (spelling (tree_of a.now) ∷ spelling (tree_of b.now) ∷ spelling (tree_of c.now) ∷ spelling (tree_of d.now) ∷ [])) }
-    ensures fit { OnOk result (NumbersFit (tree_of a.now) × NumbersFit (tree_of b.now) × NumbersFit (tree_of c.now) × NumbersFit (tree_of d.now)) }
-{
-    push_opening(text, word, None)?;
-    push_part(text, a)?;
-    push_part(text, b)?;
-    push_part(text, c)?;
-    push_part(text, d)?;
-    text.push(b')')?;
-    Ok(())
-}
-
-/// Appends the front of an expression: the opening bracket, the keyword `word`, and the number if there is one.
 fn push_opening(text: &mut Vec<u8>, word: &[u8], number: Option<u64>) -> Result<(), AllocError>
     ensures { OnOk result (text.new.items ≡ text.old.items ++ 40 ∷ word.now ++ after_spaces (map numeral (option_to_list number))) }
 {
@@ -212,7 +127,6 @@ fn push_opening(text: &mut Vec<u8>, word: &[u8], number: Option<u64>) -> Result<
     Ok(())
 }
 
-/// Returns the keywords with which the text of a fork begins.
 fn fork_words(class: Class) -> &'static [u8]
     ensures { result.now ≡ codes "fork" ++ 32 ∷ class_word class }
 {
@@ -222,7 +136,6 @@ fn fork_words(class: Class) -> &'static [u8]
     }
 }
 
-/// Returns the keywords with which the text of a sweep (a parallel reduction) begins.
 fn sweep_words(reduction: Reduction) -> &'static [u8]
     ensures { result.now ≡ codes "sweep" ++ 32 ∷ reduction_word reduction }
 {

@@ -20,11 +20,11 @@ use arachne_program::Program;
 use arrays::array_lines;
 use expressions::expression;
 use numbers::small_number;
+pub use numbers::{figures, number};
 use std::alloc::Global;
-use stop::Stop;
-use words::word;
+pub use stop::Stop;
+pub use words::word;
 
-/// The greatest nesting depth of an expression.
 const NESTING: u8 = 64;
 
 /// Parses the text of a program. Returns `Err` with the first error of the text, or if memory is refused.
@@ -52,7 +52,7 @@ pub fn parse(alloc: Global, text: &[u8]) -> Result<Program, TextFault>
     }
 }
 
-/// Parses a program without its header. `text` is the text behind the header.
+/// Parses a program from the text behind its header.
 #[tactic(auto, unfolding(crate::specs::Reading::program_at, crate::specs::Reading::source_at, crate::specs::Reading::lines_at))]
 fn program(alloc: Global, text: &[u8]) -> Result<Program, Stop<'_>>
     ensures { Gives source_of result (program_at text.now) }

@@ -1,19 +1,14 @@
 -- Each step keeps the balance between the words and the shares.
 use Rattle.std.proofs.Common.{◌≡◌, ◌≢◌, ℕ, ◌+◌, ◌%◌, ◌^◌, ◌<◌, List, [], ◌∷◌, ◌++◌, length, get_or, set, sym, refl, ap, ◌∙◌, subst, arith, length-set, get_or-set_other}
-use Rattle.std.proofs.lemmas.Grind.{get_or-set_at}
-use Rattle.std.proofs.lemmas.List.{set-get_or}
-use Rattle.std.proofs.Math.Nat.{mod-add-mod}
-use mathlib.Core.Logic.{dite}
-use mathlib.Core.Option.{none, some}
+use Rattle.std.proofs.{lemmas.Grind.get_or-set_at, lemmas.List.set-get_or, Math.Nat.mod-add-mod}
+use mathlib.Core.{Logic.dite, Option.{none, some}}
 use native.Mathlib.Decide.{ℕ_discrete}
 use lib.ListN.{get_elem?}
 use Rattle.atomic_table.specs.Table.{step, keeps, opening, Allows, Splits, Joins, Final, Seen}
 use Rattle.atomic_table.proofs.Lists.{set_else}
-use Rattle.arachne_weights.specs.declared.token.Token.{Token}
-use Rattle.arachne_weights.specs.Weight.{whole}
+use Rattle.arachne_weights.specs.{declared.token.Token.Token, Weight.whole}
 use Rattle.arachne_weights.specs.Tokens.{held, spent, begins, learns, splits, joins}
-use Rattle.arachne_weights.proofs.Tokens.{whole-total}
-use Rattle.arachne_weights.proofs.Totals.{total-set, total-snoc}
+use Rattle.arachne_weights.proofs.{Tokens.whole-total, Totals.{total-set, total-snoc}}
 use Rattle.arachne_ledger.specs.declared.share.Known.{Known}
 use Rattle.arachne_ledger.specs.Sums.{Sums, raised, blank, after_adding, after_reading, after_joining}
 use Rattle.arachne_ledger.specs.Balance.{word_of, Board, sum_of_shares, IsBalanced, opening_share, first_share, second_share, joined_share, after_add, after_read, after_split, after_join}

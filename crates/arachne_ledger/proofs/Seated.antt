@@ -2,18 +2,12 @@
 use Rattle.std.proofs.Common.{◌≡◌, ℕ, ◌+◌, ◌%◌, ◌^◌, ◌<◌, List, length, get_or, sym, ap, ◌∙◌, subst, arith, length-set}
 use mathlib.Core.Option.{none, some}
 use lib.ListN.{get_elem?}
-use Rattle.atomic_table.specs.Seated.{TableId}
-use Rattle.atomic_table.specs.Table.{step, Allows, Splits, Joins, Final, Seen}
-use Rattle.arachne_weights.specs.declared.token.Token.{Token}
-use Rattle.arachne_weights.specs.Weight.{whole, joined}
-use Rattle.arachne_weights.specs.Tokens.{held, spent}
-use Rattle.arachne_ledger.specs.declared.share.Known.{Known}
-use Rattle.arachne_ledger.specs.Sums.{blank, after_adding, after_reading, after_joining}
+use Rattle.atomic_table.specs.{Seated.TableId, Table.{step, Allows, Splits, Joins, Final, Seen}}
+use Rattle.arachne_weights.specs.{declared.token.Token.Token, Weight.{whole, joined}, Tokens.{held, spent}}
+use Rattle.arachne_ledger.specs.{declared.share.Known.Known, Sums.{blank, after_adding, after_reading, after_joining}}
 use Rattle.arachne_ledger.specs.Balance.{word_of, IsBalanced, first_share, second_share, joined_share}
-use Rattle.arachne_ledger.specs.Seats.{Mine, IsLaidOut, IsSeated}
-use Rattle.arachne_ledger.specs.Steps.{Adds, Reads}
-use Rattle.arachne_ledger.proofs.Keeps.{adds, reads, deals, gathers, settles}
-use Rattle.arachne_ledger.proofs.Sums.{length-plus}
+use Rattle.arachne_ledger.specs.{Seats.{Mine, IsLaidOut, IsSeated}, Steps.{Adds, Reads}}
+use Rattle.arachne_ledger.proofs.{Keeps.{adds, reads, deals, gathers, settles}, Sums.length-plus}
 
 module _ (table : TableId) (key count : ℕ) (laid : IsLaidOut table key count) where
   -- a share has a sum for each ledger

@@ -2,11 +2,9 @@
 use Rattle.std.specs.Prelude.{◌≡◌, ℕ, ◌+◌, ◌*◌, ◌%◌, ◌^◌, ◌<◌, List, [], ◌∷◌, ◌++◌, length, slice_index, slice_set}
 use Rattle.std.specs.List.{sum_by}
 use Rattle.atomic_table.specs.Table.{State}
-use Rattle.arachne_weights.specs.declared.token.Token.{Token}
-use Rattle.arachne_weights.specs.Tokens.{held, spent, IsReachable}
+use Rattle.arachne_weights.specs.{declared.token.Token.Token, Tokens.{held, spent, IsReachable}}
 use Rattle.arachne_weights.specs.Weight.{whole, first_part, second_part, joined}
-use Rattle.arachne_ledger.specs.declared.share.Known.{Known}
-use Rattle.arachne_ledger.specs.Sums.{blank, after_adding, after_reading, after_joining}
+use Rattle.arachne_ledger.specs.{declared.share.Known.Known, Sums.{blank, after_adding, after_reading, after_joining}}
 
 -- The index of a ledger's word. Ledgers lie sixteen words apart, and sixteen words follow the place of the last. So no
 -- two share a cache line, and no ledger shares one with the memory next to the table.

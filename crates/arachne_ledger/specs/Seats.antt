@@ -1,11 +1,8 @@
 -- The invariants of `Ledgers` and `Share` over their table and seat.
 use Rattle.std.specs.Prelude.{◌≡◌, ℕ, ◌^◌, ◌<◌, [], length}
-use Rattle.atomic_table.specs.Seated.{TableId}
-use Rattle.atomic_table.specs.Table.{Me}
-use Rattle.arachne_weights.specs.declared.token.Token.{Token}
-use Rattle.arachne_weights.specs.Tokens.{held}
-use Rattle.arachne_ledger.specs.declared.share.Known.{Known}
-use Rattle.arachne_ledger.specs.Balance.{word_of}
+use Rattle.atomic_table.specs.{Seated.TableId, Table.Me}
+use Rattle.arachne_weights.specs.{declared.token.Token.Token, Tokens.held}
+use Rattle.arachne_ledger.specs.{declared.share.Known.Known, Balance.word_of}
 
 -- a share's view, and the slots that its seat holds
 abbrev pub Mine : Type 0

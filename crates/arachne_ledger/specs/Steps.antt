@@ -1,11 +1,8 @@
 -- The knowledge of a share after each of its steps on the table.
 use Rattle.std.specs.Prelude.{◌≡◌, ℕ, ◌%◌, ◌^◌, ◌<◌, length, slice_index}
 use Rattle.atomic_table.specs.Table.{Step}
-use Rattle.arachne_weights.specs.Weight.{whole}
-use Rattle.arachne_weights.specs.Tokens.{held}
-use Rattle.arachne_ledger.specs.Sums.{after_adding, after_reading}
-use Rattle.arachne_ledger.specs.Balance.{word_of}
-use Rattle.arachne_ledger.specs.Seats.{Mine}
+use Rattle.arachne_weights.specs.{Weight.whole, Tokens.held}
+use Rattle.arachne_ledger.specs.{Sums.{after_adding, after_reading}, Balance.word_of, Seats.Mine}
 
 -- the amount was added to the share's sum for that ledger
 abbrev pub Adds : Step (Unit {0}) → Mine → ℕ → Mine → Type 0

@@ -1,14 +1,10 @@
 -- The view that contracts have of ledgers and shares.
-use Rattle.std.specs.Prelude.{◌≡◌, ℕ}
-use Rattle.std.specs.declared.option.Option.{Option}
+use Rattle.std.specs.{Prelude.{◌≡◌, ℕ}, declared.option.Option.Option}
 use mathlib.Core.Option.{some}
 use lib.ListN.{get_elem?}
 use Rattle.atomic_table.specs.Seated.{TableId}
-use Rattle.arachne_weights.specs.Tokens.{held}
-use Rattle.arachne_weights.specs.Weight.{whole}
-use Rattle.arachne_ledger.specs.Sums.{Sums}
-use Rattle.arachne_ledger.specs.declared.share.Reading.{Reading}
-use Rattle.arachne_ledger.specs.Balance.{Board, IsBalanced}
+use Rattle.arachne_weights.specs.{Tokens.held, Weight.whole}
+use Rattle.arachne_ledger.specs.{Sums.Sums, declared.share.Reading.Reading, Balance.{Board, IsBalanced}}
 
 -- the table of the ledgers, and their number
 pub record LedgersView : Type 0 where

@@ -8,9 +8,9 @@ ghost use Rattle.arachne_weights.specs.Tokens.{held};
 ghost use Rattle.arachne_ledger.specs.declared.share.Known.{Known};
 ghost use Rattle.arachne_ledger.specs.Balance.{Board, IsBalanced, word_of, opening_share, after_add, after_read, after_split, after_join};
 
-/// Each ledger's word is the sum of what all shares have added to it, modulo 2^64.
+/// Each ledger's word is the sum, modulo 2^64, of what all shares (threads' rights to add) have added to the ledger.
 ///
-/// The law holds for new ledgers, and after each atomic operation that a share makes.
+/// The law holds for new ledgers, and after each atomic operation of a share.
 pub fn words_stay_the_sums()
     ensures at_first { (count : ℕ) (words : List ℕ) → length words ≡ word_of count → ((i : ℕ) → slice_index words i ≡ 0)
         → IsBalanced count (opening words [] (opening_share count)) }

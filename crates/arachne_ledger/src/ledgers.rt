@@ -15,7 +15,7 @@ use std::marker::Model;
 // The number of words in two cache lines, which processors fetch together.
 const SPACING: usize = 16;
 
-/// Several ledgers: counters from 0 to which many threads add, each through a share (a right to add) of its own.
+/// Several ledgers (counters that begin at 0). Many threads add to them, each through its own share (right to add).
 #[derive(Drop)]
 pub struct Ledgers {
     table: Table<(), View, usize, Balanced, Global>,
@@ -55,10 +55,10 @@ fn zeros(alloc: Global, count: usize) -> Result<Vec<u64>, AllocError>
 }
 
 impl Ledgers {
-    /// Creates `count` ledgers (0 is allowed). Returns them with their first share (a right to add), which has the
-    /// whole weight.
+    /// Creates `count` ledgers (0 is allowed), and their first share (a right to add).
     ///
-    /// A split halves a share's weight and a join adds two, so a share with the whole weight is the only one.
+    /// Each share has a *weight*, a part of one whole. A split halves the weight. Only a share into which all others
+    /// were joined has the whole weight.
     pub fn new(alloc: Global, count: usize) -> Result<(Ledgers, Share), AllocError>
         ensures ledgers { IfOk result (λ r. r.0.count ≡ count) }
         ensures share { IfOk result (λ r. r.1 ≡ record { table = r.0.table; weight = whole; sums = replicate count 0; last_read = None }) }
@@ -72,15 +72,14 @@ impl Ledgers {
         Ok((Ledgers { table, count }, share))
     }
 
-    /// Returns the number of ledgers.
     pub fn count(&self) -> usize
         ensures { result ≡ self.now.count }
     {
         self.count
     }
 
-    /// Adds `amount` to the word of ledger `ledger` by one atomic operation, modulo 2^64. In contracts, the share's sum
-    /// for that ledger grows by `amount` too.
+    /// Adds `amount` to a ledger, modulo 2^64, by one atomic operation. In contracts, `amount` is also added to the
+    /// share's sum for this ledger.
     pub fn add(&self, share: &mut Share, ledger: usize, amount: u64)
         requires own { IsShareOf self.now share.old }
         requires ledger { ledger < self.now.count }
@@ -91,10 +90,9 @@ impl Ledgers {
         shared.fetch_add::<Add>(&mut share.seat, ledger_word(ledger), amount);
     }
 
-    /// Returns the sum of all amounts that were added to the ledger up to the moment of the load, modulo 2^64.
+    /// Returns the sum of all amounts that were added to the ledger before this read, modulo 2^64.
     ///
-    /// If the share has the whole weight (no other share is in use), the result is the sum that contracts keep for this
-    /// share, modulo 2^64.
+    /// If no other share (right to add) is in use, the result is this share's sum for the ledger, modulo 2^64.
     pub fn read(&self, share: &mut Share, ledger: usize) -> u64
         requires own { IsShareOf self.now share.old }
         requires ledger { ledger < self.now.count }
@@ -105,9 +103,9 @@ impl Ledgers {
         shared.load::<Read>(&mut share.seat, ledger_word(ledger))
     }
 
-    /// Splits a share into two. The first gets half of the weight of `share`, rounded up, and all of its sums.
-    ///
-    /// If the weight is 1 or 0, both shares get weight 0.
+    /// Splits a share (a right to add) into two. In contracts, the first share keeps the sums of what was added through
+    /// `share`, and the sums of the second are 0. The first share gets half of the weight (part of one whole), rounded
+    /// up. If the weight is 1 or 0, both shares get weight 0.
     pub fn split(&self, share: Share) -> (Share, Share)
         requires { IsShareOf self.now share }
         ensures first { result.0 ≡ record share { weight = first_part share.weight } }
@@ -133,7 +131,7 @@ impl Ledgers {
         )
     }
 
-    /// Joins two shares (rights to add) into one: adds their weights, up to the whole, and their sums for each ledger.
+    /// Joins two shares (rights to add) into one, and adds their sums and their weights (parts of one whole).
     pub fn join_shares(&self, share: Share, other: Share) -> Share
         requires share { IsShareOf self.now share }
         requires other { IsShareOf self.now other }
@@ -154,8 +152,8 @@ impl Ledgers {
         }
     }
 
-    /// Closes the ledgers, and returns the sum of each, modulo 2^64. The caller must pass the share with the whole
-    /// weight, so that no other share is in use.
+    /// Closes the ledgers, and returns the sum of each, modulo 2^64. `share` must be the only share (right to add),
+    /// because all others were joined into it.
     ///
     /// If memory is refused, returns the ledgers and the share as an error.
     pub fn close(self, alloc: Global, share: Share) -> Result<Vec<u64>, (Ledgers, Share)>

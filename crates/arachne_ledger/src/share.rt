@@ -7,27 +7,25 @@ use atomic_table::Seat;
 use std::collections::LinkedList;
 use std::marker::Model;
 
-/// The value that a read found in a ledger's word.
+/// The value that a read has found in a ledger.
 pub struct Reading {
     pub ledger: usize,
     pub number: u64,
 }
 
-/// The record of a share (a thread's right to add): the sum of what was added through it to each ledger, not reduced
-/// modulo 2^64, and the value of its last read.
+/// The record of a share (a thread's right to add). `sums` has its sum for each ledger, not modulo 2^64.
 pub struct Known {
     pub sums: LinkedList<u64>,
     pub last_read: Option<Reading>,
 }
 
-/// A share (a thread's right to add) as the invariant of the ledgers' table describes it. The type exists only for
-/// contracts.
+/// The record of a share (right to add), with its weight (part of one whole). The type exists only for contracts.
 pub type View = Token<Known>;
 
-/// One thread's right to add to all ledgers of one table. Contracts keep with it the sums of what was added through it.
+/// One thread's right to add to all ledgers of a `Ledgers`. Contracts keep the sums that each share has added.
 ///
-/// The caller must use and join a share only with the ledgers that created it. If a share is dropped, its weight is
-/// lost: then no share can have the whole weight any more.
+/// A share may be used only with the `Ledgers` for which it was created, and joined only with other shares of the same
+/// `Ledgers`. If a share is dropped, these ledgers can never be closed.
 #[derive(Drop)]
 pub struct Share {
     pub(crate) seat: Seat<(), View>,
@@ -46,7 +44,7 @@ impl Model for Share {
 }
 
 impl Share {
-    /// Returns whether this share has the whole weight, which means that all other shares were joined into it.
+    /// Returns whether this is the only share (right to add), because all others were joined into it.
     pub fn is_whole(&self) -> bool
         ensures { IsTrue result ↔ IsWhole self.now }
     {

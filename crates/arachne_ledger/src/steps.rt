@@ -1,9 +1,8 @@
-//! The invariant of the ledgers' table, and the kinds of atomic operation on it.
+//! The invariant of the ledgers' words, and the kinds of atomic operation on these words.
 use crate::share::View;
 use atomic_table::{Join, Play, Split, TableRule};
 
-/// The invariant: each ledger's word is the sum of what all shares have added to it. The table's constant key is the
-/// number of ledgers.
+/// The invariant that each ledger's word is the sum of what all shares (rights to add) have added to the ledger.
 pub struct Balanced;
 
 impl TableRule<(), View, usize> for Balanced {

@@ -1,20 +1,14 @@
 -- A seat that was never split is the only one, so no step creates another.
-use Rattle.std.proofs.Common.{◌≡◌, ⊎_elim, ℕ, zero, suc, ◌^◌, ◌<◌, List, [], ◌∷◌, ◌++◌, length, get_or, set, refl, sym, ap, ◌∙◌, subst, arith, length-set}
-use Rattle.std.specs.Prelude.{true}
-use Rattle.std.proofs.lemmas.Bool.{false≢true}
-use Rattle.std.proofs.lemmas.List.{length-map, length-replicate}
-use Rattle.std.proofs.lemmas.List.Elements.{All-replicate}
+use Rattle.std.proofs.Common.{◌≡◌, ⊎_elim, ℕ, zero, suc, ◌^◌, ◌<◌, List, [], ◌∷◌, ◌++◌, length, get_or, set, refl, sym, ap, ◌∙◌, subst, arith, length-set, true}
+use Rattle.std.proofs.lemmas.{Bool.false≢true, List.{length-map, length-replicate}, List.Elements.All-replicate}
 use mathlib.Core.Option.{some, some-ne-none}
 use lib.ListN.{get_elem?, replicate}
 use Rattle.atomic_table.specs.Table.{opening}
 use Rattle.atomic_table.proofs.Lists.{at_set}
-use Rattle.arachne_lock.specs.declared.view.KnownLocks.{KnownLocks}
-use Rattle.arachne_lock.specs.State.{unused, IsLeftBy}
-use Rattle.arachne_lock.specs.Logs.{split_log, cut_log, joined_log}
-use Rattle.arachne_lock.specs.Views.{Guarded, word_of}
+use Rattle.arachne_lock.specs.{declared.view.KnownLocks.KnownLocks, State.{unused, IsLeftBy}}
+use Rattle.arachne_lock.specs.{Logs.{split_log, cut_log, joined_log}, Views.{Guarded, word_of}}
 use Rattle.arachne_lock.specs.Rule.{Board, known, idle_known, spent, HaveCome, begins, acts, splits, joins, blank, IsKept}
-use Rattle.arachne_lock.proofs.GoingOn.{nothing-yet}
-use Rattle.arachne_lock.proofs.Keeps.{opens}
+use Rattle.arachne_lock.proofs.{GoingOn.nothing-yet, Keeps.opens}
 
 at-inside : {A : Type 0} (l : List A) (i : ℕ) (a : A) → get_elem? l i ≡ some a → i < length l
 at-inside [] i a e = absurd (some-ne-none a (sym e))

@@ -1,23 +1,12 @@
 -- After each call on a sound history and its state, the history with the call's events is sound, and the state is the
 -- one after it.
-use Rattle.std.proofs.Common.{◌≡◌, ℕ, ◌+◌, ◌%◌, ◌^◌, List, [], ◌∷◌, ◌++◌, length, refl, sym, ◌∙◌, ap, subst, append_assoc, length-append, Option, None, Some}
-use Rattle.std.specs.Prelude.{Contains, slice_get, is_some, true}
-use Rattle.std.specs.Result.{is_ok}
-use Rattle.std.specs.declared.result.Result.{Result}
-use Rattle.std.specs.declared.result.Result.TheVariants.{Ok, Err}
-use Rattle.std.proofs.Math.Nat.{mod-add-mod}
-use Rattle.std.proofs.lemmas.Bool.{true≢false, false≢true}
-use Rattle.std.proofs.lemmas.List.{append-nil}
-use Rattle.std.proofs.lemmas.Option.{same_Some, none-some}
-use Rattle.arachne_lock.specs.declared.answer.Admitted.{Admitted}
-use Rattle.arachne_lock.specs.declared.answer.Admitted.TheVariants.{Granted, Queued}
-use Rattle.arachne_lock.specs.declared.answer.AskRefusal.{AskRefusal}
-use Rattle.arachne_lock.specs.declared.answer.Released.{Released}
-use Rattle.arachne_lock.specs.declared.answer.NotOwner.{NotOwner}
-use Rattle.arachne_lock.specs.declared.answer.Withdrawn.{Withdrawn}
-use Rattle.arachne_lock.specs.declared.answer.Withdrawn.TheVariants.{Left, Holds, Outside}
-use Rattle.arachne_lock.specs.declared.lock_entry.Holder.{Holder}
-use Rattle.arachne_lock.specs.declared.event.QueueEvent.{QueueEvent}
+use Rattle.std.proofs.Common.{◌≡◌, ℕ, ◌+◌, ◌%◌, ◌^◌, List, [], ◌∷◌, ◌++◌, length, refl, sym, ◌∙◌, ap, subst, append_assoc, length-append, Option, None, Some, Contains, slice_get, is_some, true, append-nil}
+use Rattle.std.specs.{Result.is_ok, declared.result.Result.Result, declared.result.Result.TheVariants.{Ok, Err}}
+use Rattle.std.proofs.{Math.Nat.mod-add-mod, lemmas.Bool.{true≢false, false≢true}, lemmas.Option.{same_Some, none-some}}
+use Rattle.arachne_lock.specs.declared.answer.Admitted.{Admitted, TheVariants.{Granted, Queued}}
+use Rattle.arachne_lock.specs.declared.answer.{AskRefusal.AskRefusal, Released.Released, NotOwner.NotOwner}
+use Rattle.arachne_lock.specs.declared.answer.Withdrawn.{Withdrawn, TheVariants.{Left, Holds, Outside}}
+use Rattle.arachne_lock.specs.declared.{lock_entry.Holder.Holder, event.QueueEvent.QueueEvent}
 use Rattle.arachne_lock.specs.declared.event.QueueEvent.TheVariants.{Ask, Grant, Free, Leave}
 use Rattle.arachne_lock.specs.Law.{Holding, IsIn, IsNeverIdle, after, without}
 use Rattle.arachne_lock.specs.History.{replay, IsLawful, IsSound, HoldsSince}

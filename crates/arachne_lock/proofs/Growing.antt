@@ -1,14 +1,8 @@
 -- Histories that extend others, and the places of their events.
-use Rattle.std.proofs.Common.{◌≡◌, ◌≢◌, ℕ, zero, suc, ◌+◌, Bool, true, false, List, [], ◌∷◌, ◌++◌, length, refl, sym, ap, ◌∙◌, arith, append_assoc, length-append, Some, eq-eqb, ne_eqb}
-use Rattle.std.specs.Prelude.{slice_get, All, ◌==◌, ◌&&◌, if◌then◌else◌}
-use Rattle.std.proofs.lemmas.Bool.Decides.{nat_tests}
-use Rattle.std.proofs.lemmas.List.{append-nil}
-use Rattle.std.proofs.lemmas.List.Elements.{All-nil, All-cons, All-weaker}
-use Rattle.std.proofs.lemmas.List.Sums.{sum_by-cons, sum_by-append}
-use Rattle.std.proofs.lemmas.Option.{none-some}
-use Rattle.arachne_lock.specs.declared.event.QueueEvent.{QueueEvent}
-use Rattle.arachne_lock.specs.declared.view.LoggedEvent.{LoggedEvent}
-use Rattle.arachne_lock.specs.declared.view.Sight.{Sight}
+use Rattle.std.proofs.Common.{◌≡◌, ◌≢◌, ℕ, zero, suc, ◌+◌, Bool, true, false, List, [], ◌∷◌, ◌++◌, length, refl, sym, ap, ◌∙◌, arith, append_assoc, length-append, Some, eq-eqb, ne_eqb, slice_get, All, ◌==◌, ◌&&◌, if◌then◌else◌, append-nil}
+use Rattle.std.proofs.lemmas.{Bool.Decides.nat_tests, List.Elements.{All-nil, All-cons, All-weaker}}
+use Rattle.std.proofs.lemmas.{List.Sums.{sum_by-cons, sum_by-append}, Option.none-some}
+use Rattle.arachne_lock.specs.declared.{event.QueueEvent.QueueEvent, view.LoggedEvent.LoggedEvent, view.Sight.Sight}
 use Rattle.arachne_lock.specs.Placed.{BeginsWith, placed, StandsIn, is_at, times_at, once_below}
 use Rattle.arachne_lock.specs.Rule.{Histories, IsSeenIn}
 

@@ -1,28 +1,21 @@
 -- Each kind of step keeps the rule, and what it says of its seat is true.
-use Rattle.std.proofs.Common.{◌≡◌, ◌≢◌, ℕ, zero, suc, ◌+◌, ◌<◌, ◌≤◌, ⊎_elim, List, [], ◌∷◌, ◌++◌, length, map, get_or, set, refl, sym, ap, ◌∙◌, subst, arith, length-append, length-set, get_or-set_same, get_or-set_other, None, Some, eqb, eq-eqb, ne_eqb}
-use Rattle.std.specs.Prelude.{All, if◌then◌else◌, ◌==◌}
+use Rattle.std.proofs.Common.{◌≡◌, ◌≢◌, ℕ, zero, suc, ◌+◌, ◌<◌, ◌≤◌, ⊎_elim, List, [], ◌∷◌, ◌++◌, length, map, get_or, set, refl, sym, ap, ◌∙◌, subst, arith, length-append, length-set, get_or-set_same, get_or-set_other, None, Some, eqb, eq-eqb, ne_eqb, All, if◌then◌else◌, ◌==◌}
 use Rattle.std.proofs.lemmas.Bool.Decides.{nat_tests}
 use Rattle.std.proofs.lemmas.List.Elements.{All-nil, All-cons, All-head, All-tail, All-append, All-weaker}
 use Rattle.std.proofs.lemmas.Option.{same_Some, none-some}
-use mathlib.Core.Option.{some, none, some-injective, some-ne-none}
+use mathlib.Core.{Option.{some, none, some-ne-none}, Logic.dite}
 use mathlib.Core.Option as maybe
-use mathlib.Core.Logic.{dite}
 use native.Mathlib.Decide.{ℕ_discrete}
 use lib.ListN.{get_elem?}
 use prog.Atomic.{either}
 use Rattle.atomic_table.specs.Table.{step, keeps, takes, gives, opening, Act, Valid, stepped, carried_after, Allows, Splits, Joins}
 use Rattle.atomic_table.proofs.Lists.{at_set, at_snoc, set_here, set_else, exchanged}
 use Rattle.arachne_weights.proofs.Totals.{total-set, total-snoc, at-le-total, two-le-total}
-use Rattle.arachne_lock.specs.declared.event.QueueEvent.{QueueEvent}
-use Rattle.arachne_lock.specs.declared.view.KnownLocks.{KnownLocks}
-use Rattle.arachne_lock.specs.declared.view.LoggedEvent.{LoggedEvent}
-use Rattle.arachne_lock.specs.declared.view.EventLog.{EventLog}
-use Rattle.arachne_lock.specs.declared.view.Sight.{Sight}
-use Rattle.arachne_lock.specs.History.{IsSound}
-use Rattle.arachne_lock.specs.State.{IsLeftBy}
+use Rattle.arachne_lock.specs.declared.{event.QueueEvent.QueueEvent, view.KnownLocks.KnownLocks}
+use Rattle.arachne_lock.specs.declared.view.{LoggedEvent.LoggedEvent, EventLog.EventLog, Sight.Sight}
+use Rattle.arachne_lock.specs.{History.IsSound, State.IsLeftBy}
 use Rattle.arachne_lock.specs.Placed.{BeginsWith, placed, StandsIn, times_at, once_below}
-use Rattle.arachne_lock.specs.Logs.{sight, contended_log, taken_log, given_back_log}
-use Rattle.arachne_lock.specs.Views.{Guarded, word_of}
+use Rattle.arachne_lock.specs.{Logs.{sight, contended_log, taken_log, given_back_log}, Views.{Guarded, word_of}}
 use Rattle.arachne_lock.specs.Rule.{Board, Histories, idle_known, taken_known, spent, is_of, guards, IsSeenIn, Fits, IsHome, HaveCome, begins, acts, splits, joins, IsKept, IsLawfulSeat, blank, first_view, split_view, second_view, joined_view, AreFirstSlots}
 use Rattle.arachne_lock.specs.Steps.{Mine, idle, with_guard, HasTaken, Takes, GivesBack}
 use Rattle.arachne_lock.proofs.Growing.{begins-refl, GoOn, seen-more, made-more, stands-placed, times-placed, times-elsewhere, times-append}

@@ -1,15 +1,10 @@
 -- In a lawful history a task that has left is granted the lock only after it has asked again.
-use Rattle.std.proofs.Common.{◌≡◌, ℕ, zero, suc, ◌<◌, Bool, true, false, ◌||◌, List, [], ◌∷◌, ◌++◌, inl, inr, refl, sym, ◌∙◌, ap, subst, arith, Some, nat_eq, eqb-true}
-use Rattle.std.specs.Prelude.{slice_get, drop, cond}
+use Rattle.std.proofs.Common.{◌≡◌, ℕ, zero, suc, ◌<◌, Bool, true, false, ◌||◌, List, [], ◌∷◌, ◌++◌, inl, inr, refl, sym, ◌∙◌, ap, subst, arith, Some, nat_eq, eqb-true, slice_get, drop, cond}
 use Rattle.std.specs.List.{list_any}
-use Rattle.std.proofs.lemmas.Bool.{true≢false, cases_Bool}
-use Rattle.std.proofs.lemmas.Cmp.{nat_eq_equiv}
-use Rattle.std.proofs.lemmas.List.Folds.{list_any-append}
+use Rattle.std.proofs.lemmas.{Bool.{true≢false, cases_Bool}, Cmp.nat_eq_equiv, List.Folds.list_any-append}
 use Rattle.std.proofs.lemmas.Option.{same_Some, none-some}
-use Rattle.arachne_lock.specs.declared.event.QueueEvent.{QueueEvent}
-use Rattle.arachne_lock.specs.declared.event.QueueEvent.TheVariants.{Ask, Grant, Free, Leave}
-use Rattle.arachne_lock.specs.Law.{Holding, opening, Allows, after, without}
-use Rattle.arachne_lock.specs.History.{IsLawfulFrom, IsLawful}
+use Rattle.arachne_lock.specs.declared.event.QueueEvent.{QueueEvent, TheVariants.{Ask, Grant, Free, Leave}}
+use Rattle.arachne_lock.specs.{Law.{Holding, opening, Allows, after, without}, History.{IsLawfulFrom, IsLawful}}
 use Rattle.arachne_lock.specs.Promises.{GrantsNoneThatLeft}
 use Rattle.arachne_lock.proofs.Waiting.{left-none}
 

@@ -1,11 +1,8 @@
 -- A lawful history has one holder at a time.
-use Rattle.std.proofs.Common.{◌≡◌, ℕ, zero, suc, ◌<◌, List, [], ◌∷◌, ◌⊎◌, inl, inr, ap, subst, arith, Some}
-use Rattle.std.specs.Prelude.{slice_get}
+use Rattle.std.proofs.Common.{◌≡◌, ℕ, zero, suc, ◌<◌, List, [], ◌∷◌, ◌⊎◌, inl, inr, ap, subst, arith, Some, slice_get}
 use Rattle.std.proofs.lemmas.Option.{same_Some, none-some}
-use Rattle.arachne_lock.specs.declared.event.QueueEvent.{QueueEvent}
-use Rattle.arachne_lock.specs.declared.event.QueueEvent.TheVariants.{Ask, Grant, Free, Leave}
-use Rattle.arachne_lock.specs.Law.{Holding, opening, Allows, after}
-use Rattle.arachne_lock.specs.History.{IsLawfulFrom, IsLawful, IsQuiet}
+use Rattle.arachne_lock.specs.declared.event.QueueEvent.{QueueEvent, TheVariants.{Ask, Grant, Free, Leave}}
+use Rattle.arachne_lock.specs.{Law.{Holding, opening, Allows, after}, History.{IsLawfulFrom, IsLawful, IsQuiet}}
 use Rattle.arachne_lock.specs.Promises.{HasOneHolderAtATime}
 
 -- While `first` owns the lock, a grant comes only after `first` has freed it.

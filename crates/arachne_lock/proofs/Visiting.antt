@@ -1,11 +1,8 @@
 -- A call on a lock's state while a seat has it.
 use Rattle.std.proofs.Common.{◌≡◌, ℕ, List, [], ◌∷◌, ◌++◌, get_or, refl, sym, ap, ◌∙◌, subst}
 use Rattle.atomic_table.specs.Seated.{TableId}
-use Rattle.arachne_lock.specs.declared.event.QueueEvent.{QueueEvent}
-use Rattle.arachne_lock.specs.declared.view.EventLog.{EventLog}
-use Rattle.arachne_lock.specs.History.{IsSound}
-use Rattle.arachne_lock.specs.State.{Lock, IsLeftBy}
-use Rattle.arachne_lock.specs.Logs.{taken_log, given_back_log, answered_log}
+use Rattle.arachne_lock.specs.{declared.event.QueueEvent.QueueEvent, declared.view.EventLog.EventLog, History.IsSound}
+use Rattle.arachne_lock.specs.{State.{Lock, IsLeftBy}, Logs.{taken_log, given_back_log, answered_log}}
 use Rattle.arachne_lock.specs.Views.{Guarded, SeatView, with_log}
 use Rattle.arachne_lock.specs.Steps.{Mine, idle, with_guard, GoesOnFrom, Comes, HasTaken, Visits, IsReturnable}
 use Rattle.arachne_lock.specs.Calls.{HasCalled}

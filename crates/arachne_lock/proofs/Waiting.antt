@@ -1,15 +1,11 @@
 -- The set beside a queue, and a queue that a task leaves.
-use Rattle.std.proofs.Common.{◌≡◌, ℕ, Bool, true, false, cond, ◌||◌, List, [], ◌∷◌, ◌++◌, ◌↔◌, IsTrue, inl, inr, refl, sym, ◌∙◌, ap, eqb-true, nat_eq}
-use Rattle.std.specs.Prelude.{Contains, filter, not}
+use Rattle.std.proofs.Common.{◌≡◌, ℕ, Bool, true, false, cond, ◌||◌, List, [], ◌∷◌, ◌++◌, ◌↔◌, IsTrue, inl, inr, refl, sym, ◌∙◌, ap, eqb-true, nat_eq, Contains, filter, not}
 use Rattle.std.specs.List.{list_any, IsDistinct, AllByRecursion}
-use Rattle.std.proofs.lemmas.Bool.{cases_Bool}
-use Rattle.std.proofs.lemmas.Cmp.{nat_eq_equiv}
-use Rattle.std.proofs.lemmas.List.Elements.{All-from_recursion, All-weaker}
+use Rattle.std.proofs.lemmas.{Bool.cases_Bool, Cmp.nat_eq_equiv, List.Elements.{All-from_recursion, All-weaker}}
 use Rattle.std.proofs.lemmas.List.Folds.{list_any_none, list_any-append}
 use Rattle.std.proofs.lemmas.Map.Keys.{IsDistinct-push, IsDistinct-cons, IsDistinct-head, IsDistinct-tail}
 use Rattle.std.proofs.lemmas.Map.Views.{Contains-from_any, list_any-from_Contains}
-use Rattle.arachne_lock.specs.Law.{without}
-use Rattle.arachne_lock.specs.WaiterQueue.{Indexes}
+use Rattle.arachne_lock.specs.{Law.without, WaiterQueue.Indexes}
 
 -- the set has a task exactly if the queue has
 pub found : (keys order : List ℕ) (who : ℕ) (result : Bool) → Indexes keys order → result ≡ list_any (nat_eq who) keys

@@ -1,20 +1,11 @@
 -- The result of each call, and the seat's log after it.
-use Rattle.std.specs.Prelude.{◌≡◌, ℕ, List, Option, [], ◌++◌}
-use Rattle.std.specs.declared.result.Result.{Result}
-use Rattle.arachne_lock.specs.declared.answer.Admitted.{Admitted}
-use Rattle.arachne_lock.specs.declared.answer.AskRefusal.{AskRefusal}
-use Rattle.arachne_lock.specs.declared.answer.Released.{Released}
-use Rattle.arachne_lock.specs.declared.answer.NotOwner.{NotOwner}
-use Rattle.arachne_lock.specs.declared.answer.Withdrawn.{Withdrawn}
-use Rattle.arachne_lock.specs.declared.answer.Attempt.{Attempt}
-use Rattle.arachne_lock.specs.declared.answer.Attempt.TheVariants.{Answered, Contended}
-use Rattle.arachne_lock.specs.declared.event.QueueEvent.{QueueEvent}
-use Rattle.arachne_lock.specs.History.{IsSound}
-use Rattle.arachne_lock.specs.State.{Lock, IsLeftBy, IsAsked, IsFreed, IsWithdrawn, IsChecked}
-use Rattle.arachne_lock.specs.Deeds.{asked_events, freed_events, withdrawn_events}
-use Rattle.arachne_lock.specs.Logs.{contended_log, answered_log}
-use Rattle.arachne_lock.specs.Views.{SeatView, with_log}
-use Rattle.arachne_lock.specs.Steps.{GoesOnFrom}
+use Rattle.std.specs.{Prelude.{◌≡◌, ℕ, List, Option, [], ◌++◌}, declared.result.Result.Result}
+use Rattle.arachne_lock.specs.declared.answer.{Admitted.Admitted, AskRefusal.AskRefusal, Released.Released}
+use Rattle.arachne_lock.specs.declared.answer.{NotOwner.NotOwner, Withdrawn.Withdrawn, Attempt.Attempt}
+use Rattle.arachne_lock.specs.declared.{answer.Attempt.TheVariants.{Answered, Contended}, event.QueueEvent.QueueEvent}
+use Rattle.arachne_lock.specs.{History.IsSound, State.{Lock, IsLeftBy, IsAsked, IsFreed, IsWithdrawn, IsChecked}}
+use Rattle.arachne_lock.specs.{Deeds.{asked_events, freed_events, withdrawn_events}, Logs.{contended_log, answered_log}}
+use Rattle.arachne_lock.specs.{Views.{SeatView, with_log}, Steps.GoesOnFrom}
 
 -- A call on a lock with this history and state, to which it adds these events. Both histories are sound, and the one
 -- before begins with all that the seat had seen of the lock. The states are those after the histories. The seat's log

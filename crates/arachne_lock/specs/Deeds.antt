@@ -1,18 +1,11 @@
 -- The events that a call adds to a lock's history.
-use Rattle.std.specs.Prelude.{ℕ, List, [], ◌∷◌}
-use Rattle.std.specs.declared.option.Option.{Option}
-use Rattle.std.specs.declared.option.Option.TheVariants.{None, Some}
-use Rattle.std.specs.declared.result.Result.{Result}
+use Rattle.std.specs.{Prelude.{ℕ, List, [], ◌∷◌}, declared.option.Option.Option}
+use Rattle.std.specs.declared.{option.Option.TheVariants.{None, Some}, result.Result.Result}
 use Rattle.std.specs.declared.result.Result.TheVariants.{Ok, Err}
-use Rattle.arachne_lock.specs.declared.answer.Admitted.{Admitted}
-use Rattle.arachne_lock.specs.declared.answer.Admitted.TheVariants.{Granted, Queued}
-use Rattle.arachne_lock.specs.declared.answer.AskRefusal.{AskRefusal}
-use Rattle.arachne_lock.specs.declared.answer.Released.{Released}
-use Rattle.arachne_lock.specs.declared.answer.NotOwner.{NotOwner}
-use Rattle.arachne_lock.specs.declared.answer.Withdrawn.{Withdrawn}
-use Rattle.arachne_lock.specs.declared.answer.Withdrawn.TheVariants.{Left, Holds, Outside}
-use Rattle.arachne_lock.specs.declared.event.QueueEvent.{QueueEvent}
-use Rattle.arachne_lock.specs.declared.event.QueueEvent.TheVariants.{Ask, Grant, Free, Leave}
+use Rattle.arachne_lock.specs.declared.answer.Admitted.{Admitted, TheVariants.{Granted, Queued}}
+use Rattle.arachne_lock.specs.declared.answer.{AskRefusal.AskRefusal, Released.Released, NotOwner.NotOwner}
+use Rattle.arachne_lock.specs.declared.answer.Withdrawn.{Withdrawn, TheVariants.{Left, Holds, Outside}}
+use Rattle.arachne_lock.specs.declared.event.QueueEvent.{QueueEvent, TheVariants.{Ask, Grant, Free, Leave}}
 use Rattle.arachne_lock.specs.declared.event.LockDeed.{LockDeed}
 use Rattle.arachne_lock.specs.declared.event.LockDeed.TheVariants as deed
 

@@ -1,8 +1,6 @@
 -- The events of a lock, oldest first: the holding after them, and when they are lawful.
-use Rattle.std.specs.Prelude.{◌≡◌, ℕ, ◌<◌, List, [], ◌∷◌, slice_get}
-use Rattle.std.specs.declared.option.Option.TheVariants.{Some}
-use Rattle.arachne_lock.specs.declared.event.QueueEvent.{QueueEvent}
-use Rattle.arachne_lock.specs.declared.event.QueueEvent.TheVariants.{Ask, Grant, Free, Leave}
+use Rattle.std.specs.{Prelude.{◌≡◌, ℕ, ◌<◌, List, [], ◌∷◌, slice_get}, declared.option.Option.TheVariants.Some}
+use Rattle.arachne_lock.specs.declared.event.QueueEvent.{QueueEvent, TheVariants.{Ask, Grant, Free, Leave}}
 use Rattle.arachne_lock.specs.Law.{Holding, opening, Allows, after, IsNeverIdle}
 
 -- the holding after these events, from h on

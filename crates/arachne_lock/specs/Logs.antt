@@ -1,10 +1,7 @@
 -- A seat's log at first, and after each step.
 use Rattle.std.specs.Prelude.{ℕ, ◌+◌, List, [], ◌∷◌, ◌++◌, length}
-use Rattle.arachne_lock.specs.declared.event.QueueEvent.{QueueEvent}
-use Rattle.arachne_lock.specs.declared.view.EventLog.{EventLog}
-use Rattle.arachne_lock.specs.declared.view.Sight.{Sight}
-use Rattle.arachne_lock.specs.declared.view.Try.{Try}
-use Rattle.arachne_lock.specs.Placed.{placed}
+use Rattle.arachne_lock.specs.declared.{event.QueueEvent.QueueEvent, view.EventLog.EventLog, view.Sight.Sight}
+use Rattle.arachne_lock.specs.{declared.view.Try.Try, Placed.placed}
 
 -- the log of a seat that has done and seen nothing
 abbrev pub blank_log : EventLog

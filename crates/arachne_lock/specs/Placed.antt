@@ -1,8 +1,7 @@
 -- Histories that extend others, and events with their lock and place.
 use Rattle.std.specs.Prelude.{◌≡◌, ℕ, ◌+◌, List, [], ◌∷◌, ◌++◌, slice_get, count_by, ◌==◌, ◌&&◌, nat_lt, if◌then◌else◌}
 use Rattle.std.specs.declared.option.Option.TheVariants.{Some}
-use Rattle.arachne_lock.specs.declared.event.QueueEvent.{QueueEvent}
-use Rattle.arachne_lock.specs.declared.view.LoggedEvent.{LoggedEvent}
+use Rattle.arachne_lock.specs.declared.{event.QueueEvent.QueueEvent, view.LoggedEvent.LoggedEvent}
 
 -- the history begins with this one
 abbrev pub BeginsWith : List QueueEvent → List QueueEvent → Type 0

@@ -1,8 +1,6 @@
 -- The promises of a lawful history, in terms of only the places in it.
-use Rattle.std.specs.Prelude.{◌≡◌, ℕ, ◌<◌, List, slice_get}
-use Rattle.std.specs.declared.option.Option.TheVariants.{Some}
-use Rattle.arachne_lock.specs.declared.event.QueueEvent.{QueueEvent}
-use Rattle.arachne_lock.specs.declared.event.QueueEvent.TheVariants.{Ask, Grant, Free, Leave}
+use Rattle.std.specs.{Prelude.{◌≡◌, ℕ, ◌<◌, List, slice_get}, declared.option.Option.TheVariants.Some}
+use Rattle.arachne_lock.specs.declared.event.QueueEvent.{QueueEvent, TheVariants.{Ask, Grant, Free, Leave}}
 use Rattle.arachne_lock.specs.History.{IsQuiet}
 
 -- at most one task holds the lock at a time

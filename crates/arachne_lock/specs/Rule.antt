@@ -1,21 +1,14 @@
 -- The rule of a set of locks: what words, slots and views show between any two steps.
 use Rattle.std.specs.Prelude.{◌≡◌, ◌≢◌, ℕ, ◌<◌, ◌≤◌, ◌==◌, true, false, if◌then◌else◌, List, [], ◌∷◌, ◌++◌, All, length, slice_index, slice_set}
-use Rattle.std.specs.List.{sum_by}
-use Rattle.std.specs.declared.option.Option.{Option}
-use Rattle.std.specs.declared.option.Option.TheVariants.{None, Some}
+use Rattle.std.specs.{List.sum_by, declared.option.Option.Option, declared.option.Option.TheVariants.{None, Some}}
 use mathlib.Core.Option.{some}
 use mathlib.Core.Option as maybe
 use lib.ListN.{get_elem?}
 use Rattle.atomic_table.specs.Table.{State}
-use Rattle.arachne_lock.specs.declared.event.QueueEvent.{QueueEvent}
-use Rattle.arachne_lock.specs.declared.view.KnownLocks.{KnownLocks}
-use Rattle.arachne_lock.specs.declared.view.EventLog.{EventLog}
-use Rattle.arachne_lock.specs.declared.view.Sight.{Sight}
-use Rattle.arachne_lock.specs.History.{IsSound}
-use Rattle.arachne_lock.specs.State.{IsLeftBy}
+use Rattle.arachne_lock.specs.declared.{event.QueueEvent.QueueEvent, view.KnownLocks.KnownLocks, view.EventLog.EventLog}
+use Rattle.arachne_lock.specs.{declared.view.Sight.Sight, History.IsSound, State.IsLeftBy}
 use Rattle.arachne_lock.specs.Placed.{BeginsWith, StandsIn, times_at, once_below}
-use Rattle.arachne_lock.specs.Logs.{blank_log, split_log, cut_log, joined_log}
-use Rattle.arachne_lock.specs.Views.{Guarded, word_of}
+use Rattle.arachne_lock.specs.{Logs.{blank_log, split_log, cut_log, joined_log}, Views.{Guarded, word_of}}
 
 abbrev pub Board : Type 0
 Board = State Guarded KnownLocks

@@ -1,20 +1,12 @@
 -- The state of a lock, and the result of each call with its effect on the state.
 use Rattle.std.specs.Prelude.{◌≡◌, ◌↔◌, ℕ, ◌+◌, ◌%◌, ◌^◌, List, [], ◌∷◌, ◌++◌, Contains, drop, length, slice_get, IsOk, IsSome, IfOk, OnErr}
-use Rattle.std.specs.declared.option.Option.{Option}
-use Rattle.std.specs.declared.option.Option.TheVariants.{None, Some}
-use Rattle.std.specs.declared.result.Result.{Result}
+use Rattle.std.specs.declared.{option.Option.Option, option.Option.TheVariants.{None, Some}, result.Result.Result}
 use Rattle.std.specs.declared.result.Result.TheVariants.{Err}
-use Rattle.arachne_lock.specs.declared.answer.Admitted.{Admitted}
-use Rattle.arachne_lock.specs.declared.answer.Admitted.TheVariants.{Granted, Queued}
-use Rattle.arachne_lock.specs.declared.answer.AskRefusal.{AskRefusal}
-use Rattle.arachne_lock.specs.declared.answer.AskRefusal.TheVariants.{AlreadyIn, Memory}
-use Rattle.arachne_lock.specs.declared.answer.Released.{Released}
-use Rattle.arachne_lock.specs.declared.answer.NotOwner.{NotOwner}
-use Rattle.arachne_lock.specs.declared.answer.Withdrawn.{Withdrawn}
-use Rattle.arachne_lock.specs.declared.answer.Withdrawn.TheVariants.{Left, Holds, Outside}
-use Rattle.arachne_lock.specs.declared.lock_entry.Holder.{Holder}
-use Rattle.arachne_lock.specs.declared.event.QueueEvent.{QueueEvent}
-use Rattle.arachne_lock.specs.Law.{Holding, IsIn, without}
+use Rattle.arachne_lock.specs.declared.answer.Admitted.{Admitted, TheVariants.{Granted, Queued}}
+use Rattle.arachne_lock.specs.declared.answer.AskRefusal.{AskRefusal, TheVariants.{AlreadyIn, Memory}}
+use Rattle.arachne_lock.specs.declared.answer.{Released.Released, NotOwner.NotOwner, Withdrawn.Withdrawn}
+use Rattle.arachne_lock.specs.declared.{answer.Withdrawn.TheVariants.{Left, Holds, Outside}, lock_entry.Holder.Holder}
+use Rattle.arachne_lock.specs.{declared.event.QueueEvent.QueueEvent, Law.{Holding, IsIn, without}}
 use Rattle.arachne_lock.specs.History.{replay, HoldsSince}
 
 -- the owner of the lock, with the number of its grant; the tasks that wait; and the number of events, modulo 2^64

@@ -1,17 +1,10 @@
 -- The knowledge of a seat after each kind of step that it makes.
 use Rattle.std.specs.Prelude.{◌≡◌, ◌≢◌, ℕ, All, [], ◌∷◌, ◌++◌, List}
-use Rattle.atomic_table.specs.Table.{Me, Step}
-use Rattle.atomic_table.specs.Seated.{TableId}
-use Rattle.arachne_lock.specs.declared.event.QueueEvent.{QueueEvent}
-use Rattle.arachne_lock.specs.declared.view.KnownLocks.{KnownLocks}
-use Rattle.arachne_lock.specs.declared.view.EventLog.{EventLog}
-use Rattle.arachne_lock.specs.declared.view.Sight.{Sight}
-use Rattle.arachne_lock.specs.History.{IsSound}
-use Rattle.arachne_lock.specs.State.{Lock, IsLeftBy}
-use Rattle.arachne_lock.specs.Placed.{BeginsWith}
+use Rattle.atomic_table.specs.{Table.{Me, Step}, Seated.TableId}
+use Rattle.arachne_lock.specs.declared.{event.QueueEvent.QueueEvent, view.KnownLocks.KnownLocks, view.EventLog.EventLog}
+use Rattle.arachne_lock.specs.{declared.view.Sight.Sight, History.IsSound, State.{Lock, IsLeftBy}, Placed.BeginsWith}
 use Rattle.arachne_lock.specs.Logs.{sight, contended_log, taken_log, given_back_log}
-use Rattle.arachne_lock.specs.Views.{Guarded, LocksView, word_of}
-use Rattle.arachne_lock.specs.Rule.{idle_known, taken_known, IsLawfulSeat}
+use Rattle.arachne_lock.specs.{Views.{Guarded, LocksView, word_of}, Rule.{idle_known, taken_known, IsLawfulSeat}}
 
 -- a seat's view, and the slots that are with it
 abbrev pub Mine : Type 0

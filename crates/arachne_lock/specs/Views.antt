@@ -1,9 +1,7 @@
 -- The models of a set of locks and of its seats.
 use Rattle.std.specs.Prelude.{◌≡◌, ℕ, ◌+◌, ◌*◌, ◌^◌, ◌<◌, List}
 use Rattle.atomic_table.specs.Seated.{TableId}
-use Rattle.arachne_lock.specs.declared.event.QueueEvent.{QueueEvent}
-use Rattle.arachne_lock.specs.declared.view.EventLog.{EventLog}
-use Rattle.arachne_lock.specs.State.{Lock}
+use Rattle.arachne_lock.specs.{declared.event.QueueEvent.QueueEvent, declared.view.EventLog.EventLog, State.Lock}
 use Rattle.arachne_lock.specs.Logs.{blank_log, split_log, cut_log, joined_log}
 
 -- the content of a lock's slot: its state, and the events that the last call added

@@ -1,6 +1,5 @@
 -- The invariant of a wait queue's two halves. Private to the crate.
-use Rattle.std.specs.Prelude.{◌≡◌, ℕ, nat_eq, List}
-use Rattle.std.specs.List.{list_any, IsDistinct}
+use Rattle.std.specs.{Prelude.{◌≡◌, ℕ, nat_eq, List}, List.{list_any, IsDistinct}}
 use Rattle.arachne_lock.specs.declared.waiter_queue.WaiterQueue.TheInside.{Inside}
 
 -- no task is twice in the queue, and the set has exactly the tasks of the queue

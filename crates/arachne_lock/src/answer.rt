@@ -1,10 +1,8 @@
-//! The results of asking for a lock, freeing it, leaving its queue, or checking who holds it.
+//! The results of calls on a lock.
 use std::alloc::AllocError;
 use thiserror::Error;
 
-/// The result of asking for a lock: it was granted, or the task waits.
-///
-/// The events of each lock (asks, grants, frees and leaves) are numbered from 0, modulo 2^64.
+/// The result of asking for a lock. A lock's events (asks, grants, frees and leaves) have numbers from 0, modulo 2^64.
 #[derive(Clone, Copy, Debug, PartialEq, Eq)]
 pub enum Admitted {
     /// Nobody held the lock, so the task holds it now.
@@ -19,8 +17,7 @@ pub enum Admitted {
     },
 }
 
-/// The result of a call that tries once: the call did its work, or another kernel thread was in a call on the same
-/// lock.
+/// The result of a call that doesn't wait while another kernel thread is in a call on the lock.
 #[derive(Clone, Copy, Debug, PartialEq, Eq)]
 pub enum Attempt<A> {
     /// The call did its work on the lock's state, with this result.
@@ -49,17 +46,16 @@ impl From<AllocError> for AskRefusal {
     }
 }
 
-/// The result of freeing a lock: the task that holds the lock now, if a task waited for it.
+/// The result of freeing a lock.
 #[derive(Clone, Copy, Debug, PartialEq, Eq)]
 pub struct Released {
-    /// The number of the task that holds the lock now and must be woken: of the waiting tasks, the one that had waited
-    /// longest. `None` if none waited.
+    /// The task that had waited longest, which holds the lock now and must be woken. `None` if no task waited.
     pub next: Option<u64>,
-    /// The event number of this free. The grant to `next` has the number after it.
+    /// The event number of this free. The grant to `next` has the following event number.
     pub at: u64,
 }
 
-/// The error of a free by a task that doesn't hold the lock.
+/// The error if a task frees a lock that it doesn't hold.
 #[derive(Clone, Copy, Debug, PartialEq, Eq, Error)]
 #[error("it does not hold the lock")]
 pub struct NotOwner;
@@ -67,12 +63,12 @@ pub struct NotOwner;
 /// The result of `withdraw`, by which a task leaves the queue of a lock.
 #[derive(Clone, Copy, Debug, PartialEq, Eq)]
 pub enum Withdrawn {
-    /// The task waited, and has now left the queue. The lock will not be granted to the task unless it asks again.
+    /// The task has left the queue, and will not get the lock unless it asks again.
     Left {
-        /// The event number of the task's leave.
+        /// The event number of the leave.
         at: u64,
     },
-    /// The task was granted the lock before it could leave the queue, and must still free the lock.
+    /// The task already holds the lock, and must still free it.
     Holds {
         /// The event number of the grant.
         at: u64,

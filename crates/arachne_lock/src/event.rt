@@ -1,14 +1,10 @@
 //! The events of a lock: a task asks for it, gets it, frees it, or leaves its queue.
-
-/// An event of a lock, with the number of its task.
-///
-/// The type exists only for proofs.
+/// An event of a lock, with the number of its task. The type exists only for proofs.
 pub enum QueueEvent {
-    /// A task asks for the lock, and joins the end of the queue.
+    /// The task joins the end of the queue.
     Ask(u64),
     /// The task at the front of the queue gets the lock.
     Grant(u64),
-    /// The task that holds the lock frees it.
     Free(u64),
     /// A waiting task leaves the queue without the lock.
     Leave(u64),
@@ -18,14 +14,10 @@ pub enum QueueEvent {
 #[derive(Clone, Copy)]
 pub enum LockDeed {
     Nothing,
-    /// The task asked for the lock, and waits.
     Queued(u64),
-    /// The task asked for the lock, and got it at once.
     Granted(u64),
-    /// The task freed the lock, and nobody waited for it.
     Freed(u64),
     /// The first task freed the lock, which was then granted to the second.
     Handed(u64, u64),
-    /// The task waited for the lock, and left the queue.
     Left(u64),
 }

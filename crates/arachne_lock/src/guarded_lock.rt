@@ -10,10 +10,7 @@ use crossbeam_utils::CachePadded;
 use std::alloc::Global;
 use std::marker::Model;
 
-/// A lock's state, on cache lines of its own, and the effect of the last call on the lock.
-///
-/// The effect, which takes 24 bytes, exists only for proofs: it is logged for the seat (a kernel thread's right to call
-/// the locks) that puts the state back.
+/// A lock's state, on cache lines of its own, and the effect of the last call on the lock. `deed` is only for proofs.
 #[derive(Drop)]
 pub struct GuardedLock {
     state: CachePadded<LockEntry>,
@@ -66,7 +63,6 @@ fn withdrawn_deed(who: u64, answer: &Withdrawn) -> LockDeed
 }
 
 impl GuardedLock {
-    /// Creates the state of a lock that nobody has asked for yet.
     pub(crate) fn new(alloc: Global) -> Self
         ensures { result.lock ≡ unused }
     {

@@ -1,11 +1,9 @@
-//! Locks for the tasks of a program that runs tasks of its own (a host): each lock has a holder and a queue.
+//! Locks for the tasks of a host, which is a program that runs tasks of its own, such as the futures of a server.
 //!
-//! A host is a program that runs tasks of its own, such as the futures of a server. If a task must wait for a lock, the
-//! host blocks the task. [`Locks`] are a set of such locks that kernel threads share, each kernel thread through one
-//! [`LockSetSeat`]. An atomic word of each lock, the *guard*, says if a seat has the lock's state at present. A call
-//! that finds the guard set returns at once, and the caller may try again. These locks store no history: holding a lock
-//! for which no task waits takes no memory, and leaves none behind. No call waits, and a task that waits for a lock may
-//! leave its queue.
+//! If a task must wait for a lock, the host blocks the task. Kernel threads share a set of locks ([`Locks`]), each
+//! through its own right to call ([`LockSetSeat`], a *seat*). Each lock has an atomic word, the *guard*, which is set
+//! during a call on the lock. No call waits. A call that finds the guard set returns at once, and the caller may try
+//! again. An ask for a lock that nobody holds allocates no memory. A task that waits for a lock may leave the queue.
 #![tactic(auto)]
 
 mod answer;

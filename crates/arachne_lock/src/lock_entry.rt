@@ -13,9 +13,7 @@ pub struct Holder {
     pub at: u64,
 }
 
-/// The state of one lock.
-///
-/// Each call takes constant time, except that `ask` may allocate, and that `withdraw` searches the queue.
+/// The state of one lock. Each call takes constant time, but `ask` may allocate, and `withdraw` searches the queue.
 #[derive(Debug, Drop)]
 pub(crate) struct LockEntry {
     owner: Option<Holder>,
@@ -34,7 +32,6 @@ impl Model for LockEntry {
 impl LockEntry {
     ghost use Rattle.arachne_lock.specs.State.{unused, holder_of, later, IsAsked, IsFreed, IsWithdrawn, IsChecked};
 
-    /// Creates a lock for which nobody has asked yet. Does not allocate.
     pub(crate) fn new(alloc: Global) -> Self
         ensures { result ≡ unused }
     {
@@ -45,7 +42,7 @@ impl LockEntry {
         }
     }
 
-    /// Asks for the lock. Allocates only if `who` must wait.
+    /// Allocates only if `who` must wait.
     pub(crate) fn ask(&mut self, who: u64) -> Result<Admitted, AskRefusal>
         ensures { IsAsked self.old self.new who result }
     {
@@ -89,7 +86,6 @@ impl LockEntry {
         Ok(Released { next, at })
     }
 
-    /// Removes `who` from the queue, if `who` waits there.
     pub(crate) fn withdraw(&mut self, who: u64) -> Withdrawn
         ensures { IsWithdrawn self.old self.new who result }
     {
@@ -105,7 +101,6 @@ impl LockEntry {
         Withdrawn::Left { at }
     }
 
-    /// Returns the event number of the grant by which `who` holds the lock, or `None` if it doesn't hold the lock.
     pub(crate) fn check(&self, who: u64) -> Option<u64>
         ensures { IsChecked self.now self.now who result }
     {
@@ -121,7 +116,7 @@ impl LockEntry {
         self.owner.is_some_and(|holder| holder.who == who)
     }
 
-    /// Returns the number that the lock's next event will have, plus `more`, modulo 2^64.
+    /// Returns the number of the lock's next event, plus `more`, modulo 2^64.
     fn later(&self, more: u64) -> u64
         ensures { result ≡ later self.now.count more }
     {

@@ -4,10 +4,9 @@ use crate::view::KnownLocks;
 use atomic_table::Seat;
 use std::marker::Model;
 
-/// One kernel thread's right to call a set of locks. Contracts keep with it a log of the calls that were made through
-/// it. A seat has no bytes.
+/// One kernel thread's right (*seat*) to call a set of locks. The value takes no memory.
 ///
-/// The caller must use, split and join a seat only with the locks that created it.
+/// A seat may be used, split and joined only with the locks that created it. Contracts keep a log of each seat.
 #[derive(Drop)]
 pub struct LockSetSeat {
     pub(crate) seat: Seat<GuardedLock, KnownLocks>,

@@ -22,20 +22,17 @@ use std::marker::Model;
 /// The number of words in two cache lines, which processors fetch together.
 const SPACING: usize = 16;
 
-/// The value of a lock's guard word (its atomic word) while no call has the lock's state.
+/// The value of a lock's atomic word while no call on the lock is in progress.
 const HOME: u64 = 0;
 
-/// The value of a lock's guard word (its atomic word) while a call has the lock's state.
+/// The value of a lock's atomic word during a call on the lock.
 const TAKEN: u64 = 1;
 
-/// A set of locks. Each lock has a guard word: an atomic word that is 1 while a seat has the lock's state, and
-/// otherwise 0.
+/// A set of locks that kernel threads share, each through a seat (a right to call) of its own.
 ///
-/// Each kernel thread calls all of the locks through one seat (a right to call) of its own. A task is identified by a
-/// number that the host (the program that uses the locks) chooses, such as a number for each future. `ask`, `free`,
-/// `withdraw` and `check` try once to set the lock's guard word. If the word is already set, the call returns
-/// `Contended`, and changes nothing. If not, the call does its work on the lock's state, clears the guard word, and
-/// returns the result.
+/// Each lock has an atomic word (the *guard word*), which is 1 during a call on the lock, and otherwise 0. `ask`,
+/// `free`, `withdraw` and `check` try once to set this word. If the word is already set, such a call returns
+/// `Contended`, and changes nothing. The host (the program that uses the locks) chooses a number for each task.
 #[derive(Drop)]
 pub struct Locks {
     table: Table<GuardedLock, KnownLocks, usize, LockRule, Global>,
@@ -53,7 +50,6 @@ impl Model for Locks {
     ghost invariant = { λ l. IsLaidOut l.table.shared.table_id l.table.shared.key l.count };
 }
 
-/// Returns the index of the guard word of `lock`.
 fn guard_word(lock: usize) -> usize
     requires { word_of lock < 2 ^ 64 }
     ensures { result ≡ word_of lock }
@@ -61,7 +57,6 @@ fn guard_word(lock: usize) -> usize
     SPACING * (lock + 1)
 }
 
-/// Returns the initial words of `count` locks, which are all 0.
 fn first_words(alloc: Global, count: usize) -> Result<Vec<u64>, AllocError>
     ensures { IfOk result (λ v. (vec_len v ≡ word_of count) × ((i : ℕ) → slice_index v.items i ≡ 0)) }
 {
@@ -74,7 +69,6 @@ fn first_words(alloc: Global, count: usize) -> Result<Vec<u64>, AllocError>
     Ok(words)
 }
 
-/// Returns the initial states of `count` locks, for which nobody has asked yet.
 fn first_slots(alloc: Global, count: usize) -> Result<Vec<GuardedLock>, AllocError>
     ensures { IfOk result (λ slots. AreFirstSlots count slots.items) }
 {
@@ -86,8 +80,8 @@ fn first_slots(alloc: Global, count: usize) -> Result<Vec<GuardedLock>, AllocErr
 }
 
 impl Locks {
-    /// Creates `count` locks (0 is allowed), for which nobody has asked yet. Returns them with their first seat (a
-    /// right to call).
+    /// Creates `count` locks (0 is allowed), for which nobody has asked yet, and their first seat (a right to call).
+    /// Returns an error if memory is refused.
     pub fn new(alloc: Global, count: usize) -> Result<(Locks, LockSetSeat), AllocError>
         ensures count { IfOk result (λ made. made.0.count ≡ count) }
         ensures seat { IfOk result (λ made. made.1 ≡ first_seat made.0) }
@@ -100,7 +94,6 @@ impl Locks {
         Ok((Locks { table, count }, LockSetSeat { seat }))
     }
 
-    /// Returns the number of locks.
     pub fn count(&self) -> usize
         ensures { result ≡ self.now.count }
     {
@@ -109,8 +102,8 @@ impl Locks {
 
     /// Asks for a lock for the task `who`. If nobody holds the lock, the task gets it at once, and otherwise waits.
     ///
-    /// Returns `AlreadyIn` if the task already holds the lock or waits for it. Allocates only if the task must wait; if
-    /// memory is refused, nothing changes.
+    /// Returns `AlreadyIn` if the task already holds the lock or waits for it. Only a task that must wait needs memory,
+    /// whose refusal changes nothing.
     pub fn ask(
         &self,
         seat: &mut LockSetSeat,
@@ -130,7 +123,7 @@ impl Locks {
         Attempt::Answered(answer)
     }
 
-    /// Frees a lock that the task `who` holds, and grants it to the task that has waited longest, if any waits.
+    /// Frees a lock that the task `who` holds, and grants it to the task that has waited longest, if any task waits.
     ///
     /// Returns `NotOwner` if `who` doesn't hold the lock.
     pub fn free(
@@ -154,7 +147,7 @@ impl Locks {
 
     /// Removes the task `who` from the queue of a lock, for example because the task's future is dropped.
     ///
-    /// Returns `Holds` if the task was granted the lock meanwhile. The caller must then free the lock.
+    /// Returns `Holds` if the task already holds the lock. The caller must then free the lock.
     pub fn withdraw(&self, seat: &mut LockSetSeat, lock: usize, who: u64) -> Attempt<Withdrawn>
         requires { IsLockAt self.now seat.old.table lock }
         ensures own { IsSeatOf self.now seat.new }
@@ -169,8 +162,7 @@ impl Locks {
         Attempt::Answered(answer)
     }
 
-    /// Returns the event number of the grant by which the task `who` holds a lock, or `None` if it doesn't hold the
-    /// lock.
+    /// Returns the event number of the grant of a lock to the task `who`, or `None` if `who` doesn't hold the lock.
     pub fn check(&self, seat: &mut LockSetSeat, lock: usize, who: u64) -> Attempt<Option<u64>>
         requires { IsLockAt self.now seat.old.table lock }
         ensures own { IsSeatOf self.now seat.new }
@@ -186,8 +178,6 @@ impl Locks {
     }
 
     /// Splits off a seat (a right to call) for another kernel thread.
-    ///
-    /// The log of the new seat begins with the histories that `seat` has read, and has no tries or events yet.
     pub fn split(&self, seat: &mut LockSetSeat) -> LockSetSeat
         requires { IsSeatOf self.now seat.old }
         ensures first { seat.new ≡ first_half seat.old }
@@ -197,7 +187,7 @@ impl Locks {
         LockSetSeat { seat: other }
     }
 
-    /// Joins `other` into `seat`, which then has the logs of both.
+    /// Joins the seat `other` (another kernel thread's right to call) into `seat`.
     pub fn join(&self, seat: &mut LockSetSeat, other: LockSetSeat)
         requires seat { IsSeatOf self.now seat.old }
         requires other { IsSeatOf self.now other }
@@ -207,8 +197,7 @@ impl Locks {
         self.table.shared.join_seat::<Divide>(&mut seat.seat, spent);
     }
 
-    /// Tries once to set a lock's guard word and so to take the lock's state out of the table. Returns whether it
-    /// succeeded.
+    /// Tries once to take a lock's state out of the table, and returns true on success.
     fn take(&self, seat: &mut Seat<GuardedLock, KnownLocks>, lock: usize) -> bool
         requires at { IsLockAt self.now seat.old.table_id lock }
         requires idle { seat.old.me ≡ idle seat.old.me.0.log }
@@ -222,7 +211,6 @@ impl Locks {
         shared.compare_exchange::<TakeGuard>(seat, guard_word(lock), HOME, TAKEN) == HOME
     }
 
-    /// Puts a lock's state back into the table, and clears the lock's guard word.
     fn give_back(&self, seat: &mut Seat<GuardedLock, KnownLocks>, lock: usize)
         requires at { IsLockAt self.now seat.old.table_id lock }
         requires guarded { (history : List QueueEvent) × (guarded : Guarded) × IsReturnable lock history seat.old.me guarded }

@@ -1,10 +1,9 @@
-//! The invariant of the locks' table, and the kinds of atomic operation on it. These types exist only for proofs.
+//! Types for proofs only: the invariant of the locks' table, and the kinds of atomic operation on the table.
 use crate::guarded_lock::GuardedLock;
 use crate::view::KnownLocks;
 use atomic_table::{Join, Play, Split, TableRule};
 
-/// The invariant of the locks' table: each lock has one history (its asks, grants, frees and leaves). The table's
-/// constant key is the number of locks.
+/// The invariant of the locks' table. All calls on a lock form one history, which exists only in proofs.
 pub struct LockRule;
 
 impl TableRule<GuardedLock, KnownLocks, usize> for LockRule {
@@ -15,7 +14,6 @@ impl TableRule<GuardedLock, KnownLocks, usize> for LockRule {
     ghost first = { first_view };
 }
 
-/// The compare-exchange that tries once to set a lock's guard word.
 pub(crate) struct TakeGuard;
 
 impl Play<GuardedLock, KnownLocks> for TakeGuard {
@@ -24,7 +22,6 @@ impl Play<GuardedLock, KnownLocks> for TakeGuard {
     ghost then = { Takes };
 }
 
-/// The store that clears a lock's guard word.
 pub(crate) struct ReturnGuard;
 
 impl Play<GuardedLock, KnownLocks> for ReturnGuard {

@@ -6,10 +6,7 @@ use std::alloc::{AllocError, Global};
 use std::collections::{HashSet, VecDeque};
 use std::marker::Model;
 
-/// A queue of tasks in which no task is twice.
-///
-/// It consists of the queue and a set of the same tasks, so the cost of `contains` doesn't grow with the queue's
-/// length.
+/// A queue in which each task is at most once. A set of the same tasks lets `contains` take constant time.
 #[derive(Debug, Drop)]
 pub(crate) struct WaiterQueue {
     order: VecDeque<u64>,
@@ -29,7 +26,6 @@ impl Model for WaiterQueue {
 }
 
 impl WaiterQueue {
-    /// Creates an empty queue. Does not allocate.
     pub(crate) fn new(alloc: Global) -> Self
         ensures { result ≡ [] }
     {
@@ -45,7 +41,6 @@ impl WaiterQueue {
         self.members.contains(&who)
     }
 
-    /// Adds a task at the end of the queue.
     pub(crate) fn push(&mut self, who: u64) -> Result<(), AllocError>
         requires { ¬ Contains self.old who }
         ensures ok { OnOk result (self.new ≡ self.old ++ who ∷ []) }
@@ -57,7 +52,6 @@ impl WaiterQueue {
         Ok(())
     }
 
-    /// Removes the task at the front of the queue, and returns it, or `None` if the queue is empty.
     pub(crate) fn pop(&mut self) -> Option<u64>
         ensures front { result ≡ slice_get self.old 0 }
         ensures rest { self.new ≡ drop 1 self.old }
@@ -67,7 +61,6 @@ impl WaiterQueue {
         Some(front)
     }
 
-    /// Removes a task from the queue, at whatever position it is.
     pub(crate) fn remove(&mut self, who: u64)
         ensures { self.new ≡ without who self.old }
     {

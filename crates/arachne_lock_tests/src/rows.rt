@@ -7,7 +7,6 @@ use arachne_lock::{
 };
 use std::alloc::AllocError;
 
-/// A call on a lock of the set.
 #[derive(Clone, Copy)]
 enum Call {
     Ask,
@@ -16,15 +15,14 @@ enum Call {
     Withdraw,
 }
 
-/// The result of a call: its name, the number of the event in the lock's history, and the lock's next holder, if there
-/// is one.
+/// The name of a call's result, the number of its event at its lock, and the next holder, if any.
 type Answer = (&'static str, u64, Option<u64>);
 
-/// A call, the number of its lock, the number of the task for which it is made, and the expected result.
 type Row = (Call, usize, u64, Answer);
 
-/// In this list of calls, task 7 holds lock 0, tasks 8 and 9 wait for it, and task 8 stops waiting, so task 9 is next.
-/// Lock 1 counts its own events.
+/// Task 7 holds lock 0, tasks 8 and 9 wait for it, and task 8 stops waiting, so that task 9 is next.
+///
+/// Lock 1 must count only its own events.
 const ROWS: &[Row] = &[
     (Call::Ask, 0, 7, ("granted", 1, None)),
     (Call::Ask, 0, 8, ("queued", 2, None)),
@@ -83,7 +81,7 @@ fn answer_to(
     }
 }
 
-/// Makes all calls in turn. Returns the index of the first call whose result isn't the expected one, if there is one.
+/// Returns the index of the first call whose result isn't the expected one, if there is one.
 fn first_wrong(locks: &Locks, seat: &mut LockSetSeat) -> Option<usize>
     requires own { IsSeatOf locks.now seat.old }
     ensures { IsSeatOf locks.now seat.new }

@@ -7,17 +7,14 @@ use arachne_lock::{Admitted, AskRefusal, Attempt, LockSetSeat, Locks, Released, 
 use arachne_shortage::Hoard;
 use std::alloc::AllocError;
 
-/// The number of bytes that the test frees after a refusal: so few that the next growth of a list in the same call is
-/// refused too.
+/// The number of bytes that the test frees after a refusal: so few that the next growth of a list is refused too.
 const FEW: usize = 40;
 
-/// The greatest number of requests that the crowd (the tasks that wait for one lock) makes.
 const TRIES: u64 = 100_000;
 
-/// The number of tasks that wait for the lock.
 const CROWD: u64 = 900;
 
-/// Asks for a free lock, and frees it. Returns true if the lock was granted at once, and nobody waited for it.
+/// Asks for a free lock and frees it, and returns true if it was granted at once, and nobody waited for it.
 fn is_held_and_freed(locks: &Locks, seat: &mut LockSetSeat, lock: usize) -> bool
     requires { IsLockAt locks.now seat.old.table lock }
     ensures { IsSeatOf locks.now seat.new }
@@ -31,9 +28,9 @@ fn is_held_and_freed(locks: &Locks, seat: &mut LockSetSeat, lock: usize) -> bool
     )
 }
 
-/// Asks for `lock` for each task of the crowd, again and again until there is memory for the request.
+/// Asks for `lock` for each task of the crowd, until there is memory for the request.
 ///
-/// Returns the number of refusals, if each left the lock as it was.
+/// Returns the number of refusals, or `None` if one of them changed the lock.
 fn all_ask(locks: &Locks, seat: &mut LockSetSeat, lock: usize, hoard: &mut Hoard) -> Option<u64>
     requires { IsLockAt locks.now seat.old.table lock }
     ensures { IsSeatOf locks.now seat.new }
@@ -61,7 +58,7 @@ fn all_ask(locks: &Locks, seat: &mut LockSetSeat, lock: usize, hoard: &mut Hoard
     None
 }
 
-/// Frees the lock for each task of the crowd in turn, which needs no memory. Returns the number of releases.
+/// Frees the lock for each task of the crowd, which needs no memory, and returns the number of releases.
 fn all_free(locks: &Locks, seat: &mut LockSetSeat, lock: usize) -> u64
     requires { IsLockAt locks.now seat.old.table lock }
     ensures { IsSeatOf locks.now seat.new }

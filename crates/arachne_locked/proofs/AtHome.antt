@@ -1,20 +1,15 @@
 -- Each event keeps the values at home.
-use Rattle.std.proofs.Common.{◌≡◌, ℕ, ◌<◌, ◌*◌, inl, inr, Bool, true, false, List, length, get_or, set, Option, None, Some, refl, sym, ap, ◌∙◌, subst, replicate}
+use Rattle.std.proofs.Common.{◌≡◌, ℕ, ◌<◌, ◌*◌, inl, inr, Bool, true, false, List, length, get_or, set, Option, None, Some, refl, sym, ap, ◌∙◌, subst, replicate, nat_lt, if◌then◌else◌, OnErr, Result, Ok, Err}
 use Rattle.std.proofs.lemmas.Bool.{cases_eq}
 use Rattle.std.proofs.lemmas.List.{length-set, get_or-set_same, get_or-set_other, length-replicate, get_or-replicate}
-use Rattle.std.specs.Prelude.{nat_lt, if◌then◌else◌, OnErr, Result, Ok, Err}
-use Rattle.arachne_core.specs.declared.state.State.{State}
-use Rattle.arachne_core.specs.declared.state.State.TheVariants.{Free, Claimed, Ready, Blocked, Held, Spent}
-use Rattle.arachne_core.specs.declared.state.Rest.{Rest}
-use Rattle.arachne_core.specs.declared.state.Rest.TheVariants as rest
-use Rattle.arachne_core.specs.declared.event.Event.{Event}
-use Rattle.arachne_core.specs.declared.event.Event.TheVariants as event
+use Rattle.arachne_core.specs.declared.state.State.{State, TheVariants.{Free, Claimed, Ready, Blocked, Held, Spent}}
+use Rattle.arachne_core.specs.declared.{state.Rest.Rest, event.Event.Event}
 use Rattle.arachne_core.specs.World.{World, IsContext, IsReady, IsHeldBy, CanBeWoken, Allowed, after, with_at, taken, put_back, woken, tag_of}
-use Rattle.arachne_core.specs.declared.event.NotApplied.{NotApplied}
+use Rattle.arachne_core.specs.{declared.event.NotApplied.NotApplied, ContextTable.{ContextTable, Answers, world_of}}
+use Rattle.arachne_core.{specs.Run.IsOpening, proofs.Changes.{with_at-same, with_at-other}}
+use Rattle.arachne_core.specs.declared.state.Rest.TheVariants as rest
+use Rattle.arachne_core.specs.declared.event.Event.TheVariants as event
 use Rattle.arachne_core.specs.declared.event.NotApplied.TheVariants as refusal
-use Rattle.arachne_core.specs.ContextTable.{ContextTable, Answers, world_of}
-use Rattle.arachne_core.specs.Run.{IsOpening}
-use Rattle.arachne_core.proofs.Changes.{with_at-same, with_at-other}
 use Rattle.arachne_locked.specs.AtHome.{IsHome, IsKeptAt, LeavesValues, WantsNoRoom}
 
 module _ {T : Type 0} (tag : T → ℕ) where
@@ -65,11 +60,7 @@ module _ {T : Type 0} (tag : T → ℕ) where
 
   held_none : (h : ℕ) (s : State) (o : Option T) → IsHeldBy h s → IsKeptAt tag s o → o ≡ None
   held_none h (Held k w t) o i e = e
-  held_none h Free o i e = absurd i
-  held_none h (Claimed k) o i e = absurd i
-  held_none h (Ready t) o i e = absurd i
-  held_none h (Blocked t) o i e = absurd i
-  held_none h Spent o i e = absurd i
+  held_none h _ o i e = absurd i
 
   retired_kept : (h : ℕ) (b : Bool) (o : Option T) → o ≡ None → IsKeptAt tag (if b then Claimed h else Spent) o
   retired_kept h true o e = e
@@ -78,11 +69,7 @@ module _ {T : Type 0} (tag : T → ℕ) where
   woken_kept : (s : State) (o : Option T) → CanBeWoken s → IsKeptAt tag s o → IsKeptAt tag (woken s) o
   woken_kept (Blocked t) o c k = k
   woken_kept (Held h false t) o c k = k
-  woken_kept (Held h true t) o c k = absurd c
-  woken_kept Free o c k = absurd c
-  woken_kept (Claimed h) o c k = absurd c
-  woken_kept (Ready t) o c k = absurd c
-  woken_kept Spent o c k = absurd c
+  woken_kept _ o c k = absurd c
 
   -- an event that leaves the values as they are
   event_home : (w : World) (e : Event) (vs : List (Option T)) → LeavesValues e → IsHome tag w vs → Allowed w e → IsHome tag (after w e) vs
@@ -98,13 +85,11 @@ module _ {T : Type 0} (tag : T → ℕ) where
       (retired_kept h (nat_lt (w.generation x) w.last) (get_or vs x None) (held_none h (w.state x) (get_or vs x None) a.held (home.kept x a.context)))
   event_home w (event.Release h x) vs l home a =
       home_kept w (after w (event.Release h x)) vs x Free home refl refl (λ y. refl) (subst (λ s. IsKeptAt tag s (get_or vs x None)) a.claimed (home.kept x a.context))
-  event_home w (event.CloseCore c) vs l home a = record { contexts = home.contexts; kept = home.kept }
-  event_home w (event.OpenCore c) vs l home a = record { contexts = home.contexts; kept = home.kept }
-  event_home w (event.Move h x y) vs l home a = record { contexts = home.contexts; kept = home.kept }
   event_home w event.Still vs l home a = home
   event_home w (event.Post h x t) vs l home a = absurd l
   event_home w (event.Take h x) vs l home a = absurd l
   event_home w (event.Rest h x r) vs l home a = absurd l
+  event_home w _ vs l home a = record { contexts = home.contexts; kept = home.kept }
 
   pub made_home : (w u : World) (e : Event) (vs : List (Option T)) → LeavesValues e → IsHome tag w vs → Allowed w e → u ≡ after w e → IsHome tag u vs
   made_home w u e vs l home a is = subst (λ z. IsHome tag z vs) (sym is) (event_home w e vs l home a)
@@ -123,11 +108,7 @@ module _ {T : Type 0} (tag : T → ℕ) where
 
   taken_kept : (h : ℕ) (s : State) → IsReady s → IsKeptAt tag (taken h s) None
   taken_kept h (Ready t) r = refl
-  taken_kept h Free r = absurd r
-  taken_kept h (Claimed k) r = absurd r
-  taken_kept h (Blocked t) r = absurd r
-  taken_kept h (Held k w t) r = absurd r
-  taken_kept h Spent r = absurd r
+  taken_kept h _ r = absurd r
 
   -- a thread is taken, and its value is no longer at home
   pub take_home : (w u : World) (vs : List (Option T)) (h x : ℕ) → IsHome tag w vs → Allowed w (event.Take h x) → u ≡ after w (event.Take h x) → IsHome tag u (set vs x None)
@@ -139,11 +120,7 @@ module _ {T : Type 0} (tag : T → ℕ) where
   rest_kept h rest.Blocked (Held k false t) v i e = sym e
   rest_kept h rest.Blocked (Held k true t) v i e = sym e
   rest_kept h rest.Ready (Held k w t) v i e = sym e
-  rest_kept h r Free v i e = absurd i
-  rest_kept h r (Claimed k) v i e = absurd i
-  rest_kept h r (Ready t) v i e = absurd i
-  rest_kept h r (Blocked t) v i e = absurd i
-  rest_kept h r Spent v i e = absurd i
+  rest_kept h r _ v i e = absurd i
 
   -- a thread is put back, and its value is at home
   pub rest_home : (w u : World) (vs : List (Option T)) (h x : ℕ) (r : Rest) (v : T) → IsHome tag w vs → Allowed w (event.Rest h x r) → tag_of (w.state x) ≡ tag v
@@ -151,16 +128,6 @@ module _ {T : Type 0} (tag : T → ℕ) where
   rest_home w u vs h x r v home a t e =
       home_set w u vs x (put_back r (w.state x)) (Some v) home (ap (λ (z : World). z.cores) e) (ap (λ (z : World). z.slots) e) (λ y. ap (λ (z : World). z.state y) e) (within w vs x home a.context)
       (rest_kept h r (w.state x) v a.held t)
-
-  -- if a thread is ready, its value is at home
-  pub ready_some : (s : State) (o : Option T) → IsReady s → IsKeptAt tag s o → (v : T) × (o ≡ Some v)
-  ready_some (Ready t) (Some v) r k = (v, refl)
-  ready_some (Ready t) None r k = absurd k
-  ready_some (Blocked t) o r k = absurd r
-  ready_some Free o r k = absurd r
-  ready_some (Claimed h) o r k = absurd r
-  ready_some (Held h w t) o r k = absurd r
-  ready_some Spent o r k = absurd r
 
 -- an event that is allowed and needs no memory is applied
 pub plain_made : (e : Event) (old new : ContextTable) (r : NotApplied) → WantsNoRoom e → Allowed (world_of old) e → Answers e old new (Err r) → ⊥

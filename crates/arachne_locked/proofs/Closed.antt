@@ -1,18 +1,13 @@
 -- The threads at home are those that were posted and have not ended.
-use Rattle.std.proofs.Common.{◌≡◌, ℕ, zero, suc, ◌+◌, ◌*◌, ◌<◌, ◌≤◌, inl, inr, Bool, true, false, cond, eqb, List, [], ◌∷◌, ◌++◌, map, Option, None, Some, refl, sym, ap, ◌∙◌, subst, arith, add-one}
+use Rattle.std.proofs.Common.{◌≡◌, ℕ, zero, suc, ◌+◌, ◌*◌, ◌<◌, ◌≤◌, inl, inr, Bool, true, false, cond, eqb, List, [], ◌∷◌, ◌++◌, map, Option, None, Some, refl, sym, ap, ◌∙◌, subst, arith, add-one, append-nil}
 use Rattle.std.proofs.lemmas.Bool.{cases_eq, cases_lt, eqb-true, eq-eqb, and_parts, and_from, and_right, lt-ltb, ltb-true, false_from_ne_true, cond-false}
-use Rattle.std.proofs.lemmas.List.{append-nil, map-append}
-use Rattle.std.proofs.lemmas.List.Sums.{sum_by-append}
-use Rattle.arachne_core.specs.declared.thread_id.ThreadId.{ThreadId}
-use Rattle.arachne_core.specs.declared.state.State.{State}
-use Rattle.arachne_core.specs.declared.state.State.TheVariants.{Free, Claimed, Ready, Blocked, Held, Spent}
-use Rattle.arachne_core.specs.ContextTable.{times}
+use Rattle.std.proofs.lemmas.List.{map-append, Sums.sum_by-append}
+use Rattle.arachne_core.specs.declared.{thread_id.ThreadId.ThreadId, state.State.State}
+use Rattle.arachne_core.specs.{declared.state.State.TheVariants.{Ready, Blocked, Held}, ContextTable.times}
 use Rattle.arachne_core.specs.World.{World, Thread, IsContext, id_of, same_thread}
-use Rattle.arachne_core.specs.OwnedOnce.{OwnedOnce, is_live, has_thread}
-use Rattle.arachne_core.proofs.Changes.{same_thread-true}
+use Rattle.arachne_core.{specs.OwnedOnce.{OwnedOnce, is_live, has_thread}, proofs.Changes.same_thread-true}
 use Rattle.arachne_contexts.specs.Answers.{IsByContext}
-use Rattle.arachne_locked.specs.AtHome.{value_at, IsHome, IsKeptAt}
-use Rattle.arachne_locked.specs.Calls.{IsHeld}
+use Rattle.arachne_locked.specs.{AtHome.{value_at, IsHome, IsKeptAt}, Calls.IsHeld}
 use Rattle.arachne_locked.specs.Closing.{HoldsNone, one_at, at_rest_below, IsAccounted}
 
 same_truth : (a b : Bool) → (a ≡ true → b ≡ true) → (b ≡ true → a ≡ true) → a ≡ b
@@ -84,14 +79,12 @@ module _ {T : Type 0} (tag : T → ℕ) (w : World) (vs : List (Option T)) where
 
   here : (t : Thread) (s : State) (o : Option T) → IsContext w t.0.context → w.state t.0.context ≡ s → IsKeptAt tag s o → (IsHeld s → ⊥)
       → hits t.0.context o t ≡ cond (is_live w t) 1 0
-  here t Free o c e k n = missed t o k (ap (λ a. has_thread a t.1) e)
-  here t (Claimed h) o c e k n = missed t o k (ap (λ a. has_thread a t.1) e)
-  here t Spent o c e k n = missed t o k (ap (λ a. has_thread a t.1) e)
   here t (Held h u tg) o c e k n = absurd (n tt)
   here t (Ready tg) (Some v) c e k n = found t v tg c (ap (λ a. has_thread a t.1) e) k
   here t (Ready tg) None c e k n = absurd k
   here t (Blocked tg) (Some v) c e k n = found t v tg c (ap (λ a. has_thread a t.1) e) k
   here t (Blocked tg) None c e k n = absurd k
+  here t _ o c e k n = missed t o k (ap (λ a. has_thread a t.1) e)
 
   counted : IsHome tag w vs → HoldsNone w → (t : Thread) → hits_below (w.cores * w.slots) t ≡ cond (is_live w t) 1 0
   counted home none t = elim (cases_lt t.0.context (w.cores * w.slots)) [

@@ -1,9 +1,7 @@
 -- The number of numbers that pass a test, if the test changes at one of them.
 use Rattle.std.proofs.Common.{◌≡◌, ℕ, zero, suc, ◌+◌, ◌*◌, ◌<◌, ◌≤◌, inl, inr, Bool, true, false, refl, sym, ap, ◌∙◌, arith}
 use Rattle.std.proofs.lemmas.Bool.{cases_eq}
-use Rattle.arachne_core.specs.Occupancy.{bit}
-use Rattle.arachne_core.specs.declared.state.State.{State}
-use Rattle.arachne_core.specs.World.{World, IsContext}
+use Rattle.arachne_core.specs.{Occupancy.bit, declared.state.State.State, World.{World, IsContext}}
 use Rattle.arachne_locked.specs.Room.{count_below, contexts_in}
 
 bit_most : (b : Bool) → bit b ≤ 1

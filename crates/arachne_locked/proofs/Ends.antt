@@ -1,26 +1,18 @@
 -- The end of a thread: Retire, and then Release unless the context is spent.
-use Rattle.std.proofs.Common.{◌≡◌, ℕ, Bool, true, false, inl, inr, [], ◌∷◌, sym, ap, ◌∙◌, subst, Ok, Err, arith}
+use Rattle.std.proofs.Common.{◌≡◌, ℕ, Bool, true, false, inl, inr, [], ◌∷◌, sym, ap, ◌∙◌, subst, Ok, Err, arith, nat_lt, if◌then◌else◌}
 use Rattle.std.proofs.lemmas.Bool.{cases_Bool}
-use Rattle.std.specs.Prelude.{nat_lt, if◌then◌else◌}
-use Rattle.arachne_core.specs.declared.state.State.{State}
-use Rattle.arachne_core.specs.declared.state.State.TheVariants.{Free, Claimed, Ready, Blocked, Held, Spent}
-use Rattle.arachne_core.specs.declared.event.Event.TheVariants as event
-use Rattle.arachne_core.specs.declared.event.NotApplied.{NotApplied}
-use Rattle.arachne_core.specs.declared.event.NotApplied.TheVariants as refusal
+use Rattle.arachne_core.specs.declared.state.State.{State, TheVariants.{Free, Claimed, Spent}}
+use Rattle.arachne_core.specs.{declared.event.NotApplied.NotApplied, ContextTable.{ContextTable, Answers, world_of}}
 use Rattle.arachne_core.specs.World.{World, IsContext, HoldsIn, HasClaimed, Allowed, after}
-use Rattle.arachne_core.specs.ContextTable.{ContextTable, Answers, world_of}
 use Rattle.arachne_core.proofs.Changes.{with_at-same, with_at-other}
-use Rattle.arachne_locked.specs.Room.{may_post, may_end, HasRoom}
-use Rattle.arachne_locked.specs.Calls.{Takes, ends}
+use Rattle.arachne_core.specs.declared.event.Event.TheVariants as event
+use Rattle.arachne_core.specs.declared.event.NotApplied.TheVariants as refusal
+use Rattle.arachne_locked.specs.{Room.{may_post, may_end, HasRoom}, Calls.{Takes, ends}}
 use Rattle.arachne_locked.proofs.Room.{set_room, end_pays, retire_has_room}
 
 abbrev IsClaimed : State → Type 0
 IsClaimed (Claimed h) = Unit {0}
-IsClaimed Free = ⊥
-IsClaimed (Ready t) = ⊥
-IsClaimed (Blocked t) = ⊥
-IsClaimed (Held h w t) = ⊥
-IsClaimed Spent = ⊥
+IsClaimed _ = ⊥
 
 -- a retire of a held thread is applied
 pub retire_made : (old new : ContextTable) (h x : ℕ) (r : NotApplied) → HasRoom old → HoldsIn (world_of old) h x → Answers (event.Retire h x) old new (Err r) → ⊥

@@ -1,13 +1,10 @@
 -- A move: the target is claimed, the two contexts swap places, and the place that was left is freed.
-use Rattle.std.proofs.Common.{◌≡◌, ℕ, inl, inr, [], ◌∷◌, sym, ap, ◌∙◌, subst, Ok, arith}
-use Rattle.std.proofs.lemmas.Bool.{cases_eq}
+use Rattle.std.proofs.{Common.{◌≡◌, ℕ, inl, inr, [], ◌∷◌, sym, ap, ◌∙◌, subst, Ok, arith}, lemmas.Bool.cases_eq}
 use Rattle.arachne_core.specs.declared.state.State.TheVariants.{Free, Claimed}
-use Rattle.arachne_core.specs.declared.event.Event.TheVariants as event
-use Rattle.arachne_core.specs.World.{World, IsAtRest, Allowed, after}
-use Rattle.arachne_core.specs.ContextTable.{ContextTable, Answers, world_of}
+use Rattle.arachne_core.specs.{World.{World, IsAtRest, Allowed, after}, ContextTable.{ContextTable, Answers, world_of}}
 use Rattle.arachne_core.proofs.Changes.{with_at-same, with_at-other}
-use Rattle.arachne_locked.specs.Room.{HasRoom}
-use Rattle.arachne_locked.specs.Calls.{Takes, CanMove}
+use Rattle.arachne_core.specs.declared.event.Event.TheVariants as event
+use Rattle.arachne_locked.specs.{Room.HasRoom, Calls.{Takes, CanMove}}
 use Rattle.arachne_locked.proofs.Room.{kept_room}
 
 module _ (w : World) (h x y : ℕ) (can : CanMove w x y) where
@@ -21,15 +18,7 @@ module _ (w : World) (h x y : ℕ) (can : CanMove w x y) where
   apart e = subst IsAtRest (ap w.state e ∙ can.target.free) can.at_rest
 
   pub may_move : Allowed claimed (event.Move h x y)
-  may_move = record {
-    from = can.context;
-    to = can.target.context;
-    at_rest = subst IsAtRest (sym (with_at-other w.state y (Claimed h) x apart)) can.at_rest;
-    claimed = with_at-same w.state y (Claimed h);
-    apart = can.apart;
-    from_core = can.shared;
-    to_core = can.target.core.not_alone;
-  }
+  may_move = assumption (subst IsAtRest (sym (with_at-other w.state y (Claimed h) x apart)) can.at_rest, with_at-same w.state y (Claimed h))
 
   pub may_release : Allowed moved (event.Release h y)
   may_release = record { context = can.target.context; claimed = with_at-same w.state y (Claimed h) }

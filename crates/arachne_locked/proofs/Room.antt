@@ -1,21 +1,13 @@
 -- Each event leaves memory reserved for the posts and retires that may come.
-use Rattle.std.proofs.Common.{◌≡◌, ℕ, ◌+◌, ◌*◌, ◌≤◌, true, false, refl, sym, ap, ◌∙◌, subst, arith, Result, Ok, Err, Option, Some, None}
-use Rattle.std.specs.Prelude.{OnOk, OnErr, IfSome, IfNone}
-use Rattle.arachne_core.specs.Occupancy.{bit}
-use Rattle.arachne_core.specs.declared.state.State.{State}
-use Rattle.arachne_core.specs.declared.state.State.TheVariants.{Free, Claimed, Ready, Blocked, Held, Spent}
-use Rattle.arachne_core.specs.declared.state.Rest.{Rest}
-use Rattle.arachne_core.specs.declared.state.Rest.TheVariants as rest
-use Rattle.arachne_core.specs.declared.event.Event.{Event}
-use Rattle.arachne_core.specs.declared.event.Event.TheVariants as event
-use Rattle.arachne_core.specs.declared.event.NotApplied.{NotApplied}
-use Rattle.arachne_core.specs.declared.event.NotApplied.TheVariants as refusal
-use Rattle.arachne_core.specs.World.{World, IsContext, IsReady, IsHeldBy, CanBeWoken, HoldsIn, HasClaimed, Allowed, after, with_at, taken, put_back, woken}
-use Rattle.arachne_core.specs.ContextTable.{ContextTable, Answers, world_of}
+use Rattle.std.proofs.Common.{◌≡◌, ℕ, ◌+◌, ◌*◌, ◌≤◌, true, false, refl, sym, ap, ◌∙◌, subst, arith, Result, Ok, Err, Option, Some, None, OnOk, OnErr, IfSome, IfNone}
 use Rattle.arachne_core.proofs.Changes.{with_at-same, with_at-other}
-use Rattle.arachne_locked.specs.AtHome.{TableView}
-use Rattle.arachne_locked.specs.Calls.{IsClaim}
-use Rattle.arachne_locked.specs.Room.{contexts_in, may_post, may_end, HasRoom}
+use Rattle.arachne_core.specs.{ContextTable.{ContextTable, Answers, world_of}, Occupancy.bit}
+use Rattle.arachne_core.specs.World.{World, IsContext, IsReady, IsHeldBy, CanBeWoken, HoldsIn, HasClaimed, after, with_at, taken, put_back, woken}
+use Rattle.arachne_core.specs.declared.{event.{Event.Event, NotApplied.NotApplied}, state.{Rest.Rest, State.State}}
+use Rattle.arachne_core.specs.declared.state.State.TheVariants.{Free, Ready, Blocked, Held}
+use Rattle.arachne_core.specs.declared.state.Rest.TheVariants as rest
+use Rattle.arachne_core.specs.declared.event.Event.TheVariants as event
+use Rattle.arachne_locked.specs.{AtHome.TableView, Calls.IsClaim, Room.{may_post, may_end, HasRoom}}
 use Rattle.arachne_locked.proofs.Counts.{count_most, count_positive, contexts_set, contexts_kept}
 
 -- memory reserved for every context
@@ -23,13 +15,6 @@ pub full_room : (k : ContextTable) → (world_of k).cores * (world_of k).slots �
 full_room k posts retires = record {
   posts = (let h = count_most ((world_of k).cores * (world_of k).slots) (λ x. may_post ((world_of k).state x)) in omega (arith, h, posts));
   retires = (let h = count_most ((world_of k).cores * (world_of k).slots) (λ x. may_end ((world_of k).state x)) in omega (arith, h, retires));
-}
-
--- more memory reserved
-pub grown_room : (old new : ContextTable) → HasRoom old → world_of new ≡ world_of old → old.posts ≤ new.posts → old.retires ≤ new.retires → HasRoom new
-grown_room old new room same posts retires = record {
-  posts = (let h = ap (contexts_in may_post) same in let r = room.posts in omega (arith, h, r, posts));
-  retires = (let h = ap (contexts_in may_end) same in let r = room.retires in omega (arith, h, r, retires));
 }
 
 -- no state has changed, and no reserved memory was used
@@ -54,17 +39,7 @@ set_room old new x posts retires room cores slots others within p r post end = r
 -- an event leaves the number of places
 slots_stay : (w : World) (e : Event) → (after w e).slots ≡ w.slots
 slots_stay w (event.Claim h x) = refl
-slots_stay w (event.Alone h x) = refl
-slots_stay w (event.Post h x tag) = refl
-slots_stay w (event.Take h x) = refl
-slots_stay w (event.Rest h x r) = refl
-slots_stay w (event.Wake id) = refl
-slots_stay w (event.Retire h x) = refl
-slots_stay w (event.Release h x) = refl
-slots_stay w (event.CloseCore c) = refl
-slots_stay w (event.OpenCore c) = refl
-slots_stay w (event.Move h x y) = refl
-slots_stay w event.Still = refl
+slots_stay w _ = refl
 
 -- ---- the reserved memory that a state needs before and after
 
@@ -74,39 +49,23 @@ Pays s posts retires t = (bit (may_post t) + posts ≤ bit (may_post s)) × (bit
 
 taken_pays : (h : ℕ) (s : State) → IsReady s → Pays s 0 0 (taken h s)
 taken_pays h (Ready t) r = (omega arith, omega arith)
-taken_pays h Free r = absurd r
-taken_pays h (Claimed k) r = absurd r
-taken_pays h (Blocked t) r = absurd r
-taken_pays h (Held k w t) r = absurd r
-taken_pays h Spent r = absurd r
+taken_pays h _ r = absurd r
 
 rest_pays : (h : ℕ) (r : Rest) (s : State) → IsHeldBy h s → Pays s 0 0 (put_back r s)
 rest_pays h rest.Blocked (Held k false t) i = (omega arith, omega arith)
 rest_pays h rest.Blocked (Held k true t) i = (omega arith, omega arith)
 rest_pays h rest.Ready (Held k w t) i = (omega arith, omega arith)
-rest_pays h r Free i = absurd i
-rest_pays h r (Claimed k) i = absurd i
-rest_pays h r (Ready t) i = absurd i
-rest_pays h r (Blocked t) i = absurd i
-rest_pays h r Spent i = absurd i
+rest_pays h r _ i = absurd i
 
 woken_pays : (s : State) → CanBeWoken s → Pays s 0 0 (woken s)
 woken_pays (Blocked t) c = (omega arith, omega arith)
 woken_pays (Held h false t) c = (omega arith, omega arith)
-woken_pays (Held h true t) c = absurd c
-woken_pays Free c = absurd c
-woken_pays (Claimed h) c = absurd c
-woken_pays (Ready t) c = absurd c
-woken_pays Spent c = absurd c
+woken_pays _ c = absurd c
 
 -- a thread that has ended leaves a context with no thread
 pub end_pays : (h : ℕ) (s t : State) → IsHeldBy h s → may_end t ≡ false → may_post t ≡ false → Pays s 0 1 t
 end_pays h (Held k w t) u i e p = (let a = ap bit p in omega (arith, a), let b = ap bit e in omega (arith, b))
-end_pays h Free u i e p = absurd i
-end_pays h (Claimed k) u i e p = absurd i
-end_pays h (Ready t) u i e p = absurd i
-end_pays h (Blocked t) u i e p = absurd i
-end_pays h Spent u i e p = absurd i
+end_pays h _ u i e p = absurd i
 
 -- ---- the events
 
@@ -151,9 +110,7 @@ module _ (old new : ContextTable) (room : HasRoom old) where
   event_room (event.OpenCore c) l a = keeps (event.OpenCore c) a.1 refl (λ y. refl) a.2 a.3
   event_room (event.Move h x y) l a = keeps (event.Move h x y) a.1 refl (λ y. refl) a.2 a.3
   event_room event.Still l a = keeps event.Still a.1 refl (λ y. refl) a.2 a.3
-  event_room (event.Claim h x) l a = absurd l
-  event_room (event.Alone h x) l a = absurd l
-  event_room (event.Retire h x) l a = absurd l
+  event_room _ l a = absurd l
 
 -- ---- results
 
@@ -180,32 +137,7 @@ claimed_room old new (event.Claim h x) l a posts retires =
     let cores = ap (λ (z : World). z.cores * z.slots) a.1 in let p = a.2 in let r = a.3 in full_room new (omega (arith, cores, posts, p)) (omega (arith, cores, retires, r))
 claimed_room old new (event.Alone h x) l a posts retires =
     let cores = ap (λ (z : World). z.cores * z.slots) a.1 in let p = a.2 in let r = a.3 in full_room new (omega (arith, cores, posts, p)) (omega (arith, cores, retires, r))
-claimed_room old new (event.Post h x tag) l a posts retires = absurd l
-claimed_room old new (event.Take h x) l a posts retires = absurd l
-claimed_room old new (event.Rest h x r) l a posts retires = absurd l
-claimed_room old new (event.Wake id) l a posts retires = absurd l
-claimed_room old new (event.Retire h x) l a posts retires = absurd l
-claimed_room old new (event.Release h x) l a posts retires = absurd l
-claimed_room old new (event.CloseCore c) l a posts retires = absurd l
-claimed_room old new (event.OpenCore c) l a posts retires = absurd l
-claimed_room old new (event.Move h x y) l a posts retires = absurd l
-claimed_room old new event.Still l a posts retires = absurd l
-
--- a claim never fails for memory, since it needs none
-pub claim_made : (e : Event) (old new : ContextTable) (r : NotApplied) → IsClaim e → Answers e old new (Err r) → Allowed (world_of old) e → ⊥
-claim_made e old new refusal.NotAllowed l a h = a.0 h
-claim_made (event.Claim h x) old new refusal.Memory l a k = a.1
-claim_made (event.Alone h x) old new refusal.Memory l a k = a.1
-claim_made (event.Post h x tag) old new refusal.Memory l a k = absurd l
-claim_made (event.Take h x) old new refusal.Memory l a k = absurd l
-claim_made (event.Rest h x r) old new refusal.Memory l a k = absurd l
-claim_made (event.Wake id) old new refusal.Memory l a k = absurd l
-claim_made (event.Retire h x) old new refusal.Memory l a k = absurd l
-claim_made (event.Release h x) old new refusal.Memory l a k = absurd l
-claim_made (event.CloseCore c) old new refusal.Memory l a k = absurd l
-claim_made (event.OpenCore c) old new refusal.Memory l a k = absurd l
-claim_made (event.Move h x y) old new refusal.Memory l a k = absurd l
-claim_made event.Still old new refusal.Memory l a k = absurd l
+claimed_room old new _ l a posts retires = absurd l
 
 -- ---- no call fails for memory
 
@@ -217,11 +149,7 @@ post_has_room k h x tag room a none =
 
 held_may_end : (h : ℕ) (s : State) → IsHeldBy h s → may_end s ≡ true
 held_may_end h (Held k w t) i = refl
-held_may_end h Free i = absurd i
-held_may_end h (Claimed k) i = absurd i
-held_may_end h (Ready t) i = absurd i
-held_may_end h (Blocked t) i = absurd i
-held_may_end h Spent i = absurd i
+held_may_end h _ i = absurd i
 
 pub retire_has_room : (k : ContextTable) (h x : ℕ) → HasRoom k → HoldsIn (world_of k) h x → k.retires ≡ 0 → ⊥
 retire_has_room k h x room a none =

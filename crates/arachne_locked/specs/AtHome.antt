@@ -1,12 +1,9 @@
 -- The World of a table, and the values of the threads at rest.
 use Rattle.std.specs.Prelude.{◌≡◌, ℕ, ◌*◌, List, length, slice_index_or, Option, None, Some}
-use Rattle.arachne_core.specs.declared.state.State.{State}
+use Rattle.arachne_core.specs.declared.{state.State.State, event.Event.Event, thread_id.ThreadId.ThreadId}
+use Rattle.arachne_core.specs.{ContextTable.ContextTable, World.{World, IsContext, HoldsIn, tag_of}}
 use Rattle.arachne_core.specs.declared.state.State.TheVariants as state
-use Rattle.arachne_core.specs.declared.event.Event.{Event}
 use Rattle.arachne_core.specs.declared.event.Event.TheVariants as event
-use Rattle.arachne_core.specs.declared.thread_id.ThreadId.{ThreadId}
-use Rattle.arachne_core.specs.ContextTable.{ContextTable}
-use Rattle.arachne_core.specs.World.{World, IsContext, HoldsIn, tag_of}
 
 -- the model of a table: its World, and for each context the value at home, if there is one
 pub record TableView (T : Type 0) : Type 0 where

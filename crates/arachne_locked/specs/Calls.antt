@@ -1,34 +1,22 @@
 -- The effect of a table's calls on its World.
 use Rattle.std.specs.Prelude.{◌≡◌, ◌≢◌, ℕ, ◌<◌, List, [], ◌∷◌, if◌then◌else◌, nat_lt, Bool, true, false, Option, Some, None, slice_set}
-use Rattle.arachne_core.specs.declared.place.Place.{Place}
-use Rattle.arachne_core.specs.declared.thread_id.ThreadId.{ThreadId}
-use Rattle.arachne_core.specs.declared.state.State.{State}
-use Rattle.arachne_core.specs.declared.state.State.TheVariants as state
-use Rattle.arachne_core.specs.declared.state.Rest.{Rest}
-use Rattle.arachne_core.specs.declared.state.Rest.TheVariants as rest
-use Rattle.arachne_core.specs.declared.event.Event.{Event}
-use Rattle.arachne_core.specs.declared.event.Event.TheVariants as event
-use Rattle.arachne_core.specs.declared.layout.TheConstants.{CORE_BITS}
-use Rattle.arachne_core.specs.Occupancy.{occupancy_of}
-use Rattle.arachne_core.specs.Marked.{marked_of}
-use Rattle.arachne_core.specs.ContextTable.{ShowsCore, marked, is_live_state}
+use Rattle.arachne_core.specs.declared.{place.Place.Place, thread_id.ThreadId.ThreadId, state.{State.State, Rest.Rest}}
+use Rattle.arachne_core.specs.{declared.{event.Event.Event, layout.TheConstants.CORE_BITS}, Occupancy.occupancy_of}
+use Rattle.arachne_core.specs.{Marked.marked_of, ContextTable.{ShowsCore, marked, is_live_state}}
 use Rattle.arachne_core.specs.World.{World, IsContext, IsPlace, IsReady, IsAtRest, MayClaim, core_of, id_of}
 use Rattle.arachne_core.specs.Run.{IsRun, after_all}
+use Rattle.arachne_core.specs.declared.state.State.TheVariants as state
+use Rattle.arachne_core.specs.declared.state.Rest.TheVariants as rest
+use Rattle.arachne_core.specs.declared.event.Event.TheVariants as event
 use Rattle.arachne_contexts.specs.Words.{ShowsFull, ShowsClosed, ShowsInUse, ShowsNoRoom, ShowsReadyAt, ShowsWoken}
-use Rattle.arachne_contexts.specs.declared.answers.Claimed.{Claimed}
+use Rattle.arachne_contexts.specs.declared.answers.{Claimed.Claimed, Taken.Taken, Rested.Rested, Woken.Woken}
+use Rattle.arachne_contexts.specs.declared.{answers.Moved.Moved, held.Held.Held}
 use Rattle.arachne_contexts.specs.declared.answers.Claimed.TheVariants as claimed
-use Rattle.arachne_contexts.specs.declared.answers.Taken.{Taken}
 use Rattle.arachne_contexts.specs.declared.answers.Taken.TheVariants as taken
-use Rattle.arachne_contexts.specs.declared.answers.Rested.{Rested}
 use Rattle.arachne_contexts.specs.declared.answers.Rested.TheVariants as rested
-use Rattle.arachne_contexts.specs.declared.answers.Woken.{Woken}
 use Rattle.arachne_contexts.specs.declared.answers.Woken.TheVariants as woken
-use Rattle.arachne_contexts.specs.declared.answers.Moved.{Moved}
 use Rattle.arachne_contexts.specs.declared.answers.Moved.TheVariants as moved
-use Rattle.arachne_contexts.specs.declared.held.Held.{Held}
-use Rattle.arachne_locked.specs.declared.tokens.LockedClaim.{LockedClaim}
-use Rattle.arachne_locked.specs.declared.tokens.LockedHold.{LockedHold}
-use Rattle.arachne_locked.specs.AtHome.{value_at}
+use Rattle.arachne_locked.specs.{declared.tokens.{LockedClaim.LockedClaim, LockedHold.LockedHold}, AtHome.value_at}
 
 -- the World changes by these events, in order, each of which is allowed
 pub record Takes (old : World) (events : List Event) (new : World) : Type 0 where

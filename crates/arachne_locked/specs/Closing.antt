@@ -1,10 +1,8 @@
 -- The threads that are left when a table is closed.
 use Rattle.std.specs.Prelude.{◌≡◌, ℕ, zero, suc, ◌+◌, ◌≤◌, List, [], ◌∷◌, ◌++◌, map, Option, None, Some}
-use Rattle.arachne_core.specs.declared.thread_id.ThreadId.{ThreadId}
-use Rattle.arachne_core.specs.ContextTable.{times}
+use Rattle.arachne_core.specs.{declared.thread_id.ThreadId.ThreadId, ContextTable.times}
 use Rattle.arachne_core.specs.World.{World, Thread, IsContext, id_of}
-use Rattle.arachne_locked.specs.AtHome.{value_at}
-use Rattle.arachne_locked.specs.Calls.{IsHeld}
+use Rattle.arachne_locked.specs.{AtHome.value_at, Calls.IsHeld}
 
 -- no thread is held
 abbrev pub HoldsNone : World → Type 0

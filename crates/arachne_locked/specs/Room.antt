@@ -1,10 +1,8 @@
 -- The memory for posts and retires that a table has reserved for claimed contexts and live threads.
 use Rattle.std.specs.Prelude.{ℕ, zero, suc, ◌+◌, ◌*◌, ◌≤◌, Bool, true, false}
-use Rattle.arachne_core.specs.Occupancy.{bit}
-use Rattle.arachne_core.specs.declared.state.State.{State}
-use Rattle.arachne_core.specs.declared.state.State.TheVariants as state
-use Rattle.arachne_core.specs.ContextTable.{ContextTable, world_of}
+use Rattle.arachne_core.specs.{Occupancy.bit, declared.state.State.State, ContextTable.{ContextTable, world_of}}
 use Rattle.arachne_core.specs.World.{World}
+use Rattle.arachne_core.specs.declared.state.State.TheVariants as state
 
 -- the number of numbers below n that pass the test
 abbrev pub count_below : ℕ → (ℕ → Bool) → ℕ

@@ -1,8 +1,7 @@
 -- The seats of a locked table, and their counts.
 use Rattle.std.specs.Prelude.{◌≡◌, ℕ, ◌+◌, ◌-◌, ◌^◌, ◌<◌, if◌then◌else◌, nat_lt, List, length}
 use Rattle.arachne_contexts.specs.Out.{Out}
-use Rattle.arachne_locked.specs.declared.tokens.LockedClaim.{LockedClaim}
-use Rattle.arachne_locked.specs.declared.tokens.LockedHold.{LockedHold}
+use Rattle.arachne_locked.specs.declared.tokens.{LockedClaim.LockedClaim, LockedHold.LockedHold}
 
 -- the model of a seat: its carrier, its weight, and the number of claims and threads that are out with it
 pub record SeatView : Type 0 where

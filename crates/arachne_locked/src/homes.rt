@@ -16,11 +16,9 @@ use arachne_core::{
 use std::alloc::{AllocError, Global};
 use std::marker::Model;
 
-/// The state of a table (a `World`), and for each context (the record of a user thread) the value of its thread, if no
-/// seat holds that thread.
+/// The state of a table (a `World`), with the value of each thread that no kernel thread runs.
 ///
-/// A seat is one kernel thread's right to call the table, and `carrier` the number of a seat. The value of a thread is
-/// *at home* while it is stored here. A take of the thread removes the value.
+/// In its methods, `carrier` is the number of a seat (one kernel thread's right to call the table).
 #[derive(Drop)]
 pub struct Homes<T: Tagged> {
     world: World,
@@ -77,14 +75,14 @@ impl<T: Tagged + Drop> Homes<T> {
         self.values.len()
     }
 
-    /// Returns whether the table has a context (the record of a user thread) of this number.
+    /// Returns true if there is a context (the record of a user thread) with this number.
     pub fn has(&self, context: u32) -> bool
         ensures { IsTrue result ↔ IsContext (world_of self.now.table) context }
     {
         (context as usize) < self.values.len()
     }
 
-    /// Returns the generation of a context (the record of a user thread), which rises with each thread.
+    /// Returns the generation of a context (the record of a user thread), which rises with each thread that ends there.
     pub fn generation(&self, context: u32) -> u64
         requires { IsContext (world_of self.now.table) context }
         ensures { result ≡ (world_of self.now.table).generation context }
@@ -102,7 +100,7 @@ impl<T: Tagged + Drop> Homes<T> {
         self.world.reserve(posts, retires)
     }
 
-    /// Applies an event that doesn't put a thread's value into the table or take one out.
+    /// Applies an event that neither adds nor removes a thread's value.
     pub fn apply(&mut self, event: Event) -> Result<(), NotApplied>
         requires { LeavesValues event }
         ensures answer { Answers event self.old.table self.new.table result }
@@ -112,8 +110,7 @@ impl<T: Tagged + Drop> Homes<T> {
         self.world.apply(event)
     }
 
-    /// Applies an event that is allowed, needs no memory, and doesn't put a thread's value into the table or take one
-    /// out.
+    /// Applies an event that is allowed, needs no memory, and neither adds nor removes a thread's value.
     pub fn make(&mut self, event: Event)
         requires values { LeavesValues event }
         requires memory { WantsNoRoom event }
@@ -127,8 +124,7 @@ impl<T: Tagged + Drop> Homes<T> {
         }
     }
 
-    /// Puts a thread with this value, ready to run, into a context (the record of a user thread) that the seat (a
-    /// kernel thread's right to call the table) with the number `carrier` has claimed.
+    /// Puts a thread with this value into a context (thread record), claimed by the caller (seat number `carrier`).
     ///
     /// If the table's state doesn't allow this, or if memory is refused, returns the value with the error.
     pub fn post(&mut self, carrier: u32, context: u32, value: T) -> Result<(), (NotApplied, T)>
@@ -153,8 +149,8 @@ impl<T: Tagged + Drop> Homes<T> {
         }
     }
 
-    /// Takes the thread in a context (the record of a user thread), if it is ready, and returns its value. The seat (a
-    /// kernel thread's right to call the table) with the number `carrier` then holds the thread.
+    /// Takes the thread of a context (the record of a user thread), if the thread is ready, and returns its value. The
+    /// caller (seat number `carrier`) then holds the thread.
     pub fn take(&mut self, carrier: u32, context: u32) -> Option<T>
         ensures made { IfSome result (λ value. Answers (event.Take carrier context) self.old.table self.new.table (Ok tt)) }
         ensures value { IfSome result (λ value. value_at self.old.values context ≡ Some value) }
@@ -171,8 +167,7 @@ impl<T: Tagged + Drop> Homes<T> {
         }
     }
 
-    /// Returns whether the seat (a kernel thread's right to call the table) with the number `carrier` holds the thread
-    /// with this id and tag.
+    /// Returns true if the caller (seat number `carrier`) holds the thread with this id and tag.
     pub fn holds(&self, carrier: u32, id: ThreadId, tag: u64) -> bool
         ensures { IsTrue result ↔ HoldsThread (world_of self.now.table) carrier id tag }
     {
@@ -189,8 +184,7 @@ impl<T: Tagged + Drop> Homes<T> {
         }
     }
 
-    /// Puts back a thread that the seat (a kernel thread's right to call the table) with the number `carrier` holds, as
-    /// ready or as blocked, and stores its value in the table.
+    /// Puts back a thread that the caller (seat number `carrier`) holds, as ready or as blocked, with its value.
     pub fn put_back(&mut self, carrier: u32, id: ThreadId, value: T, rest: Rest)
         requires { HoldsThread (world_of self.old.table) carrier id (T.tag_of value) }
         ensures made { Answers (event.Rest carrier id.context rest) self.old.table self.new.table (Ok tt) }
@@ -210,10 +204,8 @@ impl<T: Tagged + Drop> Homes<T> {
 }
 
 impl<T: Tagged + Drop> Homes<T> {
-    /// Returns the threads that no seat (a kernel thread's right to call the table) holds, in the order of their
-    /// contexts (the records of user threads).
-    ///
-    /// If memory is refused, returns the unchanged table as an error.
+    /// Returns the threads that no seat (a kernel thread's right to call) holds, in the order of their contexts (the
+    /// records of user threads). If memory is refused, returns the unchanged table as an error.
     pub fn close(self, alloc: Global) -> Result<Vec<(ThreadId, T)>, Self>
         ensures rest { IfOk result (λ rest. rest.items ≡ at_rest_below (world_of self.table) self.values ((world_of self.table).cores * (world_of self.table).slots)) }
         ensures handed_back { IfErr result (λ back. back ≡ self) }
@@ -241,7 +233,6 @@ impl<T: Tagged + Drop> Homes<T> {
     }
 }
 
-/// Returns a list of `count` entries that are all `None`.
 fn no_values<T: Drop>(alloc: Global, count: usize) -> Result<Vec<Option<T>>, AllocError>
     ensures { IfOk result (λ values. values.items ≡ replicate count None) }
 {

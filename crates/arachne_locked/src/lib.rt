@@ -1,13 +1,11 @@
-//! A context table whose whole state is behind one lock: simpler and slower than the table on atomic words.
+//! A context table whose whole state is behind one lock, which is simpler and slower than the table on atomic words.
 //!
-//! The lock protects the state of the table (a `World` of `arachne_core`) and the values of the threads that no *seat*
-//! holds. A seat is one kernel thread's right to call the table; it holds a thread from the take until the thread is
-//! put back or ended. Each call applies its events to the state, one after another. So between any two calls, no two
-//! threads share a context (the record of a thread) or a place (one of a core's thread slots). Tests compare the table
-//! on atomic words with this one.
+//! A *seat* is one kernel thread's right to call the table. A seat holds a thread from the call that takes the thread
+//! until a call puts it back or ends it. The lock protects the table's state (a `World` of `arachne_core`) and the
+//! values of the threads that no seat holds. Between any two calls, no two threads share a context (the record of a
+//! thread) or a thread slot of a core. Tests compare the table on atomic words with this table.
 #![tactic(auto)]
 
-mod carriers;
 mod homes;
 mod locked;
 mod seat;

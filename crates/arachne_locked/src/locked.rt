@@ -1,4 +1,4 @@
-//! The calls on a table behind a lock: each takes the lock, changes the state, and frees the lock.
+//! The calls on a table behind a lock. Each call takes the lock, changes the state, and frees the lock.
 ghost use Rattle.std.specs.Prelude.{◌≡◌, ◌<◌, ◌≤◌, ◌*◌, ◌≢◌, ℕ, IsTrue, IfOk, IfErr};
 ghost use Rattle.arachne_core.specs.Occupancy.{IsOccupancyWord};
 ghost use Rattle.arachne_contexts.specs.Words.{HasNoPlace, ShowsFull, ShowsNoRoom};
@@ -7,8 +7,7 @@ ghost use Rattle.arachne_contexts.specs.Out.{Thread as a_thread, Spends};
 ghost use Rattle.arachne_weights.specs.Weight.{first_part, second_part};
 ghost use Rattle.arachne_locked.specs.Seats.{HasCounted, CountsOut};
 
-use crate::carriers::Carriers;
-use crate::seat::LockedSeat;
+use crate::seat::{LockedSeat, next_carrier};
 use crate::slots::Slots;
 use crate::state::{TableState, no_core};
 use crate::tokens::{LockedClaim, LockedHold};
@@ -22,12 +21,13 @@ use std::sync::{Mutex, Wait};
 #[derive(Drop)]
 pub struct LockedContexts<T: Tagged> {
     state: Mutex<TableState<T>>,
-    carriers: Mutex<Carriers>,
+    /// The number of the newest seat (a kernel thread's right to call the table).
+    last_carrier: Mutex<u32>,
     cores: u8,
     slots: Slots,
 }
 
-/// Returns the core's occupancy word, or the word of a full core if `occ` is `None` because the table has no such core.
+/// Returns the core's occupancy word, or that of a full core if the table has no such core.
 fn word_of(occ: Option<OccWord>) -> u64
     ensures { IsOccupancyWord result }
 {
@@ -47,11 +47,9 @@ impl<T: Tagged + Drop> LockedContexts<T> {
     }
 }
 
-/// Returns `word` if it is the occupancy word of a core whose `slots` thread slots are all occupied, and otherwise such
-/// a word.
+/// Returns `word` if it shows that all slots of a core are occupied, and otherwise another word that shows this.
 ///
-/// The function checks this at run time, since proofs outside the lock don't know how many thread slots the cores
-/// behind the lock have.
+/// Checked at run time, since proofs outside the lock don't know how many slots the cores have.
 fn full_word(word: u64, slots: Slots) -> u64
     ensures { ShowsFull slots result }
 {
@@ -63,8 +61,7 @@ fn full_word(word: u64, slots: Slots) -> u64
     full_core(slots)
 }
 
-/// Returns `word` if it is the occupancy word of a core to which no thread may be moved, and otherwise the word of a
-/// core whose `slots` thread slots are all occupied.
+/// Returns `word` if it shows a closed or full core, and otherwise a word that shows a full core.
 fn no_room_word(word: u64, slots: Slots) -> u64
     ensures { ShowsNoRoom slots result }
 {
@@ -76,14 +73,12 @@ fn no_room_word(word: u64, slots: Slots) -> u64
     full_core(slots)
 }
 
-/// Returns whether the core belongs to one thread only, or none of its thread slots is free.
 fn has_no_place(occ: OccWord, slots: Slots) -> bool
     ensures { IsTrue result → HasNoPlace slots occ }
 {
     occ.is_exclusive() || occ.lowest_free_below(slots.count()).is_none()
 }
 
-/// Returns the occupancy word of a core whose thread slots are all occupied.
 fn full_core(slots: Slots) -> u64
     ensures { ShowsFull slots result }
 {
@@ -112,7 +107,7 @@ impl<T: Tagged + Drop> Seats for LockedContexts<T> {
         let state = TableState::new(alloc, cores, slots, first_generation)?;
         let table = LockedContexts {
             state: Mutex::new(state),
-            carriers: Mutex::new(Carriers::new()),
+            last_carrier: Mutex::new(0),
             cores,
             slots: Slots::new(slots),
         };
@@ -131,7 +126,9 @@ impl<T: Tagged + Drop> Seats for LockedContexts<T> {
         ensures second { result.1 ≡ record { carrier = result.1.carrier; weight = second_part seat.weight; out = 0 } }
         ensures carriers { result.1.carrier ≢ seat.carrier }
     {
-        let carrier = self.carriers.lock(rt).next(seat.carrier);
+        let mut last = self.last_carrier.lock(rt);
+        let carrier = next_carrier(*last, seat.carrier);
+        *last = carrier;
         let (first, second) = seat.weight.split();
         let own = LockedSeat {
             weight: first,
@@ -330,7 +327,7 @@ impl<T: Tagged + Drop> Contexts<T> for LockedContexts<T> {
         let _ = rt;
         let LockedContexts {
             state,
-            carriers,
+            last_carrier,
             cores,
             slots,
         } = self;
@@ -339,7 +336,7 @@ impl<T: Tagged + Drop> Contexts<T> for LockedContexts<T> {
             Err(state) => {
                 let table = LockedContexts {
                     state: Mutex::new(state),
-                    carriers,
+                    last_carrier,
                     cores,
                     slots,
                 };

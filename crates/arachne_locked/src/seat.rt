@@ -1,15 +1,13 @@
 //! One kernel thread's right to call a locked table, with the number by which the table knows it.
-ghost use Rattle.std.specs.Prelude.{◌≡◌};
+ghost use Rattle.std.specs.Prelude.{◌≡◌, ◌≢◌, ◌+◌, ◌<◌};
 ghost use Rattle.arachne_locked.specs.Seats.{one_more, one_fewer};
 
 use arachne_weights::Weight;
 use std::marker::Model;
 
-/// One kernel thread's right to call a table whose state is behind a lock. The state knows the seat by a number, its
-/// carrier.
+/// One kernel thread's right to call a table behind a lock. The table knows the seat by a number, its `carrier`.
 ///
-/// Contracts refer to the seat's carrier, its weight, and the count of its unused claims and the threads that it holds.
-/// After that count has reached 2^32 - 1, it no longer changes.
+/// `out` counts the seat's unused claims and held threads. A count of 2^32 - 1 no longer changes.
 #[derive(Debug, Drop)]
 pub struct LockedSeat {
     pub(crate) carrier: u32,
@@ -26,7 +24,6 @@ impl Model for LockedSeat {
 }
 
 impl LockedSeat {
-    /// Counts one more claim or held thread of this seat.
     pub(crate) fn gain(&mut self)
         ensures { self.new ≡ record self.old { out = one_more self.old.out } }
     {
@@ -35,7 +32,6 @@ impl LockedSeat {
         }
     }
 
-    /// Counts one claim or held thread less: the seat has used the claim, or has put back or ended the thread.
     pub(crate) fn spend(&mut self)
         ensures { self.new ≡ record self.old { out = one_fewer self.old.out } }
     {
@@ -43,4 +39,19 @@ impl LockedSeat {
             self.out = self.out.saturating_sub(1);
         }
     }
+}
+
+/// Returns a number for a new seat (a right to call), which is split off seat number `other`. `last` is the number that
+/// was last given to a seat, or 0, the first seat's.
+///
+/// The result is greater than `last`, until the numbers of 32 bits begin at 0 again, and differs from `other`.
+pub(crate) fn next_carrier(last: u32, other: u32) -> u32
+    ensures apart { result ≢ other }
+    ensures fresh { last + 1 < u32.MAX → last < result }
+{
+    let next = last.wrapping_add(1);
+    if next == other {
+        return next.wrapping_add(1);
+    }
+    next
 }

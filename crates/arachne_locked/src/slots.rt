@@ -5,8 +5,6 @@ use arachne_core::SLOTS;
 use std::marker::Model;
 
 /// The number of thread slots of each core, which calls can read without taking the lock.
-///
-/// Contracts treat a `Slots` as a number.
 #[derive(Clone, Copy, Debug)]
 pub struct Slots {
     count: u8,

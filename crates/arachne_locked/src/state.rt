@@ -22,10 +22,10 @@ use arachne_core::{
 use std::alloc::{AllocError, Global};
 use std::marker::Model;
 
-/// The state of a table (a `World`) and the values of the threads that no seat holds. There is always enough memory
-/// reserved to put a thread into each claimed context (the record of a user thread), and to end each thread.
+/// The state of a table (a `World`), with the values of the threads that no kernel thread runs.
 ///
-/// A seat is one kernel thread's right to call the table, and `carrier` the number of a seat.
+/// Enough memory is always reserved to put a thread into each claimed context, and to end each thread. `carrier` is the
+/// number of a seat (right to call).
 #[derive(Drop)]
 pub struct TableState<T: Tagged> {
     homes: Homes<T>,
@@ -42,8 +42,7 @@ impl<T: Tagged> Model for TableState<T> {
     ghost invariant = { λ s. HasRoom s.homes.table };
 }
 
-/// Returns the occupancy word of a core whose `slots` thread slots are all occupied. It serves for a core that the
-/// table doesn't have.
+/// Returns the word that shows a full core. Calls also return it for a core that the table doesn't have.
 pub fn no_core(slots: u8) -> OccWord
     requires { slots ≤ SLOTS }
     ensures open { result.closed ≡ false }
@@ -76,9 +75,8 @@ impl<T: Tagged + Drop> TableState<T> {
         Ok(TableState { homes })
     }
 
-    /// Does nothing. Its contract is a law: no two threads share a context (the record of a user thread) or a thread
-    /// slot, and the table has the value of a thread exactly if no seat (a kernel thread's right to call the table)
-    /// holds that thread.
+    /// Does nothing. The contract says that no two threads share a context (the record of a user thread) or a thread
+    /// slot. The table has the value of a thread exactly if no kernel thread runs the thread.
     pub fn is_owned_once(&self)
         ensures owned_once { OwnedOnce (world_of self.now.table) }
         ensures home { IsHome T.tag_of (world_of self.now.table) self.now.values }
@@ -94,7 +92,6 @@ impl<T: Tagged + Drop> TableState<T> {
         core < self.homes.world().cores()
     }
 
-    /// Returns the number of thread slots of each core.
     fn slots(&self) -> u8
         ensures value { result ≡ (world_of self.now.table).slots }
         ensures some { 1 ≤ result }
@@ -103,7 +100,7 @@ impl<T: Tagged + Drop> TableState<T> {
         self.homes.world().slots()
     }
 
-    /// Returns the occupancy word of a core, or `None` if the table has no such core.
+    /// Returns the occupancy word of a core (a bit for each occupied slot), or `None` if the table has no such core.
     pub fn look(&self, core: u8) -> Option<OccWord>
         ensures some { IfSome result (λ occ. (core < (world_of self.now.table).cores) × ShowsCore (world_of self.now.table) core occ) }
         ensures beyond { IfSome result (λ occ. IsVacantFrom (world_of self.now.table).slots occ) }
@@ -115,8 +112,7 @@ impl<T: Tagged + Drop> TableState<T> {
         Some(self.homes.world().occ(core))
     }
 
-    /// Returns the mark word (the packed state) of a context (the record of a user thread), or `None` if the table has
-    /// no such context.
+    /// Returns the mark word (packed state) of a context (record of a thread), or `None` if there is no such context.
     pub fn look_mark(&self, context: u32) -> Option<MarkWord>
         ensures some { IfSome result (λ mark. IsContext (world_of self.now.table) context × (mark ≡ marked (world_of self.now.table) context)) }
         ensures none { IfNone result (IsContext (world_of self.now.table) context → ⊥) }
@@ -127,7 +123,7 @@ impl<T: Tagged + Drop> TableState<T> {
         Some(self.homes.world().mark(context))
     }
 
-    /// Returns whether a core is closed and none of its thread slots is occupied.
+    /// Returns true if a core is closed and none of its thread slots is occupied.
     pub fn is_drained(&self, core: u8) -> bool
         ensures { IsTrue result ↔ IsDrained (world_of self.now.table) core }
     {
@@ -139,8 +135,7 @@ impl<T: Tagged + Drop> TableState<T> {
 
     // ---- claims
 
-    /// Reserves memory for the thread that the claiming seat (a kernel thread's right to call the table) may put into
-    /// the context (the record of a user thread), and then applies the event `claim`.
+    /// Reserves memory for a thread in the claimed context before it applies the event `claim`.
     fn claim_context(&mut self, claim: Event) -> Result<(), AllocError>
         requires claim { IsClaim claim }
         requires allowed { Allowed (world_of self.old.table) claim }
@@ -156,8 +151,7 @@ impl<T: Tagged + Drop> TableState<T> {
         }
     }
 
-    /// Claims the lowest free thread slot of the core `core` for the seat (a kernel thread's right to call the table)
-    /// with the number `carrier`.
+    /// Claims the lowest free thread slot of a core for the caller (seat number `carrier`).
     pub fn claim(&mut self, carrier: u32, core: u8) -> Result<Claimed<LockedClaim>, AllocError>
         ensures answer { IfOk result (Claims (world_of self.old.table) (world_of self.new.table) carrier core) }
         ensures err { OnErr result (world_of self.new.table ≡ world_of self.old.table) }
@@ -181,8 +175,7 @@ impl<T: Tagged + Drop> TableState<T> {
         Ok(Claimed::Place(LockedClaim { context, place }))
     }
 
-    /// Claims a whole empty core, for one thread, for the seat (a kernel thread's right to call the table) with the
-    /// number `carrier`.
+    /// Claims a whole empty core for one thread, for the caller (seat number `carrier`).
     pub fn claim_alone(
         &mut self,
         carrier: u32,
@@ -208,10 +201,8 @@ impl<T: Tagged + Drop> TableState<T> {
         Ok(Claimed::Place(LockedClaim { context, place }))
     }
 
-    /// Frees a thread slot that the seat (a kernel thread's right to call the table) with the number `carrier` has
-    /// claimed.
-    ///
-    /// If the table doesn't know the claim, returns it as an error.
+    /// Frees a slot that the caller (seat number `carrier`) has claimed. If the slot isn't claimed by this caller, returns
+    /// `claim` as the error.
     pub fn give_back(&mut self, carrier: u32, claim: LockedClaim) -> Result<(), LockedClaim>
         ensures ok { OnOk result (Takes (world_of self.old.table) (event.Release carrier claim.context ∷ []) (world_of self.new.table)) }
         ensures values { self.new.values ≡ self.old.values }
@@ -229,7 +220,7 @@ impl<T: Tagged + Drop> TableState<T> {
 
     /// Puts a thread with this value, ready to run, into the claimed thread slot. Does not allocate.
     ///
-    /// If the table doesn't know the claim, returns the claim and the value as an error.
+    /// If the slot isn't claimed by this caller, returns `claim` and `value` as the error.
     pub fn post(
         &mut self,
         carrier: u32,
@@ -254,8 +245,7 @@ impl<T: Tagged + Drop> TableState<T> {
         })
     }
 
-    /// Takes the thread at `place`, if it is ready. The seat (a kernel thread's right to call the table) with the
-    /// number `carrier` then holds the thread.
+    /// Takes the thread at `place`, if the thread is ready. The caller (seat number `carrier`) then holds the thread.
     pub fn take(&mut self, carrier: u32, place: Place) -> Taken<T, LockedHold>
         ensures { TakesFrom (world_of self.old.table) (world_of self.new.table) self.old.values self.new.values carrier place result }
     {
@@ -279,11 +269,9 @@ impl<T: Tagged + Drop> TableState<T> {
         }
     }
 
-    /// Puts a thread that the seat (a kernel thread's right to call the table) with the number `carrier` holds back
-    /// into the table, as ready or as blocked.
+    /// Puts back a thread that the caller (seat number `carrier`) holds, as ready or as blocked.
     ///
-    /// If the table doesn't know the thread by its id and tag (a number of the caller's), returns the thread as an
-    /// error.
+    /// If the caller doesn't hold the thread of this id and tag, returns the thread as an error.
     pub fn put_back(
         &mut self,
         carrier: u32,
@@ -305,11 +293,9 @@ impl<T: Tagged + Drop> TableState<T> {
         Ok(rested)
     }
 
-    /// Ends a thread that the seat (a kernel thread's right to call the table) with the number `carrier` holds, and
-    /// returns its value. Does not allocate.
+    /// Ends a thread that the caller (seat number `carrier`) holds, and returns the thread's value. Does not allocate.
     ///
-    /// If the table doesn't know the thread by its id and tag (a number of the caller's), returns the thread as an
-    /// error.
+    /// If the caller doesn't hold the thread of this id and tag, returns the thread as an error.
     pub fn finish(
         &mut self,
         carrier: u32,
@@ -330,8 +316,6 @@ impl<T: Tagged + Drop> TableState<T> {
         Ok(held.value)
     }
 
-    /// Ends the thread of a context (the record of a user thread). The caller must pass a context whose thread the seat
-    /// (a kernel thread's right to call the table) with the number `carrier` holds.
     fn end(&mut self, carrier: u32, context: u32)
         requires { HoldsIn (world_of self.old.table) carrier context }
         ensures events { Takes (world_of self.old.table) (ends (world_of self.old.table) carrier context) (world_of self.new.table) }
@@ -350,7 +334,7 @@ impl<T: Tagged + Drop> TableState<T> {
         }
     }
 
-    /// Wakes the thread with this id. The caller may pass any id.
+    /// Wakes the thread with this id. Any id may be passed.
     pub fn wake(&mut self, id: ThreadId) -> Woken
         ensures answer { Wakes (world_of self.old.table) (world_of self.new.table) id result }
         ensures values { self.new.values ≡ self.old.values }
@@ -372,8 +356,7 @@ impl<T: Tagged + Drop> TableState<T> {
 
     // ---- cores
 
-    /// Closes a core. Returns the core's occupancy word as it was before the call, or `None` if the table has no such
-    /// core.
+    /// Closes a core. Returns its old occupancy word (occupied slots), or `None` if there is no such core.
     pub fn close_core(&mut self, core: u8) -> Option<OccWord>
         ensures some { IfSome result (λ occ. ShowsCore (world_of self.old.table) core occ × Takes (world_of self.old.table) (event.CloseCore core ∷ []) (world_of self.new.table)) }
         ensures none { IfNone result ((core < (world_of self.old.table).cores → ⊥) × (self.new ≡ self.old)) }
@@ -386,8 +369,7 @@ impl<T: Tagged + Drop> TableState<T> {
         }
     }
 
-    /// Opens a core. Returns the core's occupancy word as it was before the call, or `None` if the table has no such
-    /// core.
+    /// Opens a core. Returns its old occupancy word (occupied slots), or `None` if there is no such core.
     pub fn open_core(&mut self, core: u8) -> Option<OccWord>
         ensures some { IfSome result (λ occ. ShowsCore (world_of self.old.table) core occ × Takes (world_of self.old.table) (event.OpenCore core ∷ []) (world_of self.new.table)) }
         ensures none { IfNone result ((core < (world_of self.old.table).cores → ⊥) × (self.new ≡ self.old)) }
@@ -402,8 +384,7 @@ impl<T: Tagged + Drop> TableState<T> {
 
     // ---- moves
 
-    /// Moves the thread at `place` to the lowest free thread slot of the core `to`, if no seat (a kernel thread's right
-    /// to call the table) holds the thread.
+    /// Moves the thread at `place` to the lowest free slot of the core `to`, unless a kernel thread runs it.
     pub fn move_one(&mut self, carrier: u32, place: Place, to: u8) -> Moved
         requires { to ≢ place.core }
         ensures answer { Moves (world_of self.old.table) (world_of self.new.table) carrier place to result }
@@ -425,8 +406,7 @@ impl<T: Tagged + Drop> TableState<T> {
         self.move_to(carrier, from, place, to)
     }
 
-    /// Moves the thread of context `from` to the core `to`. No seat (a kernel thread's right to call the table) holds
-    /// that thread, and it shares its core with others.
+    /// No kernel thread may run the thread, and it must not have its core for itself.
     fn move_to(&mut self, carrier: u32, from: u32, place: Place, to: u8) -> Moved
         requires within { IsContext (world_of self.old.table) from }
         requires at { (world_of self.old.table).at from ≡ place }
@@ -453,8 +433,7 @@ impl<T: Tagged + Drop> TableState<T> {
         Moved::Moved
     }
 
-    /// Claims context `target`, moves the thread of context `from` to the thread slot of `target`, and frees the slot
-    /// that the thread left.
+    /// Moves the thread of the context `from` to the slot of the context `target`, and frees the thread's old slot.
     fn swap(&mut self, carrier: u32, from: u32, target: u32)
         requires { CanMove (world_of self.old.table) from target }
         ensures events { Takes (world_of self.old.table) (event.Claim carrier target ∷ event.Move carrier from target ∷ event.Release carrier target ∷ []) (world_of self.new.table) }
@@ -477,10 +456,8 @@ impl<T: Tagged + Drop> TableState<T> {
 
     // ---- the end
 
-    /// Returns the threads that no seat (a kernel thread's right to call the table) holds, in the order of their
-    /// contexts (the records of threads).
-    ///
-    /// If memory is refused, returns the unchanged table as an error.
+    /// Returns the threads that no seat (a kernel thread's right to call) holds, in the order of their contexts. If
+    /// memory is refused, returns the unchanged table as an error.
     pub fn close(self, alloc: Global) -> Result<Vec<(ThreadId, T)>, Self>
         ensures rest { IfOk result (λ rest. rest.items ≡ at_rest_below (world_of self.table) self.values ((world_of self.table).cores * (world_of self.table).slots)) }
         ensures accounted { IfOk result (λ rest. IsAccounted T.tag_of (world_of self.table) rest.items) }
@@ -496,8 +473,7 @@ impl<T: Tagged + Drop> TableState<T> {
     }
 }
 
-/// Returns the result of putting a thread back as `rest` says, if the state of the thread's context (the record of a
-/// user thread) was `state` before.
+/// Returns the result of putting a thread back as `rest` says, if its context was in the state `state`.
 fn rested(rest: Rest, state: State) -> Rested
     ensures { result ≡ rests_as rest state }
 {
@@ -507,8 +483,6 @@ fn rested(rest: Rest, state: State) -> Rested
     }
 }
 
-/// Returns whether the thread of the context's last generation has ended, so that the context (the record of a user
-/// thread) is never used again.
 fn is_spent(state: State) -> bool
     ensures { IsTrue result ↔ (state ≡ State.Spent) }
 {

@@ -1,10 +1,8 @@
 //! A seat's claim of a thread slot, and its handle of a thread that it has taken and not yet put back.
-
 use arachne_contexts::{Identified, Placed};
 use arachne_core::{Place, ThreadId};
 
-/// A place that a seat (a kernel thread's right to call the table) has claimed: one of a core's thread slots, reserved
-/// for a thread.
+/// A thread slot that a seat (a kernel thread's right to call the table) has claimed for a new thread.
 #[derive(Debug, Drop)]
 pub struct LockedClaim {
     pub(crate) context: u32,

@@ -1,9 +1,7 @@
 -- The laws of effects on an account.
-use Rattle.std.proofs.Common.{◌≡◌, ℕ, ◌+◌, List, [], ◌∷◌, ◌++◌, length, refl, ap, sym, ◌∙◌, arith, append_assoc, length-append}
-use Rattle.std.proofs.lemmas.List.{append-nil}
+use Rattle.std.proofs.Common.{◌≡◌, ℕ, ◌+◌, List, [], ◌∷◌, ◌++◌, length, refl, ap, sym, ◌∙◌, arith, append_assoc, length-append, append-nil}
 use Rattle.std.proofs.Math.Path.{fun_ext}
-use Rattle.arachne_program.specs.declared.meaning.Line.{Line}
-use Rattle.arachne_program.specs.Effects.{Child, Effects, nothing, ◌⨾◌, forked, line_of}
+use Rattle.arachne_program.specs.{declared.meaning.Line.Line, Effects.{Child, Effects, nothing, ◌⨾◌, forked, line_of}}
 use Rattle.arachne_machine.specs.Account.{Account, after, with_fork, with_join}
 
 pub same_account : (s s' h h' : ℕ → ℕ) (c c' : List Child) (l l' : List Line) → s ≡ s' → h ≡ h' → c ≡ c' → l ≡ l' →

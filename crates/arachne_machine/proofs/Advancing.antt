@@ -1,37 +1,22 @@
 -- The view that callers have of an advance.
-use Rattle.std.proofs.Common.{ℕ, ◌+◌, List, [], ◌∷◌, ◌++◌, Option, None, Some, inl, inr, ◌≡◌, refl, ap, sym, ◌∙◌, arith}
-use Rattle.std.specs.Prelude.{max}
+use Rattle.std.proofs.Common.{ℕ, List, [], ◌∷◌, ◌++◌, Option, None, Some, inl, inr, refl, ap, sym, ◌∙◌, arith, max}
 use Rattle.std.proofs.lemmas.Bool.{cases_lt}
-use Rattle.arachne_program.specs.Tree.{Tree, Source, Number, Variable, Length, Item, Binary, Choose, Bind, Tally, Hold, Fork, Fold, Sweep}
-use Rattle.arachne_program.specs.Effects.{Task, Evaluate, Reduce}
-use Rattle.arachne_machine.specs.Trace.{Event, At, trace_of, task_trace}
-use Rattle.arachne_machine.proofs.Halves.{trace_whole, trace_split}
-use Rattle.arachne_machine.specs.declared.frame.Frame.{Frame}
-use Rattle.arachne_machine.specs.declared.frame.Control.{Control}
-use Rattle.arachne_machine.specs.declared.frame.Control.TheVariants.{Begin, Give, Cover, Forked, Halved, Awaits, AwaitsHalf, Asks, Frees, Tallies, Ended}
-use Rattle.arachne_machine.specs.declared.pause.Pending.TheVariants as pause
-use Rattle.arachne_machine.specs.Suspended.{IsNext}
-use Rattle.arachne_machine.specs.Ending.{stretch_task, begun, begun_trace, begun_work, resume_trace, resume_work, frames_left, trace_left, work_left}
-use Rattle.arachne_machine.specs.Strands.{Strand}
-use Rattle.arachne_machine.specs.declared.pause.Pending.{Pending}
-use Rattle.arachne_machine.specs.Advance.{Advanced, pause_at}
-use Rattle.arachne_machine.specs.Account.{Account}
-use Rattle.arachne_machine.specs.Steps.{AfterSteps, pending_of, suspended}
-use Rattle.arachne_program.specs.Program.{source_of, tree_of}
-use Rattle.arachne_program.specs.Checked.{IsChecked}
-use Rattle.arachne_machine.specs.Faultless.{PausesWithin}
-use Rattle.arachne_machine.specs.Sound.{IsSound}
+use Rattle.arachne_program.specs.{Tree.{Tree, Source, Number}, Effects.{Task, Evaluate, Reduce}}
+use Rattle.arachne_program.specs.{Program.{source_of, tree_of}, Checked.IsChecked}
+use Rattle.arachne_machine.{specs.Trace.{Event, At, trace_of, task_trace}, proofs.Halves.{trace_whole, trace_split}}
+use Rattle.arachne_machine.specs.{declared.frame.{Frame.Frame, Control.Control}, Suspended.IsNext, Strands.Strand}
+use Rattle.arachne_machine.specs.declared.frame.Control.TheVariants.{Begin, Cover, Asks, Frees, Tallies, Ended}
+use Rattle.arachne_machine.specs.Ending.{stretch_task, begun, begun_trace, resume_trace, frames_left, trace_left}
+use Rattle.arachne_machine.specs.{declared.pause.Pending.Pending, Advance.{Advanced, pause_at}, Account.Account}
+use Rattle.arachne_machine.specs.{Steps.{AfterSteps, pending_of, suspended}, Faultless.PausesWithin, Sound.IsSound}
 use Rattle.arachne_machine.proofs.Faultlessness.{pauses_within}
 use Rattle.arachne_machine.proofs.Soundness.{sound_goes, same_thread, within_seen, stopped_seen}
+use Rattle.arachne_machine.specs.declared.pause.Pending.TheVariants as pause
 
 pub sound_after : (n : ℕ) (old new : Strand) (next : Option Pending) (account : Account) → IsSound old account → AfterSteps n old next new → IsSound new account
 sound_after n old new None account s h = sound_goes n [] old new account s h.0
 sound_after n old new (Some pause.Forks) account s h = absurd h
-sound_after n old new (Some pause.Joins) account s h = sound_goes h.0.made [] old new account s h.0.goes
-sound_after n old new (Some (pause.Asks lock)) account s h = sound_goes h.0.made [] old new account s h.0.goes
-sound_after n old new (Some (pause.Frees lock)) account s h = sound_goes h.0.made [] old new account s h.0.goes
-sound_after n old new (Some (pause.Tallies ledger amount)) account s h = sound_goes h.0.made [] old new account s h.0.goes
-sound_after n old new (Some pause.Ended) account s h = sound_goes h.0.made [] old new account s h.0.goes
+sound_after n old new _ account s h = sound_goes h.0.made [] old new account s h.0.goes
 
 pub advanced_seen : (n : ℕ) (old new : Strand) (next : Option Pending) → AfterSteps n old next new → Advanced n (suspended old) (pause_at next) (suspended new)
 advanced_seen n old new None h =
@@ -53,17 +38,7 @@ within_seen_sound t account s checked = pauses_within t (s.faultless checked)
 -- a thread that goes on begins with a step
 trace_of-step : (arrays : List (List ℕ)) (tree : Tree) (env : List ℕ) → IsNext None (trace_of arrays tree env)
 trace_of-step arrays (Number n) env = (_, refl)
-trace_of-step arrays (Variable n) env = (_, refl)
-trace_of-step arrays (Length a) env = (_, refl)
-trace_of-step arrays (Item a index) env = (_, refl)
-trace_of-step arrays (Binary operation a b) env = (_, refl)
-trace_of-step arrays (Choose condition a b) env = (_, refl)
-trace_of-step arrays (Bind bound body) env = (_, refl)
-trace_of-step arrays (Tally ledger amount body) env = (_, refl)
-trace_of-step arrays (Hold lock body) env = (_, refl)
-trace_of-step arrays (Fork class child during next) env = (_, refl)
-trace_of-step arrays (Fold from to first body) env = (_, refl)
-trace_of-step arrays (Sweep reduction grain from to body) env = (_, refl)
+trace_of-step arrays _ env = (_, refl)
 
 task_trace-step : (arrays : List (List ℕ)) (task : Task) → IsNext None (task_trace arrays task)
 task_trace-step arrays (Evaluate tree env) = trace_of-step arrays tree env
@@ -81,37 +56,11 @@ next_event source name fs env (Begin expr) =
     let t = trace_of source.arrays (tree_of expr.now) env in
     let below = resume_trace source name fs (begun source name (Begin expr) env) in
     step_first (t ++ below) (At pause.Ended ∷ []) (step_first t below (trace_of-step source.arrays (tree_of expr.now) env))
-next_event source name fs env (Give value) = (_, refl)
 next_event source name fs env (Cover stretch) =
     let t = task_trace source.arrays (stretch_task stretch env) in
     let below = resume_trace source name fs (begun source name (Cover stretch) env) in
     step_first (t ++ below) (At pause.Ended ∷ []) (step_first t below (task_trace-step source.arrays (stretch_task stretch env)))
-next_event source name fs env (Forked expr) = (_, refl)
-next_event source name fs env (Halved stretch) = (_, refl)
-next_event source name fs env (Awaits number during next) = (_, refl)
-next_event source name fs env (AwaitsHalf number right reduction) = (_, refl)
-next_event source name fs env (Asks lock body) = (_, refl)
-next_event source name fs env (Frees lock value) = (_, refl)
-next_event source name fs env (Tallies ledger amount body) = (_, refl)
-next_event source name fs env (Ended value) = (_, refl)
+next_event source name fs env _ = (_, refl)
 
 pub trace_next : (t : Strand) → IsNext (pending_of t.control) (trace_left t)
 trace_next t = next_event (source_of t.program.now) t.own.name t.frames t.environment t.control
-
--- a thread that has ended has no step left
-ended_left : (source : Source) (name : List ℕ) (fs : List Frame) (env : List ℕ) (k : Control) → pending_of k ≡ Some pause.Ended →
-    begun_work source name k env + resume_work source name (frames_left k fs) (begun source name k env) ≡ 0
-ended_left source name fs env (Begin expr) e = cc
-ended_left source name fs env (Give value) e = cc
-ended_left source name fs env (Cover stretch) e = cc
-ended_left source name fs env (Forked expr) e = cc
-ended_left source name fs env (Halved stretch) e = cc
-ended_left source name fs env (Awaits number during next) e = cc
-ended_left source name fs env (AwaitsHalf number right reduction) e = cc
-ended_left source name fs env (Asks lock body) e = cc
-ended_left source name fs env (Frees lock value) e = cc
-ended_left source name fs env (Tallies ledger amount body) e = cc
-ended_left source name fs env (Ended value) e = refl
-
-pub ended_work : (t : Strand) → pending_of t.control ≡ Some pause.Ended → work_left t ≡ 0
-ended_work t e = ended_left (source_of t.program.now) t.own.name t.frames t.environment t.control e

@@ -1,34 +1,19 @@
 -- The answers to pauses.
-use Rattle.std.proofs.Common.{◌≡◌, ◌≤◌, length, ℕ, List, [], ◌∷◌, ◌++◌, None, Some, Option, refl, ap, sym, ◌∙◌, subst, arith}
-use Rattle.std.specs.Prelude.{map, reverse}
-use Rattle.std.specs.Borrow.{Bor}
-use Rattle.std.specs.Global.{Box}
-use Rattle.std.proofs.lemmas.List.{append-nil}
-use Rattle.arachne_program.specs.declared.program.Expr.{Expr}
-use Rattle.arachne_program.specs.Program.{source_of}
-use Rattle.arachne_machine.specs.declared.frame.Stretch.{Stretch}
-use Rattle.arachne_machine.specs.declared.frame.Frame.{Frame}
-use Rattle.arachne_machine.specs.declared.frame.Control.{Control}
-use Rattle.arachne_machine.specs.declared.frame.Control.TheVariants.{Begin, Give, Cover, Forked, Halved, Awaits, AwaitsHalf, Asks, Frees, Tallies, Ended}
-use Rattle.arachne_machine.specs.declared.pause.Pending.{Pending}
-use Rattle.arachne_machine.specs.declared.pause.Pending.TheVariants as pause
-use Rattle.arachne_machine.specs.declared.state.State.{State}
-use Rattle.arachne_machine.specs.Trace.{At}
+use Rattle.std.proofs.Common.{◌≡◌, ◌≤◌, length, ℕ, List, [], ◌∷◌, ◌++◌, None, Some, Option, refl, ap, sym, ◌∙◌, subst, arith, map, reverse, append-nil}
+use Rattle.std.specs.{Borrow.Bor, Global.Box}
+use Rattle.arachne_program.specs.{declared.program.Expr.Expr, Program.source_of, Effects.tabulated}
+use Rattle.arachne_machine.specs.declared.{frame.{Stretch.Stretch, Frame.Frame, Control.Control}, pause.Pending.Pending}
+use Rattle.arachne_machine.specs.declared.frame.Control.TheVariants.{Begin, Give, Cover, Forked, Halved, Frees, Ended}
+use Rattle.arachne_machine.specs.{declared.state.State.State, Trace.At, Strands.{Strand, owned_at, below_at, own_line}}
 use Rattle.arachne_machine.specs.Ending.{AwaitsFork, fork_awaited, forks_of, lock_freed, releases, frames_left, locks_of}
-use Rattle.arachne_machine.specs.Strands.{Strand, owned_at, below_at, own_line}
-use Rattle.arachne_machine.specs.Suspended.{Suspended, SameThread, IsAnswered}
+use Rattle.arachne_machine.specs.{Suspended.{Suspended, SameThread, IsAnswered}, Sound.{IsSoundState, AreSound}}
 use Rattle.arachne_machine.specs.Nested.{Nested, Await, ArePlaced, IsNested, Placed, SameWhole, work_in, works}
 use Rattle.arachne_machine.specs.Steps.{Becomes, Goes, LeavesOthers, Changes, Turns, pending_of, suspended, top, waiting_in}
-use Rattle.arachne_machine.specs.Sound.{IsSoundState, AreSound}
-use Rattle.arachne_machine.specs.Kept.{IsKept, IsSoundChild, nested}
-use Rattle.arachne_machine.specs.Outcome.{IsOfItsName}
-use Rattle.arachne_program.specs.Effects.{tabulated}
-use Rattle.arachne_machine.proofs.Tabulated.{tabulated-same}
-use Rattle.arachne_machine.specs.Runs.{after_fork}
-use Rattle.arachne_machine.proofs.Soundness.{sound_end, sound_goes}
+use Rattle.arachne_machine.specs.{Kept.{IsKept, IsSoundChild, nested}, Outcome.IsOfItsName, Runs.after_fork}
+use Rattle.arachne_machine.proofs.{Tabulated.tabulated-same, Soundness.{sound_end, sound_goes}, Nesting.same_whole}
 use Rattle.arachne_machine.proofs.Outlooks.{Any, SameOutlook, IsAt, itself, same_end, unjoined_at, here_at}
 use Rattle.arachne_machine.proofs.Levels.{alone_waiting, changes_leave, leaves_waiting, sound_top, top_becomes, outer_start}
-use Rattle.arachne_machine.proofs.Nesting.{same_whole}
+use Rattle.arachne_machine.specs.declared.pause.Pending.TheVariants as pause
 
 -- An answer that counts nothing: the thread goes on.
 answers_by : (old new : Strand) (p : Pending) (k k' : Control) → old.control ≡ k → Becomes old new old.environment old.frames k' →
@@ -41,13 +26,7 @@ answers_by old new p k k' is_k b left left' awaits keep outlook =
     let fs = old.frames in
     let env = old.environment in
     let at : IsAt source name k (fs ++ []) env old = record { source_is = refl; name_is = refl; control_is = is_k; frames_are = sym (append-nil fs); environment_is = refl } in
-    let at' : IsAt source name k' (fs ++ []) env new = record {
-      source_is = ap (λ p. source_of p.now) b.program;
-      name_is = ap (λ o. o.name) b.own;
-      control_is = b.control_is;
-      frames_are = b.frames_are ∙ sym (append-nil fs);
-      environment_is = b.environment_is;
-    } in
+    let at' : IsAt source name k' (fs ++ []) env new = assumption (ap (λ p. source_of p.now) b.program, ap (λ o. o.name) b.own, b.frames_are ∙ sym (append-nil fs)) in
     let end = same_end 0 0 (At p ∷ []) Any itself source name k k' fs [] [] env env old new at at' (left (fs ++ [])) (left' (fs ++ [])) (λ h. (keep, tt)) outlook in
     record {
       program = b.program;
@@ -81,15 +60,7 @@ answers_free old new lock value is b =
 
 -- the view that callers have of the answered thread
 pub answered_thread : (p : Pending) (old new : Strand) → Goes 0 (At p ∷ []) old new → SameThread (suspended old) (suspended new)
-answered_thread p old new g = record {
-  program = ap (λ p. p.now) g.program;
-  name = ap (λ o. o.name) g.own;
-  label = ap (λ o. o.label) g.own;
-  forks = g.forks;
-  unjoined = g.unjoined;
-  here = g.here;
-  below = g.below;
-}
+answered_thread p old new g = assumption (ap (λ p. p.now) g.program, ap (λ o. o.name) g.own, ap (λ o. o.label) g.own)
 
 -- The other threads wait for it as before.
 await_same : (a b : Suspended) (parents : List Suspended) → b.program ≡ a.program → b.name ≡ a.name → b.label ≡ a.label → Await a parents → Await b parents
@@ -154,28 +125,10 @@ kept_answered old new placed p kept none l g =
 -- only the next action has changed
 pub turns_top : (old new : State) (k : Control) → Turns old new k → old.level.start ≤ length old.frames.items → LeavesOthers old new × Becomes (top old) (top new) (top old).environment (top old).frames k
 turns_top old new k c le =
-    let same : Changes old new old.environment.items (old.frames.items ++ []) k = record {
-      program = c.program;
-      own = c.own;
-      lines = c.lines;
-      sums = c.sums;
-      parents = c.parents;
-      level = c.level;
-      environment_is = c.environment_is;
-      frames_are = c.frames_are ∙ sym (append-nil old.frames.items);
-      control_is = c.control_is;
-    } in
+    let same : Changes old new old.environment.items (old.frames.items ++ []) k = assumption (c.frames_are ∙ sym (append-nil old.frames.items)) in
     let b = top_becomes old new old.environment.items [] k same le in (
       changes_leave old new old.environment.items [] k same le,
-      record {
-        program = b.program;
-        own = b.own;
-        below = b.below;
-        forks = b.forks;
-        environment_is = b.environment_is;
-        frames_are = b.frames_are ∙ append-nil (top old).frames;
-        control_is = b.control_is;
-      },
+      assumption (b.frames_are ∙ append-nil (top old).frames),
     )
 
 -- the facts after a pause was answered
@@ -200,15 +153,7 @@ fork_taken old new (Halved right) is e b = (
   ap pending_of b.control_is,
   ap (λ x. lock_freed x ++ releases new.frames) b.control_is ∙ ap releases b.frames_are ∙ ap (λ x. lock_freed x ++ releases old.frames) (sym is),
 )
-fork_taken old new (Begin expr) is e b = cc
-fork_taken old new (Give value) is e b = cc
-fork_taken old new (Cover stretch) is e b = cc
-fork_taken old new (Awaits number during next) is e b = cc
-fork_taken old new (AwaitsHalf number right reduction) is e b = cc
-fork_taken old new (Asks lock body) is e b = cc
-fork_taken old new (Frees lock value) is e b = cc
-fork_taken old new (Tallies ledger amount body) is e b = cc
-fork_taken old new (Ended value) is e b = cc
+fork_taken old new _ is e b = cc
 
 pub fork_past : (old new : State) (placed : List (Box State)) → IsKept old placed → pending_of old.control ≡ Some pause.Forks → Turns old new (after_fork old.control) →
     IsPast old new placed × (locks_of (top new) ≡ locks_of (top old))

@@ -1,32 +1,18 @@
 -- A child is handed back to run in its parent's place.
-use Rattle.std.proofs.Common.{◌≡◌, ◌+◌, List, [], ◌∷◌, ◌++◌, None, Some, Option, refl, ap, sym, ◌∙◌, subst, arith}
-use Rattle.std.specs.Prelude.{map, reverse, All}
-use Rattle.std.specs.Global.{Box}
-use Rattle.std.proofs.lemmas.List.{map-append, reverse-append}
-use Rattle.std.proofs.lemmas.List.Elements.{All-append}
-use Rattle.arachne_program.specs.Tree.{Source}
-use Rattle.arachne_program.specs.Program.{source_of}
-use Rattle.arachne_machine.specs.declared.line.Label.{Label}
-use Rattle.arachne_machine.specs.declared.line.ThreadLine.{ThreadLine}
-use Rattle.arachne_machine.specs.declared.pause.Pending.{Pending}
-use Rattle.arachne_machine.specs.declared.pause.Pending.TheVariants as pause
-use Rattle.arachne_machine.specs.declared.state.State.{State}
-use Rattle.arachne_machine.specs.Ending.{work_left}
-use Rattle.arachne_machine.specs.Strands.{below_at, owned_at, own_line}
-use Rattle.arachne_machine.specs.Steps.{Turns, pending_of, suspended, top, waiting_in}
-use Rattle.arachne_machine.specs.Sound.{AreSound, IsSoundState, RunFor}
-use Rattle.arachne_machine.specs.Runs.{LooksSame, TakesIn, after_fork, last_of, work_in_state}
-use Rattle.arachne_machine.specs.Suspended.{awaited, own_line_of}
+use Rattle.std.proofs.Common.{◌≡◌, ◌+◌, List, [], ◌∷◌, ◌++◌, None, Some, Option, refl, ap, sym, ◌∙◌, subst, arith, map, reverse, All}
+use Rattle.std.{specs.Global.Box, proofs.lemmas.List.{map-append, reverse-append, Elements.All-append}}
+use Rattle.arachne_program.specs.{Tree.Source, Program.source_of}
 use Rattle.arachne_machine.specs.Nested.{ArePlaced, IsPlaced, IsPlacing, MayBePlaced, Placed, PlacesAtFork, SameWhole, begun_in, placed_of, whole, work_in, works_placed}
-use Rattle.arachne_machine.specs.Kept.{IsKept, IsReturned, IsTakenBack, nested, seen_child, seen_children}
-use Rattle.arachne_machine.proofs.Levels.{alone_waiting}
-use Rattle.arachne_machine.proofs.Nesting.{label_seen, program_seen, same_whole, whole_seen, works_seen}
-use Rattle.arachne_machine.proofs.Answering.{fork_past, going}
-use Rattle.arachne_machine.proofs.Copies.{IsCopy, copy_seen, copy_sound, copy_work, here_sound, relabelled}
-use Rattle.arachne_machine.proofs.Marking.{here_state, marks}
-use Rattle.arachne_machine.proofs.Taking.{taken}
-use Rattle.arachne_machine.proofs.Lasting.{same_kept, same_seen}
 use Rattle.arachne_machine.proofs.Handed.{all_one, kept_sound, looks_nested, looks_sound, newest_seen, work_seen}
+use Rattle.arachne_machine.proofs.Copies.{IsCopy, copy_seen, copy_sound, copy_work, here_sound, relabelled}
+use Rattle.arachne_machine.specs.Kept.{IsKept, IsReturned, IsTakenBack, nested, seen_child, seen_children}
+use Rattle.arachne_machine.proofs.{Nesting.{label_seen, program_seen, same_whole, works_seen}, Taking.taken}
+use Rattle.arachne_machine.specs.{Steps.{Turns, pending_of, suspended, top, waiting_in}, declared.pause.Pending.Pending}
+use Rattle.arachne_machine.specs.{Runs.{LooksSame, TakesIn, after_fork, work_in_state}, declared.state.State.State}
+use Rattle.arachne_machine.{specs.Sound.{AreSound, IsSoundState, RunFor}, proofs.Lasting.{same_kept, same_seen}}
+use Rattle.arachne_machine.proofs.{Answering.{fork_past, going}, Marking.{here_state, marks}, Levels.alone_waiting}
+use Rattle.arachne_machine.specs.{declared.line.Label.Label, Suspended.awaited, Ending.work_left, Strands.owned_at}
+use Rattle.arachne_machine.specs.declared.pause.Pending.TheVariants as pause
 
 -- A thread by itself has got another label.
 pub record Relabelled (t u : State) (label : Label) : Type 0 where
@@ -64,18 +50,6 @@ label_given t label s none =
       seen = copy_seen (relabelled label (top t)) (top u) copy;
       work = copy_work (relabelled label (top t)) (top u) copy;
     }
-
--- The view that callers have of a thread by itself.
-pub alone_seen : (t : State) (ps : List (Box State)) → t.parents.items ≡ [] → whole (nested t ps) ≡ suspended (top t)
-alone_seen t ps none = whole_seen t ps ∙ ap (λ ts. suspended (last_of (top t) ts)) (alone_waiting t none)
-
--- the lines of such a thread
-pub lines_alone : (t : State) → t.parents.items ≡ [] → ◌≡◌ {A = List ThreadLine} (own_line_of (suspended (top t)) ∷ (top t).below) (own_line t.own ∷ t.lines)
-lines_alone t none =
-    ap (λ ps.
-    let own = owned_at t.own (reverse ps) t.lines t.level.place in
-    let line : ThreadLine = record { name = own.name; tag = own.label.tag; holds = own.holds; ran = own.label.ran } in
-    line ∷ below_at (reverse ps) t.lines t.level.place) none
 
 pub source_seen : (t child : State) (ps cps : List (Box State)) → MayBePlaced (nested t ps) (nested child cps) → source_of child.program.now ≡ source_of t.program.now
 source_seen t child ps cps may = ap source_of (sym (program_seen child cps)) ∙ may.same_source ∙ ap source_of (program_seen t ps)

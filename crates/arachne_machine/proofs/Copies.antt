@@ -1,24 +1,13 @@
 -- Threads that differ only in their label, or in the program, of which they have equal texts.
-use Rattle.std.proofs.Common.{◌≡◌, length, ℕ, List, [], ◌∷◌, ◌++◌, refl, ap, sym, ◌∙◌, arith}
-use Rattle.std.specs.Prelude.{map}
-use Rattle.arachne_program.specs.Program.{source_of}
-use Rattle.arachne_program.specs.Tree.{Source}
-use Rattle.arachne_program.specs.Value.{Environment}
-use Rattle.arachne_machine.specs.declared.frame.Frame.{Frame}
-use Rattle.arachne_machine.specs.declared.frame.Control.{Control}
-use Rattle.arachne_machine.specs.declared.line.Label.{Label}
+use Rattle.std.proofs.Common.{◌≡◌, length, ℕ, List, [], ◌∷◌, ◌++◌, refl, ap, sym, ◌∙◌, arith, map}
+use Rattle.arachne_program.specs.{Program.source_of, Tree.Source, Value.Environment}
+use Rattle.arachne_machine.proofs.Outlooks.{IsAt, account_at, at_faultless, ending_at, faultless_at, keeps_there, there_keeps, work_at}
+use Rattle.arachne_machine.{proofs.Soundness.sound_same, specs.{Account.Account, Outcome.named_holds, Sound.IsSound}}
+use Rattle.arachne_machine.specs.Ending.{begun_trace, resume_trace, forks_of, forks_here, lock_freed, releases, begun, ending, fork_awaited, frames_left, trace_left, work_left}
+use Rattle.arachne_machine.specs.{Steps.{pending_of, suspended}, Strands.Strand, Suspended.Suspended, Trace.{At, Event}}
+use Rattle.arachne_machine.specs.declared.{frame.{Control.Control, Frame.Frame}, line.Label.Label}
 use Rattle.arachne_machine.specs.declared.line.Ran.TheVariants as ways
 use Rattle.arachne_machine.specs.declared.pause.Pending.TheVariants as pause
-use Rattle.arachne_machine.specs.Account.{Account}
-use Rattle.arachne_machine.specs.Trace.{At, Event}
-use Rattle.arachne_machine.specs.Ending.{begun_trace, resume_trace, forks_of, forks_here, lock_freed, releases, begun, ending, fork_awaited, frames_left, trace_left, work_left}
-use Rattle.arachne_machine.specs.Outcome.{named_holds}
-use Rattle.arachne_machine.specs.Strands.{Strand}
-use Rattle.arachne_machine.specs.Steps.{pending_of, suspended}
-use Rattle.arachne_machine.specs.Sound.{IsSound}
-use Rattle.arachne_machine.specs.Suspended.{Suspended}
-use Rattle.arachne_machine.proofs.Outlooks.{IsAt, account_at, at_faultless, ending_at, faultless_at, keeps_there, there_keeps, work_at}
-use Rattle.arachne_machine.proofs.Soundness.{sound_same}
 
 -- with another label
 abbrev pub relabelled : Label → Strand → Strand

@@ -1,37 +1,19 @@
 -- The answers that count a hold or an amount.
-use Rattle.std.proofs.Common.{◌≡◌, length, ℕ, ◌+◌, List, [], ◌∷◌, None, Some, refl, ap, sym, ◌∙◌, subst, arith, take, drop}
-use Rattle.std.specs.Prelude.{◌==◌, if◌then◌else◌, map, reverse}
-use Rattle.std.specs.Borrow.{Bor}
-use Rattle.std.specs.Global.{Box}
-use Rattle.std.proofs.lemmas.List.{drop-set-lt, get_or-set_same, length-set, take-set}
-use Rattle.arachne_program.specs.declared.program.Expr.{Expr}
-use Rattle.arachne_program.specs.declared.program.Program.{Program}
-use Rattle.arachne_program.specs.Program.{source_of}
-use Rattle.arachne_program.specs.Value.{Environment}
+use Rattle.std.proofs.Common.{◌≡◌, length, ℕ, ◌+◌, List, [], ◌∷◌, None, Some, refl, ap, sym, ◌∙◌, subst, arith, take, drop, ◌==◌, if◌then◌else◌, map, reverse}
+use Rattle.std.{specs.{Borrow.Bor, Global.Box}, proofs.lemmas.List.{drop-set-lt, get_or-set_same, length-set, take-set}}
+use Rattle.arachne_program.specs.{declared.program.{Expr.Expr, Program.Program}, Program.source_of, Value.Environment}
 use Rattle.arachne_program.specs.Effects.{Effects, held, tallied, tabulated}
-use Rattle.arachne_machine.specs.declared.frame.Frame.{Frame}
-use Rattle.arachne_machine.specs.declared.frame.Control.TheVariants.{Begin, Asks, Tallies}
-use Rattle.arachne_machine.specs.declared.level.Parent.{Parent}
-use Rattle.arachne_machine.specs.declared.line.ThreadLine.{ThreadLine}
-use Rattle.arachne_machine.specs.declared.pause.Pending.{Pending}
-use Rattle.arachne_machine.specs.declared.pause.Pending.TheVariants as pause
-use Rattle.arachne_machine.specs.declared.state.Own.{Own}
-use Rattle.arachne_machine.specs.declared.state.State.{State}
-use Rattle.arachne_machine.specs.Account.{after}
-use Rattle.arachne_machine.specs.Ending.{ending, locks_of}
-use Rattle.arachne_machine.specs.Strands.{Strand, Fits, below_at, line_at, owned_at, strand_at}
+use Rattle.arachne_machine.specs.declared.frame.{Frame.Frame, Control.TheVariants.{Begin, Asks, Tallies}}
+use Rattle.arachne_machine.specs.declared.{level.Parent.Parent, line.ThreadLine.ThreadLine, pause.Pending.Pending}
+use Rattle.arachne_machine.specs.{declared.state.{Own.Own, State.State}, Account.after, Ending.{ending, locks_of}}
+use Rattle.arachne_machine.specs.{Strands.{Strand, Fits, below_at, line_at, owned_at, strand_at}, Kept.{IsKept, nested}}
 use Rattle.arachne_machine.specs.Steps.{Counts, IsLineOf, pending_of, suspended, top, waiting, waiting_in}
-use Rattle.arachne_machine.specs.Sound.{AreSound, RunFor}
-use Rattle.arachne_machine.specs.Runs.{CountsHold, CountsTally, IsCountedIn}
-use Rattle.arachne_machine.specs.Suspended.{IsAnswered, SameThread}
-use Rattle.arachne_machine.specs.Nested.{IsNested, SameWhole, work_in, works}
-use Rattle.arachne_machine.specs.Kept.{IsKept, nested}
-use Rattle.arachne_machine.proofs.Tabulated.{tabulated-same}
-use Rattle.arachne_machine.proofs.Soundness.{after-sums, counted_seen, sound_counts}
-use Rattle.arachne_machine.proofs.Joining.{LeavesRest, counts_hold, counts_tally}
-use Rattle.arachne_machine.proofs.Nesting.{label_seen, name_seen, program_seen}
-use Rattle.arachne_machine.proofs.Answering.{going, nested_same}
-use Rattle.arachne_machine.proofs.Going.{line_in}
+use Rattle.arachne_machine.specs.{Sound.{AreSound, RunFor}, Runs.{CountsHold, CountsTally, IsCountedIn}}
+use Rattle.arachne_machine.specs.{Suspended.{IsAnswered, SameThread}, Nested.{IsNested, SameWhole, work_in, works}}
+use Rattle.arachne_machine.proofs.{Tabulated.tabulated-same, Soundness.{after-sums, counted_seen, sound_counts}}
+use Rattle.arachne_machine.proofs.{Joining.{LeavesRest, counts_hold, counts_tally}, Answering.{going, nested_same}}
+use Rattle.arachne_machine.proofs.{Nesting.{label_seen, name_seen, program_seen}, Going.line_in}
+use Rattle.arachne_machine.specs.declared.pause.Pending.TheVariants as pause
 
 -- The state, and the view that callers have of it, after an answer has counted a hold or an amount.
 pub record Counted (old new : State) (placed : List (Box State)) : Type 0 where
@@ -158,15 +140,7 @@ with_body old counted new body is h = record {
 -- the innermost thread after such an answer
 top_rest : (old new : State) → KeepsRest old new → (top new).own.name ≡ (top old).own.name → (top new).own.label ≡ (top old).own.label → (top new).below ≡ (top old).below →
     LeavesRest (top old) (top new)
-top_rest old new h name label below = record {
-  program = h.program;
-  name = name;
-  label = label;
-  below = below;
-  forks = ap (λ x. x.forks) h.level;
-  frames = ap (λ x. drop x.start new.frames.items) h.level ∙ ap (drop old.level.start) h.frames;
-  environment = h.environment;
-}
+top_rest old new h name label below = assumption (ap (λ x. x.forks) h.level, ap (λ x. drop x.start new.frames.items) h.level ∙ ap (drop old.level.start) h.frames)
 
 -- the lines below the innermost
 below_rest : (old new : State) (lines : List ThreadLine) → KeepsRest old new → new.lines ≡ lines → (top new).below ≡ below_at (reverse old.parents.items) lines old.level.place

@@ -1,43 +1,29 @@
 -- A thread without fault stays without fault.
-use Rattle.std.proofs.Common.{◌≡◌, ◌≤◌, ◌<◌, ℕ, ◌+◌, Bool, true, false, List, [], ◌∷◌, ◌++◌, length, Option, None, Some, Ok, Err, Result, refl, ap, sym, subst, arith, rules, length-append}
-use Rattle.std.specs.Prelude.{nat_lt, if◌then◌else◌}
+use Rattle.std.proofs.Common.{◌≡◌, ◌≤◌, ◌<◌, ℕ, ◌+◌, Bool, true, false, List, [], ◌∷◌, ◌++◌, length, Option, None, Some, Ok, Err, refl, ap, sym, subst, arith, rules, length-append, nat_lt, if◌then◌else◌}
 use Rattle.std.proofs.lemmas.List.{nil_from_length}
-use Rattle.arachne_program.specs.Tree.{Source}
-use Rattle.arachne_program.specs.Program.{source_of}
-use Rattle.arachne_program.specs.Nesting.{nesting}
+use Rattle.arachne_program.specs.{Tree.Source, Program.source_of, Nesting.nesting}
 use Rattle.arachne_program.specs.Checked.{NodeFault, node_faults, unless, or_else, first_fault, is_within_limits, IsChecked}
-use Rattle.arachne_program.specs.declared.check_fault.CheckFault.{CheckFault}
 use Rattle.arachne_program.specs.declared.check_fault.CheckFault.TheVariants as fault
-use Rattle.arachne_machine.specs.declared.frame.Frame.{Frame}
-use Rattle.arachne_machine.specs.declared.frame.Frame.TheVariants.{Release}
-use Rattle.arachne_machine.specs.declared.frame.Control.{Control}
-use Rattle.arachne_machine.specs.declared.frame.Control.TheVariants.{Begin, Give, Cover, Forked, Halved, Awaits, AwaitsHalf, Asks, Frees, Tallies, Ended}
-use Rattle.arachne_machine.specs.Strands.{Strand}
-use Rattle.arachne_machine.specs.Ending.{releases, lock_of, lock_freed}
-use Rattle.arachne_machine.specs.Steps.{pending_of, suspended}
+use Rattle.arachne_machine.specs.declared.frame.{Frame.{Frame, TheVariants.Release}, Control.Control}
+use Rattle.arachne_machine.specs.declared.frame.Control.TheVariants.{Forked, Halved, Awaits, AwaitsHalf, Asks, Frees, Tallies}
+use Rattle.arachne_machine.specs.{Strands.Strand, Ending.{releases, lock_of, lock_freed}, Steps.{pending_of, suspended}}
 use Rattle.arachne_machine.specs.Faultless.{NoFaults, IsFaultless, IsFaultlessFrame, IsFaultlessNext, held_over, held_by, AreFaultless, GoesWithoutFault, IsWithoutFault, NamesWhatIsThere, PausesWithin}
 
 pub no_faults-append : (xs ys : List (Option NodeFault)) → NoFaults (xs ++ ys) → NoFaults xs × NoFaults ys
 no_faults-append [] ys h = (tt, h)
 no_faults-append (x ∷ xs) ys (one, more) = let both = no_faults-append xs ys more in ((one, both.0), both.1)
 
-some_fault : (f : NodeFault) → ◌≡◌ {A = Option NodeFault} (Some f) None → ⊥
-some_fault f h = cc
-
-refused : (e : CheckFault) → ◌≡◌ {A = Result (Unit {0}) CheckFault} (Err e) (Ok tt) → ⊥
-refused e h = cc
-
 none_first : (n : ℕ) (nodes : List (Option NodeFault)) → first_fault n nodes ≡ Ok tt → NoFaults nodes
 none_first n [] h = tt
 none_first n (None ∷ nodes) h = (refl, none_first (n + 1) nodes h)
-none_first n (Some f ∷ nodes) h = absurd (refused (f n) h)
+none_first n (Some f ∷ nodes) h = cc
 
 none_judged : (source : Source) (deep within : Bool) →
     (if deep then Err fault.Nesting else if within then first_fault 0 (node_faults source false 0 source.root) else Err fault.OverLimit) ≡ Ok tt →
     NoFaults (node_faults source false 0 source.root)
-none_judged source true within h = absurd (refused fault.Nesting h)
+none_judged source true within h = cc
 none_judged source false true h = none_first 0 (node_faults source false 0 source.root) h
-none_judged source false false h = absurd (refused fault.OverLimit h)
+none_judged source false false h = cc
 
 -- the expression of a checked program has no fault
 pub checked_root : (source : Source) → IsChecked source → IsFaultless source false source.root
@@ -46,14 +32,14 @@ checked_root source h = (0, none_judged source (nat_lt 64 (nesting source.root))
 -- the test is true if it gives no fault
 pub unless_none : (holds : Bool) (f : NodeFault) → unless holds f ≡ None → holds ≡ true
 unless_none true f h = refl
-unless_none false f h = absurd (some_fault f h)
+unless_none false f h = cc
 
 pub within_none : (held : Bool) (f : NodeFault) → (if held then Some f else None) ≡ None → held ≡ false
-within_none true f h = absurd (some_fault f h)
+within_none true f h = cc
 within_none false f h = refl
 
 pub or_else_none : (held : Bool) (f : NodeFault) (other : Option NodeFault) → or_else (if held then Some f else None) other ≡ None → (held ≡ false) × (other ≡ None)
-or_else_none true f other h = absurd (some_fault f h)
+or_else_none true f other h = cc
 or_else_none false f other h = (refl, h)
 
 pub less : (x y : ℕ) → nat_lt x y ≡ true → x < y
@@ -105,14 +91,7 @@ no_locks l h = nil_from_length l (omega (arith, h))
 none_held : (held : Bool) → held ≡ false → room held ≡ 1
 none_held held h = ap room h
 
-at_most_one : (held : Bool) → room held ≤ 1
-at_most_one true = omega arith
-at_most_one false = omega arith
-
 names : (source : Source) (fs : List Frame) (k : Control) → GoesWithoutFault source false fs k → NamesWhatIsThere source (lock_freed k ++ releases fs) (pending_of k)
-names source fs (Begin expr) (frames, next) = tt
-names source fs (Give value) (frames, next) = tt
-names source fs (Cover stretch) (frames, next) = tt
 names source fs (Forked expr) (frames, next) = no_locks (releases fs) (omega (arith, released source false fs frames, none_held (held_by false fs) next.0))
 names source fs (Halved stretch) (frames, next) = no_locks (releases fs) (omega (arith, released source false fs frames, none_held (held_by false fs) next.0))
 names source fs (Awaits number during after) (frames, next) = no_locks (releases fs) (omega (arith, released source false fs frames, none_held (held_by false fs) next.0))
@@ -120,7 +99,7 @@ names source fs (AwaitsHalf number right reduction) (frames, next) = no_locks (r
 names source fs (Asks lock body) (frames, next) = next.0
 names source fs (Frees lock value) (frames, next) = next.1
 names source fs (Tallies ledger amount body) (frames, next) = next.0
-names source fs (Ended value) (frames, next) = tt
+names source fs _ (frames, next) = tt
 
 one_lock : (source : Source) (fs : List Frame) (k : Control) → GoesWithoutFault source false fs k → length (lock_freed k ++ releases fs) ≤ 1
 one_lock source fs (Frees lock value) (frames, next) = omega (arith, released source false fs frames, none_held (held_by false fs) next.0)

@@ -1,14 +1,10 @@
 -- Laws of the frames: the newest is the last.
-use Rattle.std.proofs.Common.{◌≡◌, ◌≤◌, length-append, ℕ, zero, suc, ◌+◌, List, [], ◌∷◌, ◌++◌, length, refl, ap, sym, ◌∙◌, arith, append_assoc}
-use Rattle.std.proofs.lemmas.List.{append-nil}
-use Rattle.arachne_program.specs.Tree.{Source}
-use Rattle.arachne_program.specs.Effects.{Child, Effects, effects_of}
-use Rattle.arachne_machine.specs.declared.frame.Frame.{Frame}
-use Rattle.arachne_machine.specs.declared.frame.Frame.TheVariants.{Index, Right, Apply, Branch, Extend, Amount, Release, Join, Merge, JoinHere, MergeHere, FoldTo, FoldFirst, FoldStart, FoldTurn, SweepTo, SweepStart, SweepTurn, Restore}
+use Rattle.std.proofs.Common.{◌≡◌, ◌≤◌, length-append, ℕ, zero, suc, ◌+◌, List, [], ◌∷◌, ◌++◌, length, refl, ap, sym, ◌∙◌, arith, append_assoc, append-nil}
+use Rattle.arachne_program.specs.{Tree.Source, Effects.{Child, Effects, effects_of}, Program.tree_of}
 use Rattle.arachne_machine.specs.Account.{Account, after, with_join}
 use Rattle.arachne_machine.specs.Ending.{Status, unwind, accounted, account_joined, frame_work, frame_trace, resume, resume_account, resume_work, resume_trace, fork_of, forks_of, fork_here, forks_here, lock_of, releases}
-use Rattle.arachne_program.specs.Program.{tree_of}
-use Rattle.arachne_machine.specs.Trace.{Event, with_steps}
+use Rattle.arachne_machine.specs.{Trace.{Event, with_steps}, declared.frame.Frame.Frame}
+use Rattle.arachne_machine.specs.declared.frame.Frame.TheVariants.{Index, Apply, Amount, Release, Join, Merge, JoinHere, MergeHere, FoldTo, FoldFirst, SweepTo, Restore}
 
 pub resume-append : (source : Source) (name : List ℕ) (fs gs : List Frame) (s : Status) →
     resume source name (fs ++ gs) s ≡ resume source name fs (resume source name gs s)
@@ -88,10 +84,7 @@ grows_joined source name number a = grows_none a.children
 
 Grows-frame : (source : Source) (name : List ℕ) (f : Frame) (s : Status) (a : Account) → Grows a.children (accounted source name f s a).children
 Grows-frame source name (Index array) s a = grows_none a.children
-Grows-frame source name (Right operation right) s a = grows_after name _ a
 Grows-frame source name (Apply operation left) s a = grows_none a.children
-Grows-frame source name (Branch first second) s a = grows_after name _ a
-Grows-frame source name (Extend body) s a = grows_after name _ a
 Grows-frame source name (Amount ledger body) s a = grows_twice name _ _ a
 Grows-frame source name (Release lock) s a = grows_none a.children
 Grows-frame source name (Join number next) s a =
@@ -106,12 +99,9 @@ Grows-frame source name (FoldTo to first body) s a =
     let once = after name (effects_of source.arrays source.locks (tree_of to.now) s.env) a in
     grows_on a.children once.children (accounted source name (FoldTo to first body) s a).children (grows_after name _ a) (grows_twice name _ _ once)
 Grows-frame source name (FoldFirst from first body) s a = grows_twice name _ _ a
-Grows-frame source name (FoldStart from to body) s a = grows_after name _ a
-Grows-frame source name (FoldTurn next end body) s a = grows_after name _ a
 Grows-frame source name (SweepTo reduction grain to body) s a = grows_twice name _ _ a
-Grows-frame source name (SweepStart reduction grain from body) s a = grows_after name _ a
-Grows-frame source name (SweepTurn reduction next end so_far body) s a = grows_after name _ a
 Grows-frame source name (Restore n) s a = grows_none a.children
+Grows-frame source name _ s a = grows_after name _ a
 
 pub Grows-frames : (source : Source) (name : List ℕ) (frames : List Frame) (s : Status) (a : Account) →
     Grows a.children (resume_account source name frames s a).children

@@ -1,77 +1,37 @@
 -- The changes that the steps of one thread make to its state.
-use Rattle.std.proofs.Common.{◌≡◌, ◌≤◌, ◌<◌, ℕ, ◌+◌, ◌^◌, List, [], ◌∷◌, ◌++◌, length, length-append, None, Some, inl, inr, refl, ap, sym, subst, ◌∙◌, arith, take, drop}
-use Rattle.std.specs.Prelude.{false, reverse}
-use Rattle.std.specs.Borrow.{Bor}
-use Rattle.std.specs.Global.{Box}
-use Rattle.std.proofs.lemmas.Bool.{cases_lt}
-use Rattle.std.proofs.lemmas.List.{append-nil, drop-append-le, take-append-drop, take-append-le}
-use Rattle.std.proofs.Math.Seq.{drop-length}
-use Rattle.arachne_program.specs.declared.program.Class.{Class}
-use Rattle.arachne_program.specs.declared.program.Expr.{Expr}
-use Rattle.arachne_program.specs.declared.program.Reduction.{Reduction}
-use Rattle.arachne_program.specs.Program.{source_of, tree_of}
-use Rattle.arachne_program.specs.Value.{apply, operation_of}
-use Rattle.arachne_program.specs.Effects.{Child, Evaluate, tabulated}
-use Rattle.arachne_program.specs.Meaning.{task_of}
-use Rattle.arachne_program.specs.Checked.{IsChecked}
-use Rattle.arachne_program.specs.Value.{Environment}
-use Rattle.arachne_program.specs.declared.program.Program.{Program}
-use Rattle.arachne_machine.specs.Faultless.{IsFaultlessNext}
-use Rattle.arachne_machine.specs.declared.frame.Stretch.{Stretch}
-use Rattle.arachne_machine.specs.declared.frame.Frame.{Frame}
-use Rattle.arachne_machine.specs.declared.frame.Frame.TheVariants.{JoinHere, MergeHere}
-use Rattle.arachne_machine.specs.declared.frame.Control.{Control}
+use Rattle.std.proofs.Common.{◌≡◌, ◌≤◌, ◌<◌, ℕ, ◌+◌, ◌^◌, List, [], ◌∷◌, ◌++◌, length, length-append, None, Some, inl, inr, refl, ap, sym, subst, ◌∙◌, arith, take, drop, false, reverse, append-nil}
+use Rattle.std.{specs.{Borrow.Bor, Global.Box}, proofs.lemmas.Bool.cases_lt}
+use Rattle.std.proofs.{lemmas.List.{drop-append-le, take-append-drop, take-append-le}, Math.Seq.drop-length}
+use Rattle.arachne_program.specs.declared.program.{Class.Class, Expr.Expr, Reduction.Reduction, Program.Program}
+use Rattle.arachne_program.specs.{Program.{source_of, tree_of}, Value.{apply, operation_of, Environment}}
+use Rattle.arachne_program.specs.{Effects.{Child, Evaluate, tabulated}, Meaning.task_of, Checked.IsChecked}
+use Rattle.arachne_machine.specs.{Faultless.IsFaultlessNext, declared.frame.{Stretch.Stretch, Frame.Frame}}
+use Rattle.arachne_machine.specs.declared.frame.{Frame.TheVariants.{JoinHere, MergeHere}, Control.Control}
 use Rattle.arachne_machine.specs.declared.frame.Control.TheVariants.{Begin, Give, Cover, Awaits, AwaitsHalf, Ended}
-use Rattle.arachne_machine.specs.declared.pause.Pending.{Pending}
-use Rattle.arachne_machine.specs.declared.pause.Pending.TheVariants as pause
-use Rattle.arachne_machine.specs.declared.state.State.{State}
-use Rattle.arachne_machine.specs.declared.state.Progress.{Progress}
-use Rattle.arachne_machine.specs.declared.state.Progress.TheVariants as part
-use Rattle.arachne_machine.specs.Account.{untouched}
-use Rattle.arachne_machine.specs.declared.level.Parent.{Parent}
-use Rattle.arachne_machine.specs.declared.state.Own.{Own}
-use Rattle.arachne_machine.specs.Work.{work_of, task_work}
+use Rattle.arachne_machine.specs.declared.{pause.Pending.Pending, state.{State.State, Progress.Progress, Own.Own}}
+use Rattle.arachne_machine.specs.{Account.untouched, declared.level.Parent.Parent, Work.{work_of, task_work}}
 use Rattle.arachne_machine.specs.Ending.{stretch_task, unjoined_of, fork_awaited, fork_here, forks_here, forks_of}
-use Rattle.arachne_machine.specs.Strands.{Owned, Strand, Fits, owned_at, below_at}
+use Rattle.arachne_machine.specs.{Strands.{Owned, Strand, Fits, owned_at, below_at}, Kept.{IsSoundChild, nested}}
 use Rattle.arachne_machine.specs.Sound.{AreSound, IsSound, IsSoundState, RunFor}
 use Rattle.arachne_machine.specs.Steps.{AfterSteps, IsRenewed, HasRoom, OnStops, IsNotEnd, IsLeftOver, IsNew, PlacesChild, Becomes, Changes, CountsFork, GivesChild, HasLine, IsLineOf, IsPopped, IsSame, IsSpawned, Pushes, LeavesOthers, Makes, PushesFork, Reaches, SpawnsChild, TurnsFold, TurnsSweep, Turns, giving, beginning, pending_of, task_begun, top, untagged, HasNotBegun, IsBeginning}
 use Rattle.arachne_machine.specs.Runs.{IsByItself, last_of, outermost_in, BeginsHere, Comes, JoinsHere, ResumesParent, FoldsOn, IsPoppedIn, Runs, RunsOn, SweepsOn, beginning_in, giving_in, seen_in}
-use Rattle.arachne_machine.proofs.Frames.{forks_here-append, length-forks_of}
+use Rattle.arachne_machine.proofs.{Frames.{forks_here-append, length-forks_of}, Outlooks.as_it_is, Handings.ends}
 use Rattle.arachne_machine.proofs.Levels.{alone_waiting, awaiting_in, below_few, changes_leave, outer_start, runs_begins, runs_join_begins, runs_join_half, runs_on, runs_places, runs_top, some_parent, top_becomes}
-use Rattle.arachne_machine.specs.Kept.{IsSoundChild, nested}
 use Rattle.arachne_machine.proofs.Here.{awaits_half, awaits_join, half_free, half_task, join_free, join_task}
-use Rattle.arachne_machine.proofs.Handings.{ends}
-use Rattle.arachne_machine.proofs.Outlooks.{as_it_is}
 use Rattle.arachne_machine.proofs.Soundness.{sound_new, goes_nowhere, locks_unchanged, sound_child}
 use Rattle.arachne_machine.proofs.Renewing.{begins_new, begins_task, begins_faultless}
+use Rattle.arachne_machine.specs.declared.pause.Pending.TheVariants as pause
+use Rattle.arachne_machine.specs.declared.state.Progress.TheVariants as part
 
 -- a change that takes off no frame
 as_pushed : (old new : State) (env : List ℕ) (k : Control) → Changes old new env old.frames.items k → Changes old new env (old.frames.items ++ []) k
-as_pushed old new env k c = record {
-  program = c.program;
-  own = c.own;
-  lines = c.lines;
-  sums = c.sums;
-  parents = c.parents;
-  level = c.level;
-  environment_is = c.environment_is;
-  frames_are = c.frames_are ∙ sym (append-nil old.frames.items);
-  control_is = c.control_is;
-}
+as_pushed old new env k c = assumption (c.frames_are ∙ sym (append-nil old.frames.items))
 
 -- the change in the innermost thread if the frames are unchanged
 pub top_same : (old new : State) (env : List ℕ) (k : Control) → Changes old new env old.frames.items k → old.level.start ≤ length old.frames.items → Becomes (top old) (top new) env (top old).frames k
 top_same old new env k c le =
     let b = top_becomes old new env [] k (as_pushed old new env k c) le in
-    record {
-      program = b.program;
-      own = b.own;
-      below = b.below;
-      forks = b.forks;
-      environment_is = b.environment_is;
-      frames_are = b.frames_are ∙ append-nil (top old).frames;
-      control_is = b.control_is;
-    }
+    assumption (b.frames_are ∙ append-nil (top old).frames)
 
 pub leaves_same : (old new : State) (env : List ℕ) (k : Control) → Changes old new env old.frames.items k → old.level.start ≤ length old.frames.items → LeavesOthers old new
 leaves_same old new env k c le = changes_leave old new env [] k (as_pushed old new env k c) le
@@ -81,18 +41,12 @@ start_same old new env k c le = omega (arith, le, ap (λ x. x.start) c.level, ap
 
 -- only the innermost thread's next action has changed
 pub leaves_seen : (old new : State) (p : Progress) → LeavesOthers old (seen_in p new) → LeavesOthers old new
-leaves_seen old new (part.Value value) l = record { program = l.program; own = l.own; lines = l.lines; sums = l.sums; parents = l.parents; start = l.start; place = l.place; frames = l.frames; more = l.more }
-leaves_seen old new (part.Begin expr) l = record { program = l.program; own = l.own; lines = l.lines; sums = l.sums; parents = l.parents; start = l.start; place = l.place; frames = l.frames; more = l.more }
-leaves_seen old new part.Goes l = l
-leaves_seen old new part.Stops l = l
-leaves_seen old new (part.Forks class child) l = l
+leaves_seen old new (part.Value value) l = assumption
+leaves_seen old new _ l = assumption
 
 pub seen_leaves : (old new : State) (p : Progress) → LeavesOthers old new → LeavesOthers old (seen_in p new)
-seen_leaves old new (part.Value value) l = record { program = l.program; own = l.own; lines = l.lines; sums = l.sums; parents = l.parents; start = l.start; place = l.place; frames = l.frames; more = l.more }
-seen_leaves old new (part.Begin expr) l = record { program = l.program; own = l.own; lines = l.lines; sums = l.sums; parents = l.parents; start = l.start; place = l.place; frames = l.frames; more = l.more }
-seen_leaves old new part.Goes l = l
-seen_leaves old new part.Stops l = l
-seen_leaves old new (part.Forks class child) l = l
+seen_leaves old new (part.Value value) l = assumption
+seen_leaves old new _ l = assumption
 
 -- two changes of the innermost thread, one after the other
 pub leaves_on : (a b c : State) → LeavesOthers a b → LeavesOthers b c → LeavesOthers a c
@@ -425,11 +379,6 @@ begins_giving old new v number awaits begins b = record {
   control_is = b.control_is;
 }
 
-goes_first : (k : Control) → IsBeginning k → pending_of k ≡ None
-goes_first (Begin expr) h = refl
-goes_first (Cover stretch) h = refl
-goes_first _ h = absurd h
-
 -- only the next action is replaced
 pub begins_as : (old new : State) (number : ℕ) (awaits begins other : Control) → BeginsHere old new number awaits begins → BeginsHere old (record new { control = other }) number awaits other
 begins_as old new number awaits begins other b = record {
@@ -453,14 +402,12 @@ awaiting_becomes : (t : State) (v : ℕ) (k : Control) → Becomes (giving (top 
 awaiting_becomes t v k = record { program = refl; own = refl; below = refl; forks = refl; environment_is = refl; frames_are = refl; control_is = refl }
 
 -- A thread in whose place a child runs is not by itself.
-cons_none : (n : ℕ) (ns : List ℕ) → ◌≡◌ {A = List ℕ} (n ∷ ns) [] → ⊥
-cons_none n ns e = cc
-
 not_by_itself : (before mid : State) (f : Frame) (number : ℕ) → IsPoppedIn f before mid → mid.level.start ≤ length mid.frames.items → fork_here f ≡ number ∷ [] → IsByItself before → ⊥
 not_by_itself before mid f number popped le here alone =
     let off = top_popped before mid f popped le in
-    cons_none number (forks_here (top mid).frames)
-    (ap (λ l. l ++ forks_here (top mid).frames) (sym here) ∙ sym (forks_here-append (top mid).frames (f ∷ [])) ∙ ap forks_here (sym off.frames_are) ∙ alone.here)
+    let none : number ∷ forks_here (top mid).frames ≡ [] =
+    ap (λ l. l ++ forks_here (top mid).frames) (sym here) ∙ sym (forks_here-append (top mid).frames (f ∷ [])) ∙ ap forks_here (sym off.frames_are) ∙ alone.here in
+    cc
 
 pub comes_join_here : {Q : Type 0} → (had v number : ℕ) (before old new : State) (child next : Bor Expr) → IsSoundState before → IsPoppedIn (JoinHere number child next) before (giving_in old v) →
     old.level.start ≤ length old.frames.items → BeginsHere old new number (Awaits number v next) old.control → Comes Q had had before (part.Begin child) new
@@ -551,29 +498,16 @@ comes_join Q old new v had left part.Goes s long h =
 comes_join Q old new v had left part.Stops s long h = absurd h
 comes_join Q old new v had left (part.Forks class child) s long h = absurd h
 
-not_joins : pause.Ended ≡ pause.Joins → ⊥
-not_joins e = cc
-
 -- The outermost thread has ended.
 pub comes_end : {Q : Type 0} → (had v : ℕ) (old new : State) → IsSoundState (giving_in old v) → old.parents.items ≡ [] → length old.frames.items ≤ old.level.start → Turns old new (Ended v) →
     Comes Q had had (giving_in old v) part.Stops new
 comes_end had v old new s none over turns =
     let from = giving_in old v in
     let le = start_in from s in
-    let changed : Turns from new (Ended v) = record {
-      program = turns.program;
-      own = turns.own;
-      lines = turns.lines;
-      sums = turns.sums;
-      parents = turns.parents;
-      level = turns.level;
-      environment_is = turns.environment_is;
-      frames_are = turns.frames_are;
-      control_is = turns.control_is;
-    } in
+    let changed : Turns from new (Ended v) = assumption in
     let all : old.level.start ≡ length old.frames.items = omega (arith, le, over) in
     let empty : (top from).frames ≡ [] = ap (λ n. drop n old.frames.items) all ∙ drop-length old.frames.items in
-    comes_stop had from new pause.Ended s refl (leaves_same from new _ _ changed le) (λ e. turns.parents ∙ none) (λ e. absurd (not_joins e))
+    comes_stop had from new pause.Ended s refl (leaves_same from new _ _ changed le) (λ e. turns.parents ∙ none) (λ e. cc)
     (ends (top from) (top from) (top new) v (as_it_is (top from)) refl empty (top_same from new _ _ changed le))
 
 -- The next action before a step has no influence on it.
@@ -581,56 +515,16 @@ pub leaves_begun : (t : State) (e : Bor Expr) → IsSoundState (beginning_in t e
 leaves_begun t e s = record { program = refl; own = refl; lines = refl; sums = refl; parents = refl; start = refl; place = refl; frames = refl; more = start_in (beginning_in t e) s }
 
 pub enters_begun : (t new : State) (e : Bor Expr) (env : List ℕ) (fs : List Frame) (k : Control) → Changes t new env fs k → Changes (beginning_in t e) new env fs k
-enters_begun t new e env fs k c = record {
-  program = c.program;
-  own = c.own;
-  lines = c.lines;
-  sums = c.sums;
-  parents = c.parents;
-  level = c.level;
-  environment_is = c.environment_is;
-  frames_are = c.frames_are;
-  control_is = c.control_is;
-}
+enters_begun t new e env fs k c = assumption
 
 begins_part : (t new : State) (e part : Bor Expr) (env : List ℕ) (fs : List Frame) (k : Control) → Changes t new env fs k → Changes (beginning_in t e) (beginning_in new part) env fs (Begin part)
-begins_part t new e part env fs k c = record {
-  program = c.program;
-  own = c.own;
-  lines = c.lines;
-  sums = c.sums;
-  parents = c.parents;
-  level = c.level;
-  environment_is = c.environment_is;
-  frames_are = c.frames_are;
-  control_is = refl;
-}
+begins_part t new e part env fs k c = assumption
 
 pub forks_begun : (t new : State) (e : Bor Expr) (f : Frame) (k : Control) → CountsFork t new f k → CountsFork (beginning_in t e) new f k
-forks_begun t new e f k c = record {
-  program = c.program;
-  own = c.own;
-  lines = c.lines;
-  sums = c.sums;
-  parents = c.parents;
-  level = c.level;
-  environment = c.environment;
-  frames = c.frames;
-  control_is = c.control_is;
-}
+forks_begun t new e f k c = assumption
 
 pub forks_part : (t new : State) (e part : Bor Expr) (f : Frame) (k : Control) → CountsFork t new f k → CountsFork (beginning_in t e) (beginning_in new part) f (Begin part)
-forks_part t new e part f k c = record {
-  program = c.program;
-  own = c.own;
-  lines = c.lines;
-  sums = c.sums;
-  parents = c.parents;
-  level = c.level;
-  environment = c.environment;
-  frames = c.frames;
-  control_is = refl;
-}
+forks_part t new e part f k c = assumption
 
 pub spawns_begun : (t child : State) (e : Bor Expr) (begins : Control) → IsSpawned t begins child → IsSpawned (beginning_in t e) begins child
 spawns_begun t child e begins c = record { renewed = c.renewed; named = c.named; label = c.label; holds = c.holds; sums = c.sums }

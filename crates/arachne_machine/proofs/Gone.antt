@@ -1,15 +1,11 @@
 -- Advances over tallies that are made as the thread comes to them.
-use Rattle.std.proofs.Common.{◌≡◌, ◌≤◌, ℕ, ◌+◌, ◌-◌, [], ◌∷◌, None, refl, ap, sym, ◌∙◌, subst, arith}
-use Rattle.std.specs.Prelude.{◌==◌, if◌then◌else◌}
-use Rattle.arachne_program.specs.Value.{wrapped}
-use Rattle.arachne_program.specs.Program.{source_of}
-use Rattle.arachne_program.specs.Checked.{IsChecked}
-use Rattle.arachne_machine.specs.declared.pause.Pause.{Pause}
-use Rattle.arachne_machine.specs.declared.pause.Pause.TheVariants as pauses
-use Rattle.arachne_machine.specs.Suspended.{SameThread}
+use Rattle.std.proofs.Common.{◌≡◌, ◌≤◌, ℕ, ◌+◌, ◌-◌, [], ◌∷◌, None, refl, ap, sym, ◌∙◌, subst, arith, ◌==◌, if◌then◌else◌}
+use Rattle.arachne_program.specs.{Value.wrapped, Program.source_of, Checked.IsChecked}
+use Rattle.arachne_machine.specs.{declared.pause.Pause.Pause, Suspended.SameThread}
 use Rattle.arachne_machine.specs.Nested.{FallsBy, Nested, SameWhole, pending_in, whole, work_in}
 use Rattle.arachne_machine.specs.Advance.{AwaitsAt, IsCharged, IsSpentAt, Moves, PausesAt, pause_at}
 use Rattle.arachne_machine.specs.Tallying.{AdvancesOver, Dues, GainsAt, HasGone, IsAdvance, IsRefusedAdvance, IsTallied, RefusedOver}
+use Rattle.arachne_machine.specs.declared.pause.Pause.TheVariants as pauses
 
 same_on : (a b c : Nested) → SameWhole a b → SameWhole b c → SameWhole a c
 same_on a b c p q = record { program = q.program ∙ p.program; name = q.name ∙ p.name; label = q.label ∙ p.label }
@@ -25,21 +21,13 @@ falls_on had left from mid to fewer w f = record {
 pub moves_on : (had left : ℕ) (old mid : Nested) (gives : Pause) (new : Nested) → SameWhole old mid → left ≤ had → work_in mid + had ≡ work_in old + left → Moves left mid gives new → Moves had old gives new
 moves_on had left old mid pauses.Budget new same fewer w m = (same_on old mid new same m.0, m.1, omega (arith, m.2, w))
 moves_on had left old mid (pauses.Forks class child) new same fewer w m = (same_on old mid new same m.0, m.1, m.2, m.3, falls_on had left (work_in old) (work_in mid) _ fewer w m.4)
-moves_on had left old mid pauses.Joins new same fewer w m = record { same = same_on old mid new same m.same; pending = m.pending; work = falls_on had left (work_in old) (work_in mid) _ fewer w m.work }
-moves_on had left old mid (pauses.Asks lock) new same fewer w m = record { same = same_on old mid new same m.same; pending = m.pending; work = falls_on had left (work_in old) (work_in mid) _ fewer w m.work }
-moves_on had left old mid (pauses.Frees lock) new same fewer w m = record { same = same_on old mid new same m.same; pending = m.pending; work = falls_on had left (work_in old) (work_in mid) _ fewer w m.work }
-moves_on had left old mid (pauses.Tallies ledger amount) new same fewer w m = record { same = same_on old mid new same m.same; pending = m.pending; work = falls_on had left (work_in old) (work_in mid) _ fewer w m.work }
 moves_on had left old mid pauses.Ended new same fewer w m =
     (record { same = same_on old mid new same m.0.same; pending = m.0.pending; work = falls_on had left (work_in old) (work_in mid) _ fewer w m.0.work }, m.1, m.2, m.3, m.4)
+moves_on had left old mid _ new same fewer w m = record { same = same_on old mid new same m.same; pending = m.pending; work = falls_on had left (work_in old) (work_in mid) _ fewer w m.work }
 
 spent_on : (had left next : ℕ) (gives : Pause) → left ≤ had → IsSpentAt gives left next → IsSpentAt gives had next
 spent_on had left next pauses.Budget fewer s = s
-spent_on had left next (pauses.Forks class child) fewer s = omega (arith, s, fewer)
-spent_on had left next pauses.Joins fewer s = omega (arith, s, fewer)
-spent_on had left next (pauses.Asks lock) fewer s = omega (arith, s, fewer)
-spent_on had left next (pauses.Frees lock) fewer s = omega (arith, s, fewer)
-spent_on had left next (pauses.Tallies ledger amount) fewer s = omega (arith, s, fewer)
-spent_on had left next pauses.Ended fewer s = omega (arith, s, fewer)
+spent_on had left next _ fewer s = omega (arith, s, fewer)
 
 -- The thread has gone on over some tallies, and goes on.
 pub record Gone (had left : ℕ) (old now : Nested) (due now_due : Dues) : Type 0 where
@@ -48,15 +36,6 @@ pub record Gone (had left : ℕ) (old now : Nested) (due now_due : Dues) : Type 
   pub going : pending_in now ≡ None
   pub charged : work_in now + had ≡ work_in old + left
   pub fewer : left ≤ had
-
-pub gone_nothing : (had : ℕ) (t : Nested) (due : Dues) → pending_in t ≡ None → Gone had had t t due due
-gone_nothing had t due going = record {
-  gone = record { tallies = []; goes = (refl, refl); due_now = λ ledger. refl };
-  same = record { program = refl; name = refl; label = refl };
-  going = going;
-  charged = refl;
-  fewer = omega arith;
-}
 
 -- The thread comes to a tally, which is made.
 pub gone_on : (had left next : ℕ) (old now mid new : Nested) (due now_due new_due : Dues) (ledger amount : ℕ) → Gone had left old now due now_due →

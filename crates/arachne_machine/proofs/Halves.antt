@@ -1,20 +1,14 @@
 -- A sweep that is split in halves has the same result.
-use Rattle.std.proofs.Common.{◌≡◌, ◌≤◌, ◌<◌, ℕ, zero, suc, ◌+◌, ◌-◌, ◌*◌, ◌/◌, ◌^◌, List, [], ◌∷◌, ◌++◌, true, false, inl, inr, refl, ap, sym, ◌∙◌, arith, rules}
-use Rattle.std.specs.Prelude.{min, max, nat_le, if◌then◌else◌}
-use Rattle.std.specs.Int.Bits.{xor_assoc, xor_zero_r}
+use Rattle.std.proofs.Common.{◌≡◌, ◌≤◌, ◌<◌, ℕ, zero, suc, ◌+◌, ◌-◌, ◌*◌, ◌/◌, ◌^◌, List, [], ◌∷◌, ◌++◌, true, false, inl, inr, refl, ap, sym, ◌∙◌, arith, rules, min, max, nat_le, if◌then◌else◌}
 use Rattle.std.proofs.Math.Nat.{min-le_left, min-eq_left, max-zero, mod-mod, add-mod-mod, mod-add-mod, add_assoc, mul_assoc}
-use Rattle.std.proofs.lemmas.Nat.{mul-mod_first, mul-mod_second}
-use Rattle.std.proofs.lemmas.Bool.{cases_lt}
-use Rattle.std.proofs.Math.Path.{fun_ext}
-use Rattle.arachne_program.specs.declared.program.Reduction.{Reduction}
+use Rattle.std.proofs.{Math.Path.fun_ext, lemmas.Nat.{mul-mod_first, mul-mod_second}}
+use Rattle.std.{proofs.lemmas.Bool.cases_lt, specs.Int.Bits.{xor_assoc, xor_zero_r}}
+use Rattle.arachne_program.specs.{declared.program.Reduction.Reduction, Tree.Tree, Parts.by_halves}
 use Rattle.arachne_program.specs.declared.program.Reduction.TheVariants.{Sum, Product, Parity, Least, Greatest}
-use Rattle.arachne_program.specs.Tree.{Tree}
 use Rattle.arachne_program.specs.Value.{Environment, turns, with_newest, value_of, apply, operation_of, unit_of, wrapped}
 use Rattle.arachne_program.specs.Effects.{Reduce, Child, Effects, forked, half, turns_effects, effects_of, task_value, task_effects}
 use Rattle.arachne_machine.specs.declared.pause.Pending.TheVariants as pause
-use Rattle.arachne_program.specs.Parts.{by_halves}
-use Rattle.arachne_machine.specs.Turns.{swept, swept_effects, swept_work, swept_trace}
-use Rattle.arachne_machine.specs.Work.{task_work}
+use Rattle.arachne_machine.specs.{Turns.{swept, swept_effects, swept_work, swept_trace}, Work.task_work}
 use Rattle.arachne_machine.specs.Trace.{Step, At, task_trace}
 
 -- Values.

@@ -1,63 +1,36 @@
 -- A state with the children that were handed back to it.
-use Rattle.std.proofs.Common.{◌≡◌, ◌≢◌, ◌≤◌, ◌<◌, ◌-◌, get_or, take, length, length-append, ℕ, ◌+◌, List, [], ◌∷◌, ◌++◌, None, Some, Option, refl, ap, sym, ◌∙◌, subst, arith}
-use Rattle.std.specs.Prelude.{zero, suc, map, reverse, option_map, slice_get, All}
-use Rattle.std.specs.Borrow.{Bor}
-use Rattle.std.proofs.lemmas.List.Elements.{All-append}
-use Rattle.std.proofs.Math.Seq.{get_or-append_seam}
-use Rattle.arachne_program.specs.declared.program.Program.{Program}
-use Rattle.arachne_program.specs.Tree.{Source}
-use Rattle.arachne_program.specs.Value.{Environment}
-use Rattle.arachne_machine.specs.declared.frame.Frame.{Frame}
-use Rattle.arachne_machine.specs.declared.frame.Control.{Control}
-use Rattle.arachne_machine.specs.declared.frame.Control.TheVariants.{Begin, Give, Cover, Forked, Halved, Awaits, AwaitsHalf, Asks, Frees, Tallies, Ended}
-use Rattle.arachne_machine.specs.declared.line.ThreadLine.{ThreadLine}
-use Rattle.arachne_machine.specs.declared.state.Own.{Own}
-use Rattle.std.specs.Global.{Box}
-use Rattle.std.proofs.lemmas.List.{append_assoc, get_or_append_left, get_or-map, get_or-reverse, length-map, length-reverse, reverse-append, reverse-reverse}
-use Rattle.arachne_program.specs.declared.program.Class.{Class}
-use Rattle.arachne_program.specs.Program.{source_of}
-use Rattle.arachne_program.specs.Effects.{tabulated}
-use Rattle.arachne_machine.specs.declared.level.Parent.{Parent}
-use Rattle.arachne_machine.specs.declared.pause.Pending.{Pending}
-use Rattle.arachne_machine.specs.declared.pause.Pending.TheVariants as pause
-use Rattle.arachne_machine.specs.declared.state.State.{State}
-use Rattle.arachne_machine.specs.Ending.{ending, here_of, fork_awaited, forks_of}
-use Rattle.arachne_machine.specs.Strands.{Strand, Fits, own_line, strand_at}
-use Rattle.arachne_machine.specs.declared.level.Level.{Level}
+use Rattle.std.proofs.Common.{◌≡◌, ◌≢◌, ◌≤◌, ◌<◌, ◌-◌, get_or, take, length, length-append, ℕ, ◌+◌, List, [], ◌∷◌, ◌++◌, None, Some, Option, refl, ap, sym, ◌∙◌, subst, arith, zero, suc, map, reverse, option_map, slice_get, All, append_assoc}
+use Rattle.std.{specs.{Borrow.Bor, Global.Box}, proofs.{lemmas.List.Elements.All-append, Math.Seq.get_or-append_seam}}
+use Rattle.std.proofs.lemmas.List.{get_or_append_left, get_or-map, get_or-reverse, length-map, length-reverse, reverse-append, reverse-reverse}
+use Rattle.arachne_program.specs.{declared.program.{Program.Program, Class.Class}, Tree.Source, Value.Environment}
+use Rattle.arachne_program.specs.{Program.source_of, Effects.tabulated}
+use Rattle.arachne_machine.specs.declared.{frame.{Frame.Frame, Control.Control}, line.ThreadLine.ThreadLine}
+use Rattle.arachne_machine.specs.declared.{frame.Control.TheVariants.{Awaits, AwaitsHalf, Ended}, state.Own.Own}
+use Rattle.arachne_machine.specs.declared.{level.{Parent.Parent, Level.Level}, pause.Pending.Pending, state.State.State}
+use Rattle.arachne_machine.specs.{Ending.{ending, here_of, fork_awaited, forks_of}, Suspended.awaited}
+use Rattle.arachne_machine.specs.{Strands.{Strand, Fits, own_line, strand_at}, Sound.{AreSound, IsSoundState, RunFor}}
 use Rattle.arachne_machine.specs.Steps.{AfterSteps, GoesWithin, LeavesOthers, pending_of, suspended, top, waiting, waiting_in}
-use Rattle.arachne_machine.specs.Sound.{AreSound, IsSoundState, RunFor}
 use Rattle.arachne_machine.specs.Runs.{Advances, FitsInto, LooksSame, RunsOn, RunsToPause, RunsToFork, TakesIn, work_in_state}
-use Rattle.arachne_machine.specs.Suspended.{Suspended, awaited}
 use Rattle.arachne_machine.specs.Nested.{ArePlaced, Await, AwaitsElsewhere, IsPlaced, Placed, work_in, works, works_placed}
 use Rattle.arachne_machine.specs.Kept.{AdvancesWith, IsKept, StandsBack, Went, WentToFork, nested, seen_child, seen_children}
-use Rattle.arachne_machine.proofs.Levels.{leaves_waiting, runs_on, sound_top}
-use Rattle.arachne_machine.proofs.Advancing.{sound_after}
-use Rattle.arachne_machine.proofs.Tabulated.{length-tabulated}
-use Rattle.arachne_machine.proofs.Nesting.{name_seen, works_seen}
-use Rattle.arachne_machine.proofs.Moving.{Programs, programs_waiting}
-use Rattle.arachne_machine.proofs.Answering.{going}
-use Rattle.arachne_machine.proofs.Going.{runs_nothing, as_is}
-use Rattle.arachne_machine.proofs.Lasting.{stopped_pending, same_kept, same_seen}
-use Rattle.arachne_machine.proofs.Taking.{taken, unstepped}
+use Rattle.arachne_machine.proofs.{Levels.{leaves_waiting, runs_on, sound_top}, Advancing.sound_after, Answering.going}
+use Rattle.arachne_machine.proofs.{Tabulated.length-tabulated, Nesting.{name_seen, works_seen}}
+use Rattle.arachne_machine.proofs.{Moving.{Programs, programs_waiting}, Going.{runs_nothing, as_is}}
+use Rattle.arachne_machine.proofs.{Lasting.{stopped_pending, same_kept, same_seen}, Taking.{taken, unstepped}}
+use Rattle.arachne_machine.specs.declared.pause.Pending.TheVariants as pause
 
 -- A state without waiting threads, as callers see it.
-cons_seen : (s : Suspended) (ss : List Suspended) → s ∷ ss ≡ [] → ⊥
-cons_seen s ss e = cc
-
 none_before : (t : State) (ps : List Parent) → reverse t.parents.items ≡ ps → map suspended (waiting_in t) ≡ [] → t.parents.items ≡ []
 none_before t [] e h = sym (reverse-reverse t.parents.items) ∙ ap reverse e
 none_before t (q ∷ qs) e h =
-    absurd (cons_seen _ _ (sym (ap (λ ps. map suspended (waiting t.program t.own ps t.lines t.frames.items t.level.start t.level.place (ending (top t)).env)) e) ∙ h))
+    cc (sym (ap (λ ps. map suspended (waiting t.program t.own ps t.lines t.frames.items t.level.start t.level.place (ending (top t)).env)) e) ∙ h)
 
 pub none_parents : (t : State) → map suspended (waiting_in t) ≡ [] → t.parents.items ≡ []
 none_parents t h = none_before t (reverse t.parents.items) refl h
 
-cons_box : (s : Placed) (ss : List Placed) → s ∷ ss ≡ [] → ⊥
-cons_box s ss e = cc
-
 none_listed : (ps : List (Box State)) → map seen_child ps ≡ [] → ps ≡ []
 none_listed [] h = refl
-none_listed (p ∷ ps) h = absurd (cons_box _ _ h)
+none_listed (p ∷ ps) h = cc
 
 pub none_placed : (ps : List (Box State)) → seen_children ps ≡ [] → ps ≡ []
 none_placed ps h = sym (reverse-reverse ps) ∙ ap reverse (none_listed (reverse ps) h)
@@ -171,15 +144,7 @@ Sound child = IsSoundState child.value
 joins_then : (k : Control) (n : ℕ) → fork_awaited k ≡ n ∷ [] → pending_of k ≡ Some pause.Joins
 joins_then (Awaits number during next) n e = refl
 joins_then (AwaitsHalf number right reduction) n e = refl
-joins_then (Begin expr) n e = cc
-joins_then (Give value) n e = cc
-joins_then (Cover stretch) n e = cc
-joins_then (Forked expr) n e = cc
-joins_then (Halved stretch) n e = cc
-joins_then (Asks lock body) n e = cc
-joins_then (Frees lock value) n e = cc
-joins_then (Tallies ledger amount body) n e = cc
-joins_then (Ended value) n e = cc
+joins_then _ n e = cc
 
 await_all : (t : Strand) (ts : List Strand) → RunFor t ts → Programs t.program ts → Await (suspended t) (map suspended ts)
 await_all t [] h p = tt
@@ -317,9 +282,6 @@ all_fit t qs kept = λ k d lt.
     let c = get_or qs k d in
     fits_into t c.value kept.sound (kept.children k d lt) (placed_source (source_of t.program.now) (seen_children qs) (seen_child c) kept.nested_is.waiting (seen_at qs k d lt))
 
-same_next : (a b : Pending) → ◌≡◌ {A = Option Pending} (Some a) (Some b) → a ≡ b
-same_next a b e = cc
-
 -- A state that pauses is still kept.
 pub record Paused (last new : State) (qs : List (Box State)) : Type 0 where
   pub kept : IsKept new qs
@@ -331,11 +293,7 @@ pub record Paused (last new : State) (qs : List (Box State)) : Type 0 where
 
 stops_within : (n : ℕ) (a : Strand) (next : Pending) (b : Strand) → AfterSteps n a (Some next) b → GoesWithin 1 n a b
 stops_within n a pause.Forks b h = absurd h
-stops_within n a pause.Joins b h = h.0
-stops_within n a (pause.Asks lock) b h = h.0
-stops_within n a (pause.Frees lock) b h = h.0
-stops_within n a (pause.Tallies ledger amount) b h = h.0
-stops_within n a pause.Ended b h = h.0
+stops_within n a _ b h = h.0
 
 pub paused : (last new : State) (qs : List (Box State)) (next : Pending) → IsKept last qs → LeavesOthers last new → (next ≡ pause.Ended → new.parents.items ≡ []) → AfterSteps 1 (top last) (Some next) (top new) →
     Paused last new qs
@@ -348,7 +306,7 @@ paused last new qs next kept l ended stops =
     record {
       kept = kept_sound new qs (sound_top last new kept.sound l env g.own (λ account sound. (account, sound_after 1 (top last) (top new) (Some next) account sound stops, λ ledger. refl))) kept.children
           (subst (λ p. ArePlaced (source_of p.now) (seen_children qs)) (sym l.program) kept.nested_is.waiting)
-          (λ e. ended (same_next next pause.Ended (sym (stopped_pending 1 (top last) next (top new) stops) ∙ e)));
+          (λ e. ended (cc (sym (stopped_pending 1 (top last) next (top new) stops) ∙ e)));
       work = omega (arith, g.work, one, ap works (ap (map suspended) waits));
       waits = waits;
       forks = g.forks;

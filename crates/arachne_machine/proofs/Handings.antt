@@ -1,28 +1,13 @@
 -- A step that hands a value on doesn't change the result of the thread.
-use Rattle.std.proofs.Common.{◌≡◌, ◌≢◌, ◌≤◌, ◌<◌, ℕ, ◌+◌, ◌-◌, List, [], ◌∷◌, ◌++◌, length, length-append, None, Some, inl, inr, refl, ap, sym, ◌∙◌, arith, subst, append_assoc, take, Bool, true, false, rules}
-use Rattle.std.specs.Prelude.{slice_index, ◌==◌, if◌then◌else◌, max}
-use Rattle.std.specs.Borrow.{Bor}
-use Rattle.std.proofs.lemmas.Bool.{cases_lt}
-use Rattle.std.proofs.lemmas.List.{append-nil}
-use Rattle.std.proofs.Math.Seq.{take-append_seam}
-use Rattle.arachne_program.specs.declared.program.Expr.{Expr}
-use Rattle.arachne_program.specs.declared.program.Operation.{Operation}
-use Rattle.arachne_program.specs.declared.program.Reduction.{Reduction}
-use Rattle.arachne_program.specs.Tree.{Tree, Source}
-use Rattle.arachne_program.specs.Program.{source_of, tree_of}
+use Rattle.std.proofs.Common.{◌≡◌, ◌≢◌, ◌≤◌, ◌<◌, ℕ, ◌+◌, ◌-◌, List, [], ◌∷◌, ◌++◌, length, length-append, None, Some, inl, inr, refl, ap, sym, ◌∙◌, arith, subst, append_assoc, take, Bool, true, false, rules, slice_index, ◌==◌, if◌then◌else◌, max, append-nil}
+use Rattle.std.{specs.Borrow.Bor, proofs.{lemmas.Bool.cases_lt, Math.Seq.take-append_seam}}
+use Rattle.arachne_program.specs.{Effects.effects_of, Program.{source_of, tree_of}, Tree.{Tree, Source}}
 use Rattle.arachne_program.specs.Value.{apply, operation_of, unit_of, value_of, array_at, with_newest}
-use Rattle.arachne_program.specs.Effects.{effects_of}
-use Rattle.arachne_machine.specs.declared.frame.Stretch.{Stretch}
-use Rattle.arachne_machine.specs.declared.frame.Frame.{Frame}
+use Rattle.arachne_program.specs.declared.program.{Expr.Expr, Operation.Operation, Reduction.Reduction}
+use Rattle.arachne_machine.specs.{declared.frame.{Stretch.Stretch, Frame.Frame, Control.Control}, Strands.Strand}
 use Rattle.arachne_machine.specs.declared.frame.Frame.TheVariants.{Index, Right, Apply, Branch, Extend, Amount, Release, Join, Merge, FoldTo, FoldFirst, FoldStart, FoldTurn, SweepTo, SweepStart, SweepTurn, Restore}
-use Rattle.arachne_machine.specs.declared.frame.Control.{Control}
 use Rattle.arachne_machine.specs.declared.frame.Control.TheVariants.{Begin, Give, Cover, Awaits, AwaitsHalf, Frees, Tallies, Ended}
-use Rattle.arachne_machine.specs.Strands.{Strand}
-use Rattle.arachne_machine.specs.declared.pause.Pending.TheVariants as pause
-use Rattle.arachne_machine.specs.Account.{Account, after}
-use Rattle.arachne_machine.specs.Work.{work_of}
-use Rattle.arachne_machine.specs.Trace.{with_steps, trace_of}
-use Rattle.arachne_machine.specs.Trace as event
+use Rattle.arachne_machine.specs.{Account.{Account, after}, Work.work_of, Trace.{with_steps, trace_of}}
 use Rattle.arachne_machine.specs.Turns.{folded, folded_effects, folded_work, folded_trace, swept, swept_effects, swept_work, swept_trace}
 use Rattle.arachne_machine.specs.Ending.{Status, resume, resume_account, resume_work, resume_trace, begun, begun_account, begun_work, begun_trace, fork_awaited, lock_freed, forks_of, forks_here, releases, frames_left, without_newest}
 use Rattle.arachne_machine.specs.Faultless.{IsFaultless, GoesWithoutFault}
@@ -30,6 +15,8 @@ use Rattle.arachne_machine.specs.Steps.{Becomes, IsUnchanged, IsPopped, Enters, 
 use Rattle.arachne_machine.proofs.Halves.{effects_whole, work_whole, trace_whole}
 use Rattle.arachne_machine.proofs.Ranges.{folded-turn, folded-done, folded_effects-turn, folded_effects-done, folded_work-turn, folded_work-done, folded_trace-turn, folded_trace-done, swept-turn, swept-done, swept_effects-turn, swept_effects-done, swept_work-turn, swept_work-done, swept_trace-turn, swept_trace-done}
 use Rattle.arachne_machine.proofs.Outlooks.{KeepsTop, StepOutlook, Step, at_of, work_at, steps_by, goes_on_by, framed_as, reshaped, later, alone, as_giving, given_off}
+use Rattle.arachne_machine.specs.declared.pause.Pending.TheVariants as pause
+use Rattle.arachne_machine.specs.Trace as event
 
 -- The frame to which a value is handed is taken off, and the thread goes on with this next action, or with a new frame.
 pub hands_on : (steps : ℕ) (before mid new : Strand) (v : ℕ) (f : Frame) (k' : Control) → IsPopped f before mid → mid.control ≡ Give v →

@@ -1,25 +1,17 @@
 -- A child that will run here begins, and is joined.
-use Rattle.std.proofs.Common.{◌≡◌, ℕ, List, [], ◌∷◌, ◌++◌, false, Some, refl, ap, subst, sym, ◌∙◌, arith}
+use Rattle.std.proofs.Common.{◌≡◌, ℕ, List, [], ◌∷◌, ◌++◌, false, Some, refl, ap, subst, sym, ◌∙◌, arith, append-nil}
 use Rattle.std.specs.Borrow.{Bor}
-use Rattle.std.proofs.lemmas.List.{append-nil}
-use Rattle.arachne_program.specs.declared.program.Expr.{Expr}
-use Rattle.arachne_program.specs.Program.{source_of, tree_of}
-use Rattle.arachne_program.specs.Effects.{Evaluate}
+use Rattle.arachne_program.specs.{declared.program.Expr.Expr, Program.{source_of, tree_of}, Effects.Evaluate}
 use Rattle.arachne_program.specs.Meaning.{task_of}
-use Rattle.arachne_machine.specs.declared.frame.Stretch.{Stretch}
-use Rattle.arachne_machine.specs.declared.frame.Frame.{Frame}
-use Rattle.arachne_machine.specs.declared.frame.Frame.TheVariants.{JoinHere, MergeHere}
-use Rattle.arachne_machine.specs.declared.frame.Control.{Control}
+use Rattle.arachne_machine.specs.{declared.frame.{Stretch.Stretch, Frame.Frame, Control.Control}, Trace.with_steps}
+use Rattle.arachne_machine.specs.{declared.frame.Frame.TheVariants.{JoinHere, MergeHere}, Work.{work_of, task_work}}
 use Rattle.arachne_machine.specs.declared.frame.Control.TheVariants.{Begin, Cover, Give, Awaits, AwaitsHalf}
-use Rattle.arachne_machine.specs.declared.pause.Pending.TheVariants as pause
-use Rattle.arachne_machine.specs.Work.{work_of, task_work}
-use Rattle.arachne_machine.specs.Trace.{with_steps}
 use Rattle.arachne_machine.specs.Ending.{stretch_task, fork_awaited, forks_of, forks_here, lock_freed, releases, frames_left, KeepsForks}
 use Rattle.arachne_machine.specs.Faultless.{IsFaultless, IsFaultlessFrame, IsFaultlessNext, IsWithoutFault, held_by}
-use Rattle.arachne_machine.specs.Strands.{Strand}
-use Rattle.arachne_machine.specs.Steps.{AwaitsHere, Becomes, IsPopped, pending_of}
+use Rattle.arachne_machine.specs.{Strands.Strand, Steps.{AwaitsHere, Becomes, IsPopped, pending_of}}
 use Rattle.arachne_machine.proofs.Faultlessness.{faultless-append}
 use Rattle.arachne_machine.proofs.Outlooks.{Any, faultless_at, SameOutlook, KeepsTop, itself, at_of, alone, given_off, same_end, unjoined_at, here_at, locks_at, keeps_at}
+use Rattle.arachne_machine.specs.declared.pause.Pending.TheVariants as pause
 
 awaits_by : (before mid new : Strand) (v number handed : ℕ) (f : Frame) (k' : Control) → IsPopped f before mid → mid.control ≡ Give v →
     Becomes mid new mid.environment mid.frames k' → ((fs : List Frame) → frames_left k' fs ≡ fs) →

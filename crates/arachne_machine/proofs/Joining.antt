@@ -1,30 +1,16 @@
 -- Joins, and the answers to pauses that count.
-use Rattle.std.proofs.Common.{◌≡◌, ℕ, ◌+◌, List, [], ◌∷◌, ◌++◌, length, None, Some, refl, ap, sym, ◌∙◌, subst, arith, append_assoc, take, drop}
-use Rattle.std.specs.Prelude.{slice_get, option_map}
-use Rattle.std.specs.Borrow.{Bor}
-use Rattle.std.proofs.lemmas.List.{append-nil}
-use Rattle.std.proofs.Math.Seq.{drop-length, take-append_seam, take-length}
-use Rattle.arachne_program.specs.declared.program.Expr.{Expr}
-use Rattle.arachne_program.specs.declared.program.Reduction.{Reduction}
-use Rattle.arachne_program.specs.Tree.{Source}
-use Rattle.arachne_program.specs.Program.{source_of, tree_of}
-use Rattle.arachne_program.specs.Value.{value_of, with_newest, apply, operation_of}
+use Rattle.std.proofs.Common.{◌≡◌, ℕ, ◌+◌, List, [], ◌∷◌, ◌++◌, length, None, Some, refl, ap, sym, ◌∙◌, subst, arith, append_assoc, take, drop, slice_get, option_map, append-nil}
+use Rattle.std.{specs.Borrow.Bor, proofs.Math.Seq.{drop-length, take-append_seam, take-length}}
+use Rattle.arachne_program.specs.{declared.program.{Expr.Expr, Reduction.Reduction}, Tree.Source}
+use Rattle.arachne_program.specs.{Program.{source_of, tree_of}, Value.{value_of, with_newest, apply, operation_of}}
 use Rattle.arachne_program.specs.Effects.{Effects, task_value, tabulated, held, tallied}
-use Rattle.arachne_machine.specs.declared.frame.Frame.{Frame}
-use Rattle.arachne_machine.specs.declared.frame.Frame.TheVariants.{Restore}
-use Rattle.arachne_machine.specs.declared.frame.Control.{Control}
-use Rattle.arachne_machine.specs.declared.frame.Control.TheVariants.{Begin, Give, Awaits, AwaitsHalf, Asks, Tallies}
-use Rattle.arachne_machine.specs.declared.pause.Pending.{Pending}
-use Rattle.arachne_machine.specs.declared.pause.Pending.TheVariants as pause
-use Rattle.arachne_machine.specs.Strands.{Strand}
-use Rattle.arachne_machine.specs.Trace.{At}
-use Rattle.arachne_machine.specs.Outcome.{Finished}
-use Rattle.arachne_machine.specs.Account.{after}
-use Rattle.arachne_machine.specs.Lines.{Gains}
 use Rattle.arachne_machine.specs.Ending.{child_task, joined_env, account_joined, fork_awaited, lock_freed, forks_of, forks_here, releases, AwaitsFork}
-use Rattle.arachne_machine.specs.Steps.{Joins, Counts, pending_of, suspended}
-use Rattle.arachne_machine.specs.Suspended.{awaited}
 use Rattle.arachne_machine.proofs.Outlooks.{KeepsTop, SameOutlook, IsAt, LeavesFrames, Any, at_itself, unjoined_at, here_at, locks_at, same_end}
+use Rattle.arachne_machine.specs.declared.frame.Control.TheVariants.{Begin, Give, Awaits, AwaitsHalf, Asks, Tallies}
+use Rattle.arachne_machine.specs.{Steps.{Joins, Counts, pending_of, suspended}, declared.frame.Frame.Frame, Lines.Gains}
+use Rattle.arachne_machine.specs.declared.{frame.{Frame.TheVariants.Restore, Control.Control}, pause.Pending.Pending}
+use Rattle.arachne_machine.specs.{Suspended.awaited, Outcome.Finished, Strands.Strand, Account.after, Trace.At}
+use Rattle.arachne_machine.specs.declared.pause.Pending.TheVariants as pause
 
 joins_by : (old new : Strand) (outcome : Finished) (n : ℕ) (k k' : Control) (gs' : List Frame) (env' : List ℕ) → old.control ≡ k → outcome.name ≡ old.own.name ++ n ∷ [] →
     new.program ≡ old.program → new.own ≡ old.own → new.forks ≡ old.forks → new.control ≡ k' →
@@ -42,13 +28,7 @@ joins_by old new outcome n k k' gs' env' is_k is_name program own forks is_k' fr
     let fs = old.frames in
     let env = old.environment in
     let at : IsAt source name k (fs ++ []) env old = at_itself old k is_k in
-    let at' : IsAt source name k' (fs ++ gs') env' new = record {
-      source_is = ap (λ p. source_of p.now) program;
-      name_is = ap (λ o. o.name) own;
-      control_is = is_k';
-      frames_are = frames;
-      environment_is = environment;
-    } in
+    let at' : IsAt source name k' (fs ++ gs') env' new = assumption (ap (λ p. source_of p.now) program, ap (λ o. o.name) own) in
     record {
       program = program;
       own = own;
@@ -153,13 +133,7 @@ counts_by old new answered effects k k' is_k is_k' rest holds left left' awaits 
     let fs = old.frames in
     let env = old.environment in
     let at : IsAt source name k (fs ++ []) env old = at_itself old k is_k in
-    let at' : IsAt source name k' (fs ++ []) env new = record {
-      source_is = ap (λ p. source_of p.now) rest.program;
-      name_is = rest.name;
-      control_is = is_k';
-      frames_are = rest.frames ∙ sym (append-nil fs);
-      environment_is = rest.environment;
-    } in
+    let at' : IsAt source name k' (fs ++ []) env new = assumption (ap (λ p. source_of p.now) rest.program, rest.frames ∙ sym (append-nil fs)) in
     let end = same_end 0 0 (At answered ∷ []) Any (after name effects) source name k k' fs [] [] env env old new at at' (left (fs ++ [])) (left' (fs ++ [])) (λ h. (keep, tt)) outlook in
     record {
       program = rest.program;

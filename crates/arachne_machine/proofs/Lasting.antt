@@ -1,38 +1,24 @@
 -- Facts that stay true: after refused memory, at a pause, and if nothing has changed but capacities.
-use Rattle.std.proofs.Common.{◌≡◌, ℕ, ◌+◌, List, [], ◌∷◌, Option, None, Some, inl, inr, refl, ap, sym, subst, ◌∙◌, arith}
-use Rattle.std.specs.Prelude.{◌==◌, true, false, map, reverse, Result, Ok, Err, IfOk, OnErr, OnOk}
-use Rattle.std.specs.Borrow.{Bor}
-use Rattle.std.specs.Global.{Box}
-use Rattle.std.proofs.lemmas.Bool.{cases_lt}
+use Rattle.std.proofs.Common.{◌≡◌, ℕ, ◌+◌, List, [], ◌∷◌, Option, None, Some, inl, inr, refl, ap, sym, subst, ◌∙◌, arith, ◌==◌, true, false, map, reverse, Result, Ok, Err, IfOk, OnErr, OnOk}
+use Rattle.std.{specs.{Borrow.Bor, Global.Box}, proofs.lemmas.Bool.cases_lt}
 use Rattle.std.proofs.lemmas.List.{reverse-append, reverse-reverse}
-use Rattle.arachne_program.specs.declared.program.Class.{Class}
-use Rattle.arachne_program.specs.declared.program.Expr.{Expr}
-use Rattle.arachne_machine.specs.declared.frame.Control.{Control}
-use Rattle.arachne_machine.specs.declared.frame.Control.TheVariants.{Give, Cover}
-use Rattle.arachne_machine.specs.declared.pause.Pending.{Pending}
-use Rattle.arachne_machine.specs.declared.pause.Pending.TheVariants as pause
-use Rattle.arachne_machine.specs.declared.state.State.{State}
-use Rattle.arachne_machine.specs.declared.state.Progress.{Progress}
-use Rattle.arachne_machine.specs.declared.state.Progress.TheVariants as part
-use Rattle.arachne_machine.specs.declared.level.Parent.{Parent}
-use Rattle.arachne_machine.specs.Ending.{ending}
-use Rattle.arachne_machine.specs.Strands.{Strand}
-use Rattle.arachne_machine.specs.Sound.{IsSoundState, RunFor}
-use Rattle.arachne_machine.specs.Steps.{AfterSteps, suspended, OnStops, OnValue, waiting, IsForkOf, IsLeftOver, IsSame, LeavesOthers, pending_of, top}
-use Rattle.arachne_machine.specs.Runs.{IsOneStep, RunsOn, RunsToFork, RunsToPause, HasParent, beginning_in, current_in, giving_in}
-use Rattle.arachne_machine.proofs.Levels.{leaves_waiting, runs_on, runs_top}
-use Rattle.arachne_machine.specs.Nested.{IsNested}
-use Rattle.arachne_machine.specs.Kept.{IsKept, nested}
-use Rattle.arachne_machine.proofs.Handings.{is_not_zero, is_zero}
+use Rattle.arachne_program.specs.{declared.program.{Class.Class, Expr.Expr}, Tree.Tree, Program.{source_of, tree_of}}
+use Rattle.arachne_machine.{specs.declared.frame.{Frame.Frame, Control.Control}, proofs.Openings.{Opens, goes_to_part}}
+use Rattle.arachne_machine.specs.declared.{frame.Control.TheVariants.{Give, Cover, Begin}, pause.Pending.Pending}
+use Rattle.arachne_machine.specs.declared.{state.{State.State, Progress.Progress}, level.Parent.Parent}
+use Rattle.arachne_machine.specs.{Ending.{ending, forks_of, releases}, Strands.Strand, Sound.{IsSoundState, RunFor}}
+use Rattle.arachne_machine.specs.Steps.{AfterSteps, suspended, OnStops, OnValue, waiting, IsForkOf, IsLeftOver, IsSame, LeavesOthers, pending_of, top, Pushes, beginning}
+use Rattle.arachne_machine.specs.Runs.{IsOneStep, RunsOn, RunsToFork, RunsToPause, HasParent, beginning_in, current_in, giving_in, Comes}
+use Rattle.arachne_machine.{proofs.Levels.{leaves_waiting, runs_on, runs_top}, specs.Nested.IsNested}
+use Rattle.arachne_machine.{specs.Kept.{IsKept, nested}, proofs.Handings.{is_not_zero, is_zero}}
 use Rattle.arachne_machine.proofs.Soundness.{goes_nowhere, locks_unchanged, unchanged_seen}
-use Rattle.arachne_machine.proofs.Going.{leaves_same, start_in, top_same}
+use Rattle.arachne_machine.proofs.Going.{leaves_same, start_in, top_same, comes_enter}
+use Rattle.arachne_machine.specs.declared.pause.Pending.TheVariants as pause
+use Rattle.arachne_machine.specs.declared.state.Progress.TheVariants as part
 
 pub on_value : (p : Progress) (A : Type 0) → A → OnValue p A
 on_value (part.Value value) A a = a
-on_value (part.Begin expr) A a = tt
-on_value part.Goes A a = tt
-on_value part.Stops A a = tt
-on_value (part.Forks class child) A a = tt
+on_value _ A a = tt
 
 -- The innermost of the threads that wait awaits a child that runs here.
 parent_of : (t : State) (ps : List Parent) → reverse t.parents.items ≡ ps → IsSoundState t → (t.parents.items ≡ [] → ⊥) → HasParent t
@@ -61,22 +47,16 @@ nearer_value p v A e h = subst (λ x. OnValue x A) e h
 
 pub without_value : (p : Progress) → ((v : ℕ) → p ≡ part.Value v → ⊥) → OnValue p ⊥
 without_value (part.Value value) h = h value refl
-without_value (part.Begin expr) h = tt
-without_value part.Goes h = tt
-without_value part.Stops h = tt
-without_value (part.Forks class child) h = tt
-
-true_false : false ≡ true → ⊥
-true_false e = cc
+without_value _ h = tt
 
 pub is_none : (n : ℕ) → (n == 0) ≡ true → n ≡ 0
 is_none n e = elim (cases_lt 0 n) [
-  | inl lt ↦ absurd (true_false (sym (is_not_zero n (λ z. omega (arith, lt, z))) ∙ e))
+  | inl lt ↦ cc (sym (is_not_zero n (λ z. omega (arith, lt, z))) ∙ e)
   | inr le ↦ omega (arith, le)
 ]
 
 pub is_some : (n : ℕ) → (n == 0) ≡ false → n ≡ 0 → ⊥
-is_some n e z = true_false (sym e ∙ is_zero n z)
+is_some n e z = cc (sym e ∙ is_zero n z)
 
 pub err_then : {X E A B : Type 0} (r : Result X E) → OnErr r A → (A → B) → OnErr r B
 err_then (Ok x) h f = tt
@@ -85,17 +65,7 @@ err_then (Err e) h f = f h
 -- the next action is the same if nothing has changed but capacities
 pub current_same : (begins : Option (Bor Expr)) (a b : State) → IsSame a b → IsSame (current_in begins a) (current_in begins b)
 current_same None a b same = same
-current_same (Some expr) a b same = record {
-  program = same.program;
-  own = same.own;
-  lines = same.lines;
-  sums = same.sums;
-  parents = same.parents;
-  level = same.level;
-  environment_is = same.environment_is;
-  frames_are = same.frames_are;
-  control_is = refl;
-}
+current_same (Some expr) a b same = assumption
 
 left_running : (k : Control) → IsLeftOver k → pending_of k ≡ None
 left_running (Give value) h = refl
@@ -164,11 +134,7 @@ forks_next had some left a b class child c m r = (
 
 pub stopped_pending : (n : ℕ) (a : Strand) (next : Pending) (b : Strand) → AfterSteps n a (Some next) b → pending_of b.control ≡ Some next
 stopped_pending n a pause.Forks b h = absurd h
-stopped_pending n a pause.Joins b h = h.1
-stopped_pending n a (pause.Asks lock) b h = h.1
-stopped_pending n a (pause.Frees lock) b h = h.1
-stopped_pending n a (pause.Tallies ledger amount) b h = h.1
-stopped_pending n a pause.Ended b h = h.1
+stopped_pending n a _ b h = h.1
 
 pub leaves_from : (t new : State) (e : Bor Expr) → LeavesOthers t new → LeavesOthers (beginning_in t e) new
 leaves_from t new e l = record { program = l.program; own = l.own; lines = l.lines; sums = l.sums; parents = l.parents; start = l.start; place = l.place; frames = l.frames; more = l.more }
@@ -177,21 +143,12 @@ pub begins_no_stop : (p : Progress) (e : Bor Expr) (A : Type 0) → p ≡ part.B
 begins_no_stop p e A is = subst (λ x. OnStops x A) (sym is) tt
 
 pub one_step_no_stop : (had left : ℕ) (p : Progress) (t : State) (A : Type 0) → IsOneStep had left p t → OnStops p A
-one_step_no_stop had left (part.Value value) t A h = tt
-one_step_no_stop had left (part.Begin expr) t A h = tt
-one_step_no_stop had left part.Goes t A h = tt
 one_step_no_stop had left part.Stops t A h = absurd h
-one_step_no_stop had left (part.Forks class child) t A h = tt
+one_step_no_stop had left _ t A h = tt
 
 pub no_stop : (p : Progress) (A : Type 0) → OnStops p ⊥ → OnStops p A
 no_stop part.Stops A h = absurd h
-no_stop (part.Value value) A h = tt
-no_stop (part.Begin expr) A h = tt
-no_stop part.Goes A h = tt
-no_stop (part.Forks class child) A h = tt
-
-pub ask_is_no_join : (lock : ℕ) → pause.Asks lock ≡ pause.Joins → ⊥
-ask_is_no_join lock e = cc
+no_stop _ A h = tt
 
 -- A state in which nothing has changed but capacities looks the same.
 pub same_seen : (old new : State) (placed : List (Box State)) → IsSoundState old → IsSame old new → nested new placed ≡ nested old placed
@@ -227,13 +184,18 @@ pub ok_known : {X E A : Type 0} (r : Result X E) (x : X) (P : X → Type 0) → 
 ok_known (Ok p) x P is a f = subst P (sym is) (f a)
 ok_known (Err e) x P is a f = tt
 
+-- A part of an expression is begun, with a frame for what comes after it, unless memory was refused.
+pub enters : {E : Type 0} (Q : Type 0) (had : ℕ) (t new : State) (e begun : Bor Expr) (tree : Tree) (f : Frame) (r : Result Progress E) → IsSoundState (beginning_in t e) →
+    IfOk r (λ p. p ≡ part.Begin begun) → OnOk r (Pushes t new f) → tree_of e.now ≡ tree → forks_of (f ∷ []) ≡ [] → releases (f ∷ []) ≡ [] →
+    Opens 1 (source_of t.program.now) (top t).own.name tree t.environment.items (Begin begun) (f ∷ []) → IfOk r (λ p. Comes Q had had (beginning_in t e) p new)
+enters Q had t new e begun tree f r s begins ok is forks locks opens =
+    ok_known r (part.Begin begun) (λ p. Comes Q had had (beginning_in t e) p new) begins ok (λ pushes. comes_enter Q had t new e begun f s pushes
+    (λ on. goes_to_part 1 (beginning (top t) e) (beginning (top new) begun) e begun tree f refl is on forks locks opens))
+
 -- such a property of a fork
 fork_known : {A : Type 0} (p : Progress) (class : Class) (S : State → Type 0) (P : Progress → Type 0) → IsForkOf p class S → A → ((child : Box State) → A → S child.value → P (part.Forks class child)) → P p
 fork_known (part.Forks given child) class S P is a f = subst (λ k. P (part.Forks k child)) (sym is.0) (f child a is.1)
-fork_known (part.Value value) class S P is a f = absurd is
-fork_known (part.Begin expr) class S P is a f = absurd is
-fork_known part.Goes class S P is a f = absurd is
-fork_known part.Stops class S P is a f = absurd is
+fork_known _ class S P is a f = absurd is
 
 pub ok_forked : {E A : Type 0} (r : Result Progress E) (class : Class) (S : State → Type 0) (P : Progress → Type 0) → IfOk r (λ p. IsForkOf p class S) → OnOk r A →
     ((child : Box State) → A → S child.value → P (part.Forks class child)) → IfOk r P

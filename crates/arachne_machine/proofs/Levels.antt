@@ -1,45 +1,26 @@
 -- The threads of a state that wait: they are unchanged, or one more or one fewer waits.
-use Rattle.std.proofs.Common.{◌≡◌, ◌≤◌, ◌<◌, ℕ, ◌+◌, List, [], ◌∷◌, ◌++◌, append_assoc, length, length-append, false, Some, refl, ap, sym, ◌∙◌, subst, arith, take, drop}
-use Rattle.std.specs.Prelude.{reverse}
+use Rattle.std.proofs.Common.{◌≡◌, ◌≤◌, ◌<◌, ℕ, ◌+◌, List, [], ◌∷◌, ◌++◌, append_assoc, length, length-append, false, Some, refl, ap, sym, ◌∙◌, subst, arith, take, drop, reverse, append-nil}
 use Rattle.std.specs.Borrow.{Bor}
-use Rattle.std.proofs.lemmas.List.{drop-append-le, append-nil, drop_more, get_or-take, length-take-le, reverse-append, take-append-drop, take-append-le}
+use Rattle.std.proofs.lemmas.List.{drop-append-le, drop_more, get_or-take, length-take-le, reverse-append, take-append-drop, take-append-le, take-take}
 use Rattle.std.proofs.Math.Seq.{drop-append-add, drop-length, get_or-append_seam, take-append_seam, take-length}
-use Rattle.arachne_program.specs.declared.program.Program.{Program}
-use Rattle.arachne_program.specs.Program.{source_of}
-use Rattle.arachne_program.specs.Effects.{Child, tabulated, task_effects}
-use Rattle.arachne_program.specs.Meaning.{task_of}
-use Rattle.arachne_program.specs.Checked.{IsChecked}
+use Rattle.arachne_program.specs.{declared.program.{Program.Program, Expr.Expr, Reduction.Reduction}, Program.source_of}
+use Rattle.arachne_program.specs.{Effects.{Child, tabulated, task_effects}, Meaning.task_of, Checked.IsChecked}
 use Rattle.arachne_program.specs.Value.{Environment, apply, operation_of}
-use Rattle.arachne_machine.specs.declared.frame.Frame.{Frame}
-use Rattle.arachne_machine.specs.declared.frame.Control.{Control}
-use Rattle.arachne_machine.specs.declared.frame.Control.TheVariants.{Begin, Give, Cover, Awaits, AwaitsHalf}
-use Rattle.arachne_machine.specs.declared.frame.Frame.TheVariants.{Restore}
-use Rattle.arachne_machine.specs.declared.state.Progress.{Progress}
-use Rattle.arachne_machine.specs.declared.state.Progress.TheVariants as progress
-use Rattle.arachne_program.specs.declared.program.Expr.{Expr}
-use Rattle.arachne_program.specs.declared.program.Reduction.{Reduction}
-use Rattle.arachne_machine.specs.declared.level.Parent.{Parent}
-use Rattle.arachne_machine.specs.declared.line.ThreadLine.{ThreadLine}
-use Rattle.arachne_machine.specs.declared.pause.Pending.TheVariants as pause
-use Rattle.arachne_machine.specs.declared.state.Own.{Own}
-use Rattle.arachne_machine.specs.declared.state.State.{State}
-use Rattle.arachne_machine.specs.Account.{Account, untouched, with_fork}
-use Rattle.arachne_machine.specs.Trace.{At}
-use Rattle.arachne_machine.specs.Ending.{child_task, ending, environment_of, fork_awaited, here_of, locks_of}
+use Rattle.arachne_machine.specs.declared.frame.{Frame.{Frame, TheVariants.Restore}, Control.Control}
+use Rattle.arachne_machine.specs.{declared.frame.Control.TheVariants.{Begin, Give, Cover, Awaits, AwaitsHalf}, Trace.At}
+use Rattle.arachne_machine.specs.declared.{state.{Progress.Progress, Own.Own, State.State}, level.Parent.Parent}
+use Rattle.arachne_machine.specs.{declared.line.ThreadLine.ThreadLine, Account.{Account, untouched, with_fork}}
+use Rattle.arachne_machine.specs.{Ending.{child_task, ending, environment_of, fork_awaited, locks_of}, Lines.Gains}
 use Rattle.arachne_machine.specs.Strands.{Strand, strand_at, line_at, owned_of, owned_at, below_at, Fits}
-use Rattle.arachne_machine.specs.Sound.{IsSound, AreSound, IsSoundState, RunFor}
+use Rattle.arachne_machine.specs.{Sound.{IsSound, AreSound, IsSoundState, RunFor}, Outcome.{Finished, IsOfItsName}}
 use Rattle.arachne_machine.specs.Steps.{Goes, Changes, Becomes, Joins, suspended, PlacesChild, AwaitsHere, HasNotBegun, IsBeginning, LeavesOthers, task_begun, top, waiting, waiting_in}
 use Rattle.arachne_machine.specs.Runs.{Runs, BeginsHere, JoinsHere, HandsResult, ResumesParent, IsByItself, last_of, outermost_in, works_left}
+use Rattle.arachne_machine.specs.{Suspended.own_line_of, Faultless.{IsFaultlessNext, IsWithoutFault}, Work.task_work}
 use Rattle.arachne_machine.proofs.Soundness.{IsOver, goes_on, joined_account, join_keeps, over_means, over_sums, sound_goes, sound_awaits, sound_join, sound_new, sound_fork, fork_has_task, with_fork-sums, with_join-sums}
-use Rattle.arachne_machine.proofs.Splitting.{child_task-found}
-use Rattle.arachne_machine.proofs.Outlooks.{IsAt, account_at, ending_at, work_at}
-use Rattle.arachne_machine.specs.Lines.{Gains}
-use Rattle.arachne_machine.specs.Outcome.{Finished, IsOfItsName}
-use Rattle.arachne_machine.specs.Suspended.{own_line_of}
-use Rattle.arachne_machine.proofs.Joining.{joins_fork, joins_half}
-use Rattle.arachne_machine.proofs.Renewing.{begins_new, begins_faultless}
-use Rattle.arachne_machine.specs.Faultless.{IsFaultlessNext, IsWithoutFault}
-use Rattle.arachne_machine.specs.Work.{task_work}
+use Rattle.arachne_machine.proofs.{Splitting.child_task-found, Outlooks.{IsAt, account_at, ending_at, work_at}}
+use Rattle.arachne_machine.proofs.{Joining.{joins_fork, joins_half}, Renewing.{begins_new, begins_faultless}}
+use Rattle.arachne_machine.specs.declared.state.Progress.TheVariants as progress
+use Rattle.arachne_machine.specs.declared.pause.Pending.TheVariants as pause
 
 -- The threads that wait depend only on the frames below those of the one that they wait for, and on the lines before
 -- its own.
@@ -299,9 +280,6 @@ environment_begun (Begin expr) env h = refl
 environment_begun (Cover stretch) env h = refl
 environment_begun _ env h = absurd h
 
-none_here_yet : (number : ℕ) (others : List ℕ) → ◌≡◌ {A = List ℕ} (number ∷ others) [] → ⊥
-none_here_yet number others e = cc
-
 fits_begun : (before old new : State) (number : ℕ) (awaits begins : Control) → LeavesOthers old before → old.level.start ≤ length old.frames.items → BeginsHere old new number awaits begins →
     Fits (reverse before.parents.items) before.level.start before.level.place (length before.frames.items) (length before.lines) →
     Fits (reverse new.parents.items) new.level.start new.level.place (length new.frames.items) (length new.lines)
@@ -364,7 +342,7 @@ runs_begins before old new f number handed awaits begins s le popped b beginning
       };
       work = omega (arith, awaiting.work, is, fresh.work, ap works_left are, ap works_left were);
       forks = omega (arith, ap (λ ts. (last_of child ts).forks) are, ap (λ ts. (last_of (top before) ts).forks) were, last_same parent (top before) rest awaiting.forks);
-      by_itself = λ alone e. absurd (none_here_yet number (here_of parent) (sym awaiting.here ∙ alone.here));
+      by_itself = λ alone e. cc (sym awaiting.here ∙ alone.here);
     }
 
 -- A child that ran here has ended, and the innermost of the threads that wait goes on.
@@ -418,11 +396,6 @@ below_before (p ∷ ps) lines start place from frames h lt =
     let long : length (take frames lines) ≡ frames = length-take-le frames lines (omega (arith, lt)) in
     ap (drop (place + 1)) (split_at lines frames lt) ∙ drop-append-le (place + 1) (take frames lines) below (omega (arith, h.1, long))
 
-take-take : {A : Type 0} (n m : ℕ) (l : List A) → n ≤ m → m ≤ length l → take n (take m l) ≡ take n l
-take-take n m l le lm =
-    let long : length (take m l) ≡ m = length-take-le m l lm in
-    sym (take-append-le n (take m l) (drop m l) (omega (arith, le, long))) ∙ ap (take n) (take-append-drop m l)
-
 -- the threads that still wait are unchanged
 still_waiting : (program : Bor Program) (own : Own) (ps : List Parent) (lines : List ThreadLine) (frames gs : List Frame) (start place s p : ℕ) (env : Environment) →
     Fits ps start place s p → s ≡ length frames → p < length lines →
@@ -430,8 +403,8 @@ still_waiting : (program : Bor Program) (own : Own) (ps : List Parent) (lines : 
 still_waiting program own [] lines frames gs start place s p env h long lt = refl
 still_waiting program own (q ∷ ps) lines frames gs start place s p env h long lt =
     waiting_frames program own (q ∷ ps) lines (take s frames) (frames ++ gs) start place env
-    (take-append-le start frames gs (omega (arith, h.0, long)) ∙ sym (take-take start s frames h.0 (omega (arith, long))))
-    ∙ waiting_lines program own (q ∷ ps) (take p lines) lines (take s frames) start place env (sym (take-take place p lines (omega (arith, h.1)) (omega (arith, lt))))
+    (take-append-le start frames gs (omega (arith, h.0, long)) ∙ sym (take-take start s frames h.0))
+    ∙ waiting_lines program own (q ∷ ps) (take p lines) lines (take s frames) start place env (sym (take-take place p lines (omega (arith, h.1))))
 
 -- The child's line is at its place, and the lines below the child are behind it.
 child_lines : (old : State) (q : Parent) (qs : List Parent) → reverse old.parents.items ≡ q ∷ qs →
@@ -623,9 +596,7 @@ resumes_half old mid new value had left number right reduction (progress.Value r
     (number, right, reduction, joins_on old mid new [] [] old.control old.control j (subst (λ k. Changes mid new mid.environment.items mid.frames.items k) same h.2), awaits, h.0, h.1)
 resumes_half old mid new value had left number right reduction progress.Goes j awaits same h =
     (number, right, reduction, joins_on old mid new [] [] old.control (Give (apply (operation_of reduction) value right)) j h.2, awaits, h.0, h.1)
-resumes_half old mid new value had left number right reduction (progress.Begin next) j awaits same h = absurd h
-resumes_half old mid new value had left number right reduction progress.Stops j awaits same h = absurd h
-resumes_half old mid new value had left number right reduction (progress.Forks class child) j awaits same h = absurd h
+resumes_half old mid new value had left number right reduction _ j awaits same h = absurd h
 
 -- the end of a child whose parent goes on with what comes after the join
 pub runs_join_begins : (old new : State) (v number during : ℕ) (next : Bor Expr) → IsSoundState old → old.control ≡ Give v → length old.frames.items ≡ old.level.start →

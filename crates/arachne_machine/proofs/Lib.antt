@@ -2,6 +2,7 @@ pub mod Listing
 pub mod Accounts
 pub mod Tabulated
 pub mod Holding
+pub mod Labels
 pub mod Names
 pub mod Ranges
 pub mod Halves

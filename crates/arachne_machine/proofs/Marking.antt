@@ -1,25 +1,14 @@
 -- The outermost thread of a state is marked as one that runs in its parent's place.
-use Rattle.std.proofs.Common.{◌≡◌, ℕ, List, [], ◌∷◌, take, refl, ap, sym, ◌∙◌, subst, arith}
-use Rattle.std.specs.Prelude.{map, reverse}
+use Rattle.std.proofs.Common.{◌≡◌, ℕ, List, [], ◌∷◌, take, refl, ap, sym, ◌∙◌, subst, arith, map, reverse}
 use Rattle.std.specs.Borrow.{Bor}
-use Rattle.arachne_program.specs.declared.program.Program.{Program}
-use Rattle.arachne_program.specs.Value.{Environment}
-use Rattle.arachne_machine.specs.declared.frame.Frame.{Frame}
-use Rattle.arachne_machine.specs.declared.frame.Control.{Control}
-use Rattle.arachne_machine.specs.declared.level.Level.{Level}
-use Rattle.arachne_machine.specs.declared.level.Parent.{Parent}
-use Rattle.arachne_machine.specs.declared.line.ThreadLine.{ThreadLine}
-use Rattle.arachne_machine.specs.declared.line.Ran.TheVariants as ways
-use Rattle.arachne_machine.specs.declared.state.Own.{Own}
-use Rattle.arachne_machine.specs.declared.state.State.{State}
-use Rattle.arachne_machine.specs.Account.{Account}
-use Rattle.arachne_machine.specs.Ending.{ending, work_left}
-use Rattle.arachne_machine.specs.Strands.{Strand, strand_at}
-use Rattle.arachne_machine.specs.Steps.{suspended, top, waiting, waiting_in}
+use Rattle.arachne_program.specs.{declared.program.Program.Program, Value.Environment}
+use Rattle.arachne_machine.specs.declared.{frame.{Frame.Frame, Control.Control}, level.{Level.Level, Parent.Parent}}
+use Rattle.arachne_machine.specs.declared.{line.ThreadLine.ThreadLine, state.{Own.Own, State.State}}
+use Rattle.arachne_machine.specs.{Account.Account, Ending.{ending, work_left}, Strands.{Strand, strand_at}}
+use Rattle.arachne_machine.specs.{Steps.{suspended, top, waiting, waiting_in}, Runs.{work_in_state, works_left}}
 use Rattle.arachne_machine.specs.Sound.{AreSound, IsRunningFor, IsSound, IsSoundState, RunFor}
-use Rattle.arachne_machine.specs.Runs.{work_in_state, works_left}
-use Rattle.arachne_machine.specs.Nested.{marked, marked_parents}
-use Rattle.arachne_machine.proofs.Copies.{here_sound, placed_here}
+use Rattle.arachne_machine.{specs.Nested.{marked, marked_parents}, proofs.Copies.{here_sound, placed_here}}
+use Rattle.arachne_machine.specs.declared.line.Ran.TheVariants as ways
 
 abbrev pub here_own : Own → Own
 here_own own = record own { label = record own.label { ran = ways.InPlace } }

@@ -1,25 +1,13 @@
 -- The threads of a state are added behind those of another.
-use Rattle.std.proofs.Common.{◌≡◌, ◌≢◌, ◌≤◌, ◌<◌, ◌^◌, append_assoc, get_or, length, length-append, ℕ, ◌+◌, true, false, List, [], ◌∷◌, ◌++◌, refl, ap, sym, ◌∙◌, subst, arith, take, drop}
-use Rattle.std.specs.Prelude.{zero, suc, Bool, IsTrue, map, reverse}
-use Rattle.std.specs.Borrow.{Bor}
+use Rattle.std.proofs.Common.{◌≡◌, ◌≢◌, ◌≤◌, ◌<◌, ◌^◌, append_assoc, get_or, length, length-append, ℕ, ◌+◌, true, false, List, [], ◌∷◌, ◌++◌, refl, ap, sym, ◌∙◌, subst, arith, take, drop, zero, suc, Bool, IsTrue, map, reverse}
 use Rattle.std.proofs.lemmas.List.{drop_more, get_or-append-add, length-reverse, length-take-le, reverse-append, take-append-drop, take_more}
-use Rattle.std.proofs.Math.Seq.{drop-append-add, take-append-add, take-append_seam}
-use Rattle.arachne_program.specs.declared.program.Program.{Program}
-use Rattle.arachne_program.specs.Program.{source_of}
-use Rattle.arachne_program.specs.Value.{Environment}
-use Rattle.arachne_machine.specs.declared.frame.Frame.{Frame}
-use Rattle.arachne_machine.specs.declared.frame.Control.{Control}
-use Rattle.arachne_machine.specs.declared.level.Level.{Level}
-use Rattle.arachne_machine.specs.declared.level.Parent.{Parent}
-use Rattle.arachne_machine.specs.declared.line.ThreadLine.{ThreadLine}
-use Rattle.arachne_machine.specs.declared.state.Own.{Own}
-use Rattle.arachne_machine.specs.Account.{Account}
-use Rattle.arachne_machine.specs.Ending.{ending}
+use Rattle.std.{proofs.Math.Seq.{drop-append-add, take-append-add, take-append_seam}, specs.Borrow.Bor}
+use Rattle.arachne_program.specs.{declared.program.Program.Program, Program.source_of, Value.Environment}
+use Rattle.arachne_machine.specs.declared.{frame.{Frame.Frame, Control.Control}, level.{Level.Level, Parent.Parent}}
+use Rattle.arachne_machine.specs.{declared.{line.ThreadLine.ThreadLine, state.Own.Own}, Account.Account, Ending.ending}
 use Rattle.arachne_machine.specs.Strands.{Fits, Owned, Strand, line_at, moved_level, moved_parents, moved_place, own_line, owned_at, owned_of, below_at, strand_at}
-use Rattle.arachne_machine.specs.Steps.{suspended, waiting}
-use Rattle.arachne_machine.specs.Sound.{AreSound, IsRunningFor, IsSound, RunFor}
-use Rattle.arachne_machine.specs.Runs.{last_of, works_left}
-use Rattle.arachne_machine.specs.Nested.{of_program}
+use Rattle.arachne_machine.specs.{Steps.{suspended, waiting}, Sound.{AreSound, IsRunningFor, IsSound, RunFor}}
+use Rattle.arachne_machine.specs.{Runs.{last_of, works_left}, Nested.of_program}
 use Rattle.arachne_machine.proofs.Copies.{IsCopy, copy_ending, copy_seen, copy_sound, copy_work}
 
 -- the thread as one of this program
@@ -172,15 +160,12 @@ works_moved program' program source (t ∷ ts) us p =
     omega (arith, copy_work t (under program' t) (copy_under program' t (source ∙ ap (λ x. source_of x.now) (sym p.0))), works_moved program' program source ts us p.1)
 
 -- A level that is moved behind others, if it is the outermost and if not.
-some_parent : (p : Parent) (ps : List Parent) → ◌≡◌ {A = List Parent} (p ∷ ps) [] → ⊥
-some_parent p ps e = cc
-
 pub moved_is : (start place : ℕ) (ps : List Parent) (level result : Level) (outermost : Bool) → (IsTrue outermost → ps ≡ []) → (outermost ≡ false → ps ≢ []) →
     (IsTrue outermost → result ≡ record { start = start + level.start; forks = level.forks; place = place }) →
     (outermost ≡ false → result ≡ record { start = start + level.start; forks = level.forks; place = place + 1 + level.place }) → result ≡ moved_level start place ps level
 moved_is start place [] level result true none some f g = f refl
 moved_is start place [] level result false none some f g = absurd (some refl refl)
-moved_is start place (p ∷ ps) level result true none some f g = absurd (some_parent p ps (none refl))
+moved_is start place (p ∷ ps) level result true none some f g = cc (none refl)
 moved_is start place (p ∷ ps) level result false none some f g = g refl
 
 -- One of the threads that wait, the outermost first.

@@ -1,8 +1,6 @@
 -- The tasks to which names lead.
-use Rattle.std.proofs.Common.{◌≡◌, ℕ, List, [], ◌∷◌, ◌++◌, Option, None, Some, refl, ap, ◌∙◌, length, arith, length-append}
-use Rattle.std.proofs.lemmas.Option.{slice_get-get_or}
-use Rattle.std.proofs.Math.Seq.{get_or-append_seam}
-use Rattle.std.specs.Prelude.{option_and_then, option_map, slice_get}
+use Rattle.std.proofs.Common.{◌≡◌, ℕ, List, [], ◌∷◌, ◌++◌, Option, None, Some, refl, ap, ◌∙◌, length, arith, length-append, option_and_then, option_map, slice_get}
+use Rattle.std.proofs.{lemmas.Option.slice_get-get_or, Math.Seq.get_or-append_seam}
 use Rattle.arachne_program.specs.Effects.{Task, Child, task_effects, task_below}
 
 then_some : (o : Option Child) → option_and_then (λ child. Some child.task) o ≡ option_map (λ child. child.task) o
@@ -11,9 +9,6 @@ then_some (Some child) = refl
 
 same_some : (x y : Task) → Some x ≡ Some y → x ≡ y
 same_some x y h = cc
-
-none_some : (x : Task) → None ≡ Some x → ⊥
-none_some x h = cc
 
 -- the child of a thread is the child of that number of its task
 pub task_below-child : (arrays : List (List ℕ)) (locks : ℕ) (from : Task) (name : List ℕ) (k : ℕ) (task : Task) →
@@ -24,7 +19,7 @@ task_below-child arrays locks from (j ∷ name) k task h =
     elim (slice_get (task_effects arrays locks from).children j) as
     (λ o. option_and_then (λ child. task_below arrays locks child.task name) o ≡ Some task →
     option_and_then (λ child. task_below arrays locks child.task (name ++ k ∷ [])) o ≡ option_map (λ child. child.task) (slice_get (task_effects arrays locks task).children k)) [
-      | None ↦ λ e. absurd (none_some task e)
+      | None ↦ λ e. cc
       | Some child ↦ λ e. task_below-child arrays locks child.task name k task e
     ] h
 

@@ -1,28 +1,14 @@
 -- The view that callers have of a state.
-use Rattle.std.proofs.Common.{◌≡◌, ◌+◌, List, [], ◌∷◌, refl, ap, sym, ◌∙◌, take}
-use Rattle.std.specs.Prelude.{map, reverse}
-use Rattle.std.specs.Borrow.{Bor}
+use Rattle.std.{proofs.Common.{◌≡◌, ◌+◌, List, [], ◌∷◌, refl, ap, sym, ◌∙◌, take, map, reverse}, specs.Borrow.Bor}
 use Rattle.std.specs.Global.{Box}
-use Rattle.arachne_program.specs.declared.program.Program.{Program}
-use Rattle.arachne_program.specs.Program.{source_of}
-use Rattle.arachne_program.specs.Checked.{IsChecked}
+use Rattle.arachne_program.specs.{declared.program.Program.Program, Program.source_of, Checked.IsChecked}
 use Rattle.arachne_program.specs.Value.{Environment}
-use Rattle.arachne_machine.specs.declared.frame.Frame.{Frame}
-use Rattle.arachne_machine.specs.declared.frame.Control.{Control}
-use Rattle.arachne_machine.specs.declared.level.Level.{Level}
-use Rattle.arachne_machine.specs.declared.level.Parent.{Parent}
-use Rattle.arachne_machine.specs.declared.line.ThreadLine.{ThreadLine}
-use Rattle.arachne_machine.specs.declared.state.Own.{Own}
-use Rattle.arachne_machine.specs.declared.state.State.{State}
-use Rattle.arachne_machine.specs.Ending.{ending}
-use Rattle.arachne_machine.specs.Strands.{Owned, Strand, strand_at}
-use Rattle.arachne_machine.specs.Steps.{suspended, top, waiting, waiting_in}
-use Rattle.arachne_machine.specs.Runs.{last_of, outermost_in, works_left}
-use Rattle.arachne_machine.specs.Nested.{Nested, SameWhole, outermost, whole, works}
-use Rattle.arachne_machine.specs.Sound.{IsSoundState}
-use Rattle.arachne_machine.specs.Faultless.{PausesWithin}
-use Rattle.arachne_machine.specs.Kept.{nested}
-use Rattle.arachne_machine.proofs.Advancing.{within_seen_sound}
+use Rattle.arachne_machine.specs.declared.{frame.{Frame.Frame, Control.Control}, level.{Level.Level, Parent.Parent}}
+use Rattle.arachne_machine.specs.declared.{line.ThreadLine.ThreadLine, state.{Own.Own, State.State}}
+use Rattle.arachne_machine.specs.{Ending.ending, Strands.{Owned, Strand, strand_at}}
+use Rattle.arachne_machine.specs.{Steps.{suspended, top, waiting, waiting_in}, Runs.{last_of, outermost_in, works_left}}
+use Rattle.arachne_machine.specs.{Nested.{Nested, SameWhole, outermost, whole, works}, Sound.IsSoundState}
+use Rattle.arachne_machine.{specs.{Faultless.PausesWithin, Kept.nested}, proofs.Advancing.within_seen_sound}
 
 -- The outermost thread that callers see is that of the state.
 pub outermost_seen : (t : Strand) (ts : List Strand) → outermost (suspended t) (map suspended ts) ≡ suspended (last_of t ts)

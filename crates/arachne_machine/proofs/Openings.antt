@@ -1,36 +1,23 @@
 -- A step that begins an expression doesn't change the result of the thread.
-use Rattle.std.proofs.Common.{◌≡◌, ℕ, ◌+◌, ◌-◌, List, [], ◌∷◌, ◌++◌, length, None, refl, ap, sym, ◌∙◌, arith, subst}
-use Rattle.std.proofs.lemmas.List.{append-nil}
-use Rattle.std.specs.Prelude.{slice_index, nat_lt, ◌==◌, if◌then◌else◌, Bool}
+use Rattle.std.proofs.Common.{◌≡◌, ℕ, ◌+◌, ◌-◌, List, [], ◌∷◌, ◌++◌, length, None, refl, ap, sym, ◌∙◌, arith, subst, append-nil, slice_index, nat_lt, ◌==◌, if◌then◌else◌, Bool}
 use Rattle.std.specs.Borrow.{Bor}
 use Rattle.arachne_program.specs.declared.check_fault.CheckFault.TheVariants as fault
-use Rattle.arachne_program.specs.declared.program.Expr.{Expr}
-use Rattle.arachne_program.specs.declared.program.Operation.{Operation}
-use Rattle.arachne_program.specs.declared.program.Reduction.{Reduction}
+use Rattle.arachne_program.specs.declared.program.{Expr.Expr, Operation.Operation, Reduction.Reduction}
 use Rattle.arachne_program.specs.Tree.{Tree, Number, Variable, Length, Item, Binary, Choose, Bind, Tally, Hold, Fold, Sweep, Source}
-use Rattle.arachne_program.specs.Program.{source_of, tree_of}
-use Rattle.arachne_program.specs.Value.{apply, value_of, array_at, with_newest}
+use Rattle.arachne_program.specs.{Program.{source_of, tree_of}, Value.{apply, value_of, array_at, with_newest}}
 use Rattle.arachne_program.specs.Effects.{Reduce, ◌⨾◌, tallied, held, effects_of, task_effects}
-use Rattle.arachne_machine.specs.declared.frame.Frame.{Frame}
-use Rattle.arachne_machine.specs.declared.frame.Frame.TheVariants.{Index, Right, Apply, Branch, Extend, Amount, Release, FoldTo, SweepTo}
-use Rattle.arachne_machine.specs.declared.frame.Control.{Control}
-use Rattle.arachne_machine.specs.declared.frame.Control.TheVariants.{Begin, Give, Asks}
-use Rattle.arachne_machine.specs.Strands.{Strand}
-use Rattle.arachne_machine.specs.Work.{work_of}
-use Rattle.arachne_machine.specs.Trace.{with_steps, trace_of}
-use Rattle.arachne_machine.specs.Trace as event
-use Rattle.arachne_machine.specs.Pure.{IsLeaf, IsPure}
-use Rattle.arachne_machine.specs.Turns.{folded_effects}
-use Rattle.arachne_machine.specs.Account.{Account, after}
-use Rattle.arachne_machine.specs.Ending.{resume, resume_account, resume_work, resume_trace, begun, begun_account, begun_work, begun_trace, fork_awaited, forks_of, releases, frames_left}
 use Rattle.arachne_program.specs.Checked.{node_faults, unless}
-use Rattle.arachne_machine.specs.Faultless.{IsFaultless, GoesWithoutFault}
-use Rattle.arachne_machine.specs.Steps.{Becomes, AfterSteps}
-use Rattle.arachne_machine.proofs.Accounts.{after-nothing, after-sequence}
+use Rattle.arachne_machine.specs.{declared.frame.{Frame.Frame, Control.Control}, Strands.Strand, Work.work_of}
+use Rattle.arachne_machine.specs.declared.frame.Frame.TheVariants.{Index, Right, Apply, Branch, Extend, Amount, Release, FoldTo, SweepTo}
+use Rattle.arachne_machine.specs.{declared.frame.Control.TheVariants.{Begin, Give, Asks}, Trace.{with_steps, trace_of}}
+use Rattle.arachne_machine.specs.{Pure.{IsLeaf, IsPure}, Turns.folded_effects, Account.{Account, after}}
+use Rattle.arachne_machine.specs.Ending.{resume, resume_account, resume_work, resume_trace, begun, begun_account, begun_work, begun_trace, fork_awaited, forks_of, releases, frames_left}
+use Rattle.arachne_machine.specs.{Faultless.{IsFaultless, GoesWithoutFault}, Steps.{Becomes, AfterSteps}}
+use Rattle.arachne_machine.proofs.{Accounts.{after-nothing, after-sequence}, Frames.with_steps-add}
 use Rattle.arachne_machine.proofs.Faultlessness.{no_faults-append, unless_none, or_else_none, less}
-use Rattle.arachne_machine.proofs.Frames.{with_steps-add}
 use Rattle.arachne_machine.proofs.Purity.{binary_pure, leaf_pure, leaf_work}
-use Rattle.arachne_machine.proofs.Outlooks.{StepOutlook, Step, steps_by, as_it_is, framed_as, alone, none_here, none_kept, nothing_first}
+use Rattle.arachne_machine.proofs.Outlooks.{StepOutlook, Step, steps_by, framed_as, alone, none_here, none_kept, nothing_first}
+use Rattle.arachne_machine.specs.Trace as event
 
 -- After this many steps of an expression these frames and this next action have the result of the expression.
 pub record Opens (steps : ℕ) (source : Source) (name : List ℕ) (tree : Tree) (env : List ℕ) (k' : Control) (gs' : List Frame) : Type 0 where
@@ -64,7 +51,7 @@ begins_by steps old new expr tree k' gs' begins is_tree b left forks o =
     let env = old.environment in
     let same = subst (λ t. Opens steps source name t env k' gs') (sym is_tree) o in
     steps_by steps old old new (Begin expr) k' fs [] gs' env env
-    (framed_as old old env (fs ++ []) (fs ++ []) old.control (Begin expr) (alone old old env old.control (as_it_is old)) refl begins)
+    (framed_as old old env (fs ++ []) (fs ++ []) old.control (Begin expr) (alone old old env old.control assumption) refl begins)
     b refl (left (fs ++ gs')) forks (none_here gs' (nothing_first (fork_awaited k') (forks_of gs') forks).1) (λ h. none_kept source name k' gs' env forks)
     (opened steps source name expr env k' gs' same)
 

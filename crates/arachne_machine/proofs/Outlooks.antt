@@ -1,23 +1,15 @@
 -- The result of the newest frames and the next action, and so of the whole thread.
-use Rattle.std.proofs.Common.{◌≡◌, ℕ, ◌+◌, Bool, false, List, [], ◌∷◌, ◌++◌, None, refl, subst, ap, sym, ◌∙◌, arith, append_assoc}
-use Rattle.std.proofs.lemmas.List.{append-nil}
+use Rattle.std.proofs.Common.{◌≡◌, ℕ, ◌+◌, Bool, false, List, [], ◌∷◌, ◌++◌, None, refl, subst, ap, sym, ◌∙◌, arith, append_assoc, append-nil}
 use Rattle.std.specs.Borrow.{Bor}
-use Rattle.arachne_program.specs.declared.program.Expr.{Expr}
-use Rattle.arachne_program.specs.Tree.{Source}
-use Rattle.arachne_program.specs.Program.{source_of}
-use Rattle.arachne_machine.specs.declared.frame.Frame.{Frame}
-use Rattle.arachne_machine.specs.declared.frame.Frame.TheVariants.{Join, Merge, JoinHere, MergeHere}
-use Rattle.arachne_machine.specs.declared.frame.Control.{Control}
-use Rattle.arachne_machine.specs.declared.frame.Control.TheVariants.{Begin, Give, Awaits, AwaitsHalf}
-use Rattle.arachne_machine.specs.Trace.{Event, At, with_steps}
-use Rattle.arachne_machine.specs.declared.pause.Pending.TheVariants as pause
-use Rattle.arachne_machine.specs.Strands.{Strand}
-use Rattle.arachne_machine.specs.Account.{Account}
+use Rattle.arachne_program.specs.{declared.program.Expr.Expr, Tree.Source, Program.source_of}
+use Rattle.arachne_machine.specs.declared.frame.Frame.{Frame, TheVariants.{Join, Merge, JoinHere, MergeHere}}
+use Rattle.arachne_machine.specs.declared.frame.Control.{Control, TheVariants.{Begin, Give, Awaits, AwaitsHalf}}
+use Rattle.arachne_machine.specs.{Trace.{Event, At, with_steps}, Strands.Strand, Account.Account}
 use Rattle.arachne_machine.specs.Ending.{Status, resume, resume_account, resume_work, resume_trace, begun, begun_account, begun_work, begun_trace, fork_awaited, lock_freed, forks_of, releases, frames_left, ending, account_at_end, work_left, trace_left, unjoined_of, here_of, locks_of, fork_of, fork_here, forks_here, AwaitsFork, KeepsFork, KeepForks, KeepsForks}
-use Rattle.arachne_machine.specs.Faultless.{GoesWithoutFault, IsWithoutFault}
+use Rattle.arachne_machine.{specs.Faultless.{GoesWithoutFault, IsWithoutFault}, proofs.Faultlessness.faultless_above}
 use Rattle.arachne_machine.specs.Steps.{Becomes, Goes, AfterSteps, IsPopped, pending_of, beginning, giving}
-use Rattle.arachne_machine.proofs.Faultlessness.{faultless_above}
 use Rattle.arachne_machine.proofs.Frames.{resume-append, resume_account-append, resume_work-append, resume_trace-append, with_steps-append, forks_of-append, forks_here-append, releases-append}
+use Rattle.arachne_machine.specs.declared.pause.Pending.TheVariants as pause
 
 -- The next action, the newest frames and the environment are replaced, and the result at the end is the same. `taken`
 -- maps the accounts that fit to those after the replacement, and `answered` are the pauses that were answered. `handed`
@@ -179,18 +171,15 @@ at_keeps source name k fs gs env t at left h =
     (h.0, subst (λ l. KeepForks source name l s) (sym left) (append-keeps source name fs gs s h.1 h.2))
 
 -- If there are no forks, there is nothing to show.
-cons_nil : (x : ℕ) (xs : List ℕ) → ◌≡◌ {A = List ℕ} (x ∷ xs) [] → ⊥
-cons_nil x xs e = cc
-
 pub nothing_first : (xs ys : List ℕ) → xs ++ ys ≡ [] → (xs ≡ []) × (ys ≡ [])
 nothing_first [] ys e = (refl, e)
-nothing_first (x ∷ xs) ys e = absurd (cons_nil x (xs ++ ys) e)
+nothing_first (x ∷ xs) ys e = cc
 
 no_fork : (source : Source) (name : List ℕ) (f : Frame) (s : Status) → fork_of f ≡ [] → KeepsFork source name f s
-no_fork source name (Join number next) s e = absurd (cons_nil number [] e)
-no_fork source name (Merge number reduction) s e = absurd (cons_nil number [] e)
-no_fork source name (JoinHere number child next) s e = absurd (cons_nil number [] e)
-no_fork source name (MergeHere number left) s e = absurd (cons_nil number [] e)
+no_fork source name (Join number next) s e = cc
+no_fork source name (Merge number reduction) s e = cc
+no_fork source name (JoinHere number child next) s e = cc
+no_fork source name (MergeHere number left) s e = cc
 no_fork source name _ s e = tt
 
 no_forks : (source : Source) (name : List ℕ) (gs : List Frame) (s : Status) → forks_of gs ≡ [] → KeepForks source name gs s
@@ -200,8 +189,8 @@ no_forks source name (g ∷ gs) s e =
     (no_fork source name g (resume source name gs s) both.1, no_forks source name gs s both.0)
 
 none_awaited : (source : Source) (name : List ℕ) (k : Control) (env : List ℕ) → fork_awaited k ≡ [] → AwaitsFork source name k env
-none_awaited source name (Awaits number during next) env e = absurd (cons_nil number [] e)
-none_awaited source name (AwaitsHalf number right reduction) env e = absurd (cons_nil number [] e)
+none_awaited source name (Awaits number during next) env e = cc
+none_awaited source name (AwaitsHalf number right reduction) env e = cc
 none_awaited source name _ env e = tt
 
 pub none_kept : (source : Source) (name : List ℕ) (k : Control) (gs : List Frame) (env : List ℕ) → fork_awaited k ++ forks_of gs ≡ [] → KeepsTop source name k gs env
@@ -305,13 +294,7 @@ abbrev pub StepOutlook : ℕ → Source → List ℕ → Control → List Frame 
 StepOutlook steps source name k gs env k' gs' env' = SameOutlook steps 0 [] Any itself source name k gs env k' gs' env'
 
 pub at_of : (mid t : Strand) (k : Control) (fs : List Frame) (env : List ℕ) → Becomes mid t env fs k → IsAt (source_of mid.program.now) mid.own.name k fs env t
-at_of mid t k fs env b = record {
-  source_is = ap (λ p. source_of p.now) b.program;
-  name_is = ap (λ o. o.name) b.own;
-  control_is = b.control_is;
-  frames_are = b.frames_are;
-  environment_is = b.environment_is;
-}
+at_of mid t k fs env b = assumption (ap (λ p. source_of p.now) b.program, ap (λ o. o.name) b.own)
 
 -- a step of a thread, with unchanged frames below these
 pub record Step (steps : ℕ) (k k' : Control) (fs gs gs' : List Frame) (old new : Strand) : Type 0 where
@@ -369,15 +352,7 @@ pub as_it_is : (t : Strand) → Becomes t t t.environment t.frames t.control
 as_it_is t = record { program = refl; own = refl; below = refl; forks = refl; environment_is = refl; frames_are = refl; control_is = refl }
 
 pub reshaped : (mid t : Strand) (env env' : List ℕ) (fs fs' : List Frame) (k k' : Control) → Becomes mid t env fs k → env ≡ env' → fs ≡ fs' → k ≡ k' → Becomes mid t env' fs' k'
-reshaped mid t env env' fs fs' k k' b d e f = record {
-  program = b.program;
-  own = b.own;
-  below = b.below;
-  forks = b.forks;
-  environment_is = b.environment_is ∙ d;
-  frames_are = b.frames_are ∙ e;
-  control_is = b.control_is ∙ f;
-}
+reshaped mid t env env' fs fs' k k' b d e f = assumption (b.environment_is ∙ d, b.frames_are ∙ e, b.control_is ∙ f)
 
 pub framed_as : (mid t : Strand) (env : List ℕ) (fs fs' : List Frame) (k k' : Control) → Becomes mid t env fs k → fs ≡ fs' → k ≡ k' → Becomes mid t env fs' k'
 framed_as mid t env fs fs' k k' b e f = reshaped mid t env env fs fs' k k' b refl e f
@@ -388,39 +363,15 @@ given_off before mid v f popped gives = framed_as mid before mid.environment (mi
 
 -- the value to hand on before a change has no influence on its result
 pub as_giving : (t new : Strand) (v : ℕ) (env : List ℕ) (fs : List Frame) (k : Control) → Becomes t new env fs k → Becomes (giving t v) new env fs k
-as_giving t new v env fs k b = record {
-  program = b.program;
-  own = b.own;
-  below = b.below;
-  forks = b.forks;
-  environment_is = b.environment_is;
-  frames_are = b.frames_are;
-  control_is = b.control_is;
-}
+as_giving t new v env fs k b = assumption
 
 -- the next action before a change has no influence on its result
 pub as_beginning : (t new : Strand) (e : Bor Expr) (env : List ℕ) (fs : List Frame) (k : Control) → Becomes t new env fs k → Becomes (beginning t e) new env fs k
-as_beginning t new e env fs k b = record {
-  program = b.program;
-  own = b.own;
-  below = b.below;
-  forks = b.forks;
-  environment_is = b.environment_is;
-  frames_are = b.frames_are;
-  control_is = b.control_is;
-}
+as_beginning t new e env fs k b = assumption
 
 -- it begins this expression next
 pub begins_with : (t new : Strand) (e : Bor Expr) (env : List ℕ) (fs : List Frame) (k : Control) → Becomes t new env fs k → Becomes t (beginning new e) env fs (Begin e)
-begins_with t new e env fs k b = record {
-  program = b.program;
-  own = b.own;
-  below = b.below;
-  forks = b.forks;
-  environment_is = b.environment_is;
-  frames_are = b.frames_are;
-  control_is = refl;
-}
+begins_with t new e env fs k b = assumption
 
 -- only the control is new
 pub given_from : (t : Strand) (v : ℕ) (k k' : Control) → k ≡ k' → Becomes (giving t v) (record t { control = k }) t.environment t.frames k'
@@ -428,15 +379,7 @@ given_from t v k k' e = record { program = refl; own = refl; below = refl; forks
 
 -- one change after another
 pub later : (mid outer new : Strand) (env env' : List ℕ) (fs fs' : List Frame) (k k' : Control) → Becomes mid outer env fs k → Becomes outer new env' fs' k' → Becomes mid new env' fs' k'
-later mid outer new env env' fs fs' k k' b c = record {
-  program = c.program ∙ b.program;
-  own = c.own ∙ b.own;
-  below = c.below ∙ b.below;
-  forks = c.forks ∙ b.forks;
-  environment_is = c.environment_is;
-  frames_are = c.frames_are;
-  control_is = c.control_is;
-}
+later mid outer new env env' fs fs' k k' b c = assumption (c.program ∙ b.program, c.own ∙ b.own, c.below ∙ b.below, c.forks ∙ b.forks)
 
 -- a thread of which no frame is taken off
 pub alone : (mid t : Strand) (env : List ℕ) (k : Control) → Becomes mid t env mid.frames k → Becomes mid t env (mid.frames ++ []) k

@@ -1,14 +1,10 @@
 -- Pure expressions, and their values.
-use Rattle.std.proofs.Common.{◌≡◌, ℕ, suc, ◌+◌, List, [], ◌∷◌, ◌++◌, length, Bool, true, false, refl, ap, sym, ◌∙◌, subst, arith}
-use Rattle.std.specs.Prelude.{◌==◌, if◌then◌else◌, slice_index, Option, None, Some, IfSome}
+use Rattle.std.proofs.Common.{◌≡◌, ℕ, suc, ◌+◌, List, [], ◌∷◌, ◌++◌, Bool, true, false, refl, ap, sym, ◌∙◌, subst, arith, ◌==◌, if◌then◌else◌, Option, None, Some, IfSome}
 use Rattle.arachne_program.specs.declared.program.Operation.{Operation}
-use Rattle.arachne_program.specs.Tree.{Tree, Number, Variable, Length, Item, Binary, Choose, Bind, Source}
-use Rattle.arachne_program.specs.Value.{apply, array_at, value_of, with_newest}
-use Rattle.arachne_program.specs.Effects.{Effects, nothing, ◌⨾◌, effects_of}
-use Rattle.arachne_machine.specs.Pure.{IsLeaf, IsPure, IsWorth}
-use Rattle.arachne_machine.specs.Work.{work_of}
-use Rattle.arachne_machine.specs.Trace.{Event, Step, with_steps, trace_of}
-use Rattle.arachne_machine.proofs.Frames.{with_steps-add, with_steps-append}
+use Rattle.arachne_program.specs.Tree.{Tree, Number, Variable, Binary, Choose, Bind, Source}
+use Rattle.arachne_program.specs.{Value.{apply, value_of, with_newest}, Effects.{Effects, nothing, ◌⨾◌, effects_of}}
+use Rattle.arachne_machine.{proofs.Frames.{with_steps-add, with_steps-append}, specs.Pure.{IsLeaf, IsPure, IsWorth}}
+use Rattle.arachne_machine.specs.{Trace.{Event, Step, with_steps, trace_of}, Work.work_of}
 
 pub leaf_pure : (source : Source) (t : Tree) (env : List ℕ) → IsLeaf t → IsPure source t env
 leaf_pure source (Number n) env leaf = record { effects = refl; trace = refl }
@@ -41,26 +37,6 @@ binary_pure source env operation a b p q =
     }
 
 -- The forms that may be pure.
-pub worth_number : (source : Source) (env : List ℕ) (n had : ℕ) → IsWorth source (Number n) env n had had
-worth_number source env n had = record { pure = record { effects = refl; trace = refl }; value_is = refl; steps = refl }
-
-pub worth_variable : (source : Source) (env : List ℕ) (n value had : ℕ) → value ≡ slice_index env n → IsWorth source (Variable n) env value had had
-worth_variable source env n value had is = record { pure = record { effects = refl; trace = refl }; value_is = is; steps = refl }
-
-pub worth_length : (source : Source) (env : List ℕ) (n value had : ℕ) → value ≡ length (array_at source.arrays n) → IsWorth source (Length n) env value had had
-worth_length source env n value had is = record { pure = record { effects = refl; trace = refl }; value_is = is; steps = refl }
-
-pub worth_item : (source : Source) (env : List ℕ) (array i value had rest left : ℕ) (index : Tree) → rest + 1 ≡ had → IsWorth source index env i rest left →
-    value ≡ slice_index (array_at source.arrays array) i → IsWorth source (Item array index) env value had left
-worth_item source env array i value had rest left index one w is = record {
-  pure = record {
-    effects = w.pure.effects;
-    trace = ap (λ l. Step ∷ l) w.pure.trace ∙ counted (work_of source.arrays index env);
-  };
-  value_is = is ∙ ap (slice_index (array_at source.arrays array)) w.value_is;
-  steps = omega (arith, w.steps, one);
-}
-
 pub worth_binary : (source : Source) (env env' : List ℕ) (t : Tree) (operation : Operation) (a b : Tree) (x y value had rest mid left : ℕ) →
     t ≡ Binary operation a b → rest + 2 ≡ had → env' ≡ env → IsWorth source a env x rest mid → IsWorth source b env' y mid left → value ≡ apply operation x y →
     IsWorth source t env value had left

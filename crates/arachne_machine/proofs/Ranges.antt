@@ -1,14 +1,10 @@
 -- The first of some iterations, and those after it.
-use Rattle.std.proofs.Common.{◌≡◌, ◌≤◌, ◌<◌, ℕ, zero, suc, ◌+◌, ◌-◌, List, [], ◌++◌, refl, ap, sym, ◌∙◌, arith, append_assoc}
-use Rattle.std.proofs.lemmas.List.{append-nil}
+use Rattle.std.proofs.Common.{◌≡◌, ◌≤◌, ◌<◌, ℕ, zero, suc, ◌+◌, ◌-◌, List, [], ◌++◌, refl, ap, sym, ◌∙◌, arith, append_assoc, append-nil}
 use Rattle.std.proofs.Math.Path.{fun_ext}
-use Rattle.arachne_program.specs.declared.program.Reduction.{Reduction}
-use Rattle.arachne_program.specs.Tree.{Tree}
+use Rattle.arachne_program.specs.{declared.program.Reduction.Reduction, Tree.Tree}
 use Rattle.arachne_program.specs.Value.{Environment, turns, with_newest, value_of, apply, operation_of}
 use Rattle.arachne_program.specs.Effects.{Effects, nothing, turns_effects, effects_of}
-use Rattle.arachne_machine.specs.Account.{Account, after}
-use Rattle.arachne_machine.specs.Work.{total, work_of}
-use Rattle.arachne_machine.specs.Trace.{Event, in_turn, trace_of}
+use Rattle.arachne_machine.specs.{Account.{Account, after}, Work.{total, work_of}, Trace.{Event, in_turn, trace_of}}
 use Rattle.arachne_machine.specs.Turns.{folded, folded_effects, folded_work, folded_trace, swept, swept_effects, swept_work, swept_trace}
 use Rattle.arachne_machine.proofs.Accounts.{after-nothing, after-sequence}
 

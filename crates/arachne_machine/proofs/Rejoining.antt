@@ -1,38 +1,20 @@
 -- The outcome of a child that had a state of its own is joined.
-use Rattle.std.proofs.Common.{◌≡◌, ◌≤◌, length, length-append, append_assoc, ℕ, ◌+◌, List, [], ◌∷◌, ◌++◌, None, refl, ap, sym, ◌∙◌, subst, arith, take, drop}
-use Rattle.std.specs.Prelude.{map, reverse}
-use Rattle.std.specs.Borrow.{Bor}
-use Rattle.std.specs.Global.{Box}
-use Rattle.std.proofs.lemmas.List.{drop-append-le, get_or_append_left, take-append-le}
-use Rattle.arachne_program.specs.declared.program.Program.{Program}
-use Rattle.arachne_program.specs.Program.{source_of}
-use Rattle.arachne_program.specs.Value.{Environment, apply, operation_of}
-use Rattle.arachne_program.specs.Effects.{tabulated, task_effects}
-use Rattle.arachne_machine.specs.declared.frame.Frame.{Frame}
-use Rattle.arachne_machine.specs.declared.frame.Frame.TheVariants.{Restore}
-use Rattle.arachne_machine.specs.declared.frame.Control.{Control}
-use Rattle.arachne_machine.specs.declared.frame.Control.TheVariants.{Awaits, AwaitsHalf}
-use Rattle.arachne_machine.specs.declared.level.Parent.{Parent}
-use Rattle.arachne_machine.specs.declared.line.ThreadLine.{ThreadLine}
-use Rattle.arachne_machine.specs.declared.state.Own.{Own}
-use Rattle.arachne_machine.specs.declared.state.State.{State}
-use Rattle.arachne_machine.specs.Ending.{ending}
-use Rattle.arachne_machine.specs.Lines.{Gains}
-use Rattle.arachne_machine.specs.Outcome.{Finished, IsOfItsName, meaning_in}
-use Rattle.arachne_machine.specs.Strands.{Fits, below_at, owned_at, owned_of}
+use Rattle.std.proofs.Common.{◌≡◌, ◌≤◌, length, length-append, append_assoc, ℕ, ◌+◌, List, [], ◌∷◌, ◌++◌, None, refl, ap, sym, ◌∙◌, subst, arith, take, drop, map, reverse}
+use Rattle.std.{specs.{Borrow.Bor, Global.Box}, proofs.lemmas.List.{drop-append-le, get_or_append_left, take-append-le}}
+use Rattle.arachne_program.specs.{declared.program.Program.Program, Program.source_of}
+use Rattle.arachne_program.specs.{Value.{Environment, apply, operation_of}, Effects.{tabulated, task_effects}}
+use Rattle.arachne_machine.specs.declared.frame.{Frame.{Frame, TheVariants.Restore}, Control.Control}
+use Rattle.arachne_machine.specs.declared.{frame.Control.TheVariants.{Awaits, AwaitsHalf}, level.Parent.Parent}
+use Rattle.arachne_machine.specs.declared.{line.ThreadLine.ThreadLine, state.{Own.Own, State.State}}
+use Rattle.arachne_machine.specs.{Ending.ending, Lines.Gains, Outcome.{Finished, IsOfItsName, meaning_in}}
+use Rattle.arachne_machine.specs.{Strands.{Fits, below_at, owned_at, owned_of}, Sound.{AreSound, IsSoundState, RunFor}}
 use Rattle.arachne_machine.specs.Steps.{HasLine, IsLineOf, Joins, pending_of, suspended, top, waiting, waiting_in}
-use Rattle.arachne_machine.specs.Sound.{AreSound, IsSoundState, RunFor}
-use Rattle.arachne_machine.specs.Runs.{JoinsOutcome, ResumesAs}
-use Rattle.arachne_machine.specs.Suspended.{Joined, added}
-use Rattle.arachne_machine.specs.Nested.{IsNested, SameWhole, work_in, works}
-use Rattle.arachne_machine.specs.Kept.{IsKept, nested}
-use Rattle.arachne_machine.proofs.Tabulated.{added_is, length-tabulated}
+use Rattle.arachne_machine.specs.{Runs.{JoinsOutcome, ResumesAs}, Suspended.{Joined, added}, Kept.{IsKept, nested}}
+use Rattle.arachne_machine.{specs.Nested.{IsNested, SameWhole, work_in, works}, proofs.Going.{line_in, start_in}}
+use Rattle.arachne_machine.proofs.{Tabulated.{added_is, length-tabulated}, Nesting.same_whole}
 use Rattle.arachne_machine.proofs.Soundness.{join_keeps, join_sums, joined_account, joined_seen, sound_join, outcome_task}
-use Rattle.arachne_machine.proofs.Joining.{awaited_child, joins_fork, joins_half}
+use Rattle.arachne_machine.proofs.{Joining.{awaited_child, joins_fork, joins_half}, Answering.{going, nested_same}}
 use Rattle.arachne_machine.proofs.Levels.{below_few, run_for_same, waiting_frames, waiting_lines}
-use Rattle.arachne_machine.proofs.Nesting.{same_whole}
-use Rattle.arachne_machine.proofs.Answering.{going, nested_same}
-use Rattle.arachne_machine.proofs.Going.{line_in, start_in}
 
 -- Lines that are appended change no thread's own line, and are below the innermost thread.
 pub appended_own : (own : Own) (ps : List Parent) (lines more : List ThreadLine) (place : ℕ) → IsLineOf ps place (length lines) → owned_at own ps (lines ++ more) place ≡ owned_at own ps lines place

@@ -1,32 +1,18 @@
 -- A thread that has not begun, in the place of one that has ended.
-use Rattle.std.proofs.Common.{◌≡◌, [], ◌∷◌, ◌++◌, None, false, refl, ap, ◌∙◌, arith}
-use Rattle.std.specs.Borrow.{Bor}
-use Rattle.std.proofs.lemmas.List.{append-nil}
-use Rattle.arachne_program.specs.declared.program.Program.{Program}
-use Rattle.arachne_program.specs.Program.{source_of}
-use Rattle.arachne_program.specs.Effects.{tabulated, task_effects, task_value}
-use Rattle.arachne_program.specs.Value.{Environment}
-use Rattle.arachne_machine.specs.declared.frame.Control.{Control}
-use Rattle.arachne_machine.specs.declared.frame.Control.TheVariants.{Begin, Cover}
-use Rattle.arachne_machine.specs.Strands.{Owned, Strand}
-use Rattle.arachne_machine.specs.Account.{after, untouched}
+use Rattle.std.{proofs.Common.{◌≡◌, [], ◌∷◌, ◌++◌, None, false, refl, ap, ◌∙◌, arith, append-nil}, specs.Borrow.Bor}
+use Rattle.arachne_program.specs.{declared.program.Program.Program, Program.source_of}
+use Rattle.arachne_program.specs.{Effects.{tabulated, task_effects, task_value}, Value.Environment}
+use Rattle.arachne_machine.specs.declared.frame.Control.{Control, TheVariants.{Begin, Cover}}
+use Rattle.arachne_machine.specs.{Strands.{Owned, Strand}, Account.{after, untouched}}
 use Rattle.arachne_machine.specs.Ending.{begun, begun_account, begun_trace, begun_work, environment_of, fork_awaited, forks_of, forks_here, frames_left, lock_freed, releases, resume, resume_account, resume_work}
-use Rattle.arachne_machine.specs.declared.pause.Pending.TheVariants as pause
-use Rattle.arachne_machine.specs.Trace.{At, task_trace}
-use Rattle.arachne_machine.specs.Work.{task_work}
-use Rattle.arachne_machine.specs.Faultless.{IsFaultlessNext, IsWithoutFault}
+use Rattle.arachne_machine.specs.{Trace.{At, task_trace}, Work.task_work, Faultless.{IsFaultlessNext, IsWithoutFault}}
 use Rattle.arachne_machine.specs.Steps.{HasNotBegun, IsBeginning, IsNew, pending_of, task_begun}
 use Rattle.arachne_machine.proofs.Outlooks.{IsAt, KeepsBy, account_at, at_faultless, at_keeps, ending_at, trace_at, work_at}
+use Rattle.arachne_machine.specs.declared.pause.Pending.TheVariants as pause
 
 begins_at : (program : Bor Program) (own : Owned) (k : Control) (env : Environment) (t : Strand) → HasNotBegun program own k env t →
     IsAt (source_of program.now) own.name k [] env t
-begins_at program own k env t r = record {
-  source_is = ap (λ p. source_of p.now) r.program_is;
-  name_is = ap (λ o. o.name) r.own_is;
-  control_is = r.control_is;
-  frames_are = r.frames;
-  environment_is = r.environment_is;
-}
+begins_at program own k env t r = assumption (ap (λ p. source_of p.now) r.program_is, ap (λ o. o.name) r.own_is)
 
 -- A thread that has not begun, given its next action: its result is that of the action; it awaits and releases nothing,
 -- and has no forks.

@@ -1,33 +1,21 @@
 -- The view that callers have of an advance.
-use Rattle.std.proofs.Common.{◌≡◌, ◌-◌, ◌≤◌, ℕ, ◌+◌, List, [], ◌∷◌, ◌++◌, None, Some, Option, refl, ap, sym, ◌∙◌, subst, arith}
-use Rattle.std.specs.Prelude.{map, option_map, slice_get}
+use Rattle.std.proofs.Common.{◌≡◌, ◌-◌, ◌≤◌, ℕ, ◌+◌, List, [], ◌∷◌, ◌++◌, None, Some, Option, refl, ap, sym, ◌∙◌, subst, arith, map, option_map, slice_get}
 use Rattle.std.specs.Global.{Box}
-use Rattle.arachne_program.specs.declared.program.Class.{Class}
-use Rattle.arachne_program.specs.Program.{source_of}
-use Rattle.arachne_program.specs.Checked.{IsChecked}
-use Rattle.arachne_program.specs.Meaning.{child_of}
+use Rattle.arachne_program.specs.{declared.program.Class.Class, Program.source_of, Checked.IsChecked, Meaning.child_of}
 use Rattle.arachne_program.specs.Effects.{Child, tabulated}
-use Rattle.arachne_machine.specs.declared.pause.Pending.{Pending}
-use Rattle.arachne_machine.specs.declared.pause.Pending.TheVariants as pause
-use Rattle.arachne_machine.specs.declared.pause.Pause.{Pause}
-use Rattle.arachne_machine.specs.declared.pause.Pause.TheVariants as pauses
-use Rattle.arachne_machine.specs.declared.state.State.{State}
-use Rattle.arachne_machine.specs.Account.{with_fork}
-use Rattle.arachne_machine.specs.Ending.{unjoined_of, work_left}
-use Rattle.arachne_machine.specs.Steps.{pending_of, suspended, task_begun, top, waiting_in}
-use Rattle.arachne_machine.specs.Runs.{IsByItself, RunsOn, last_of, outermost_in}
-use Rattle.arachne_machine.specs.Suspended.{IsFresh}
-use Rattle.arachne_machine.specs.Trace.{At, task_trace}
-use Rattle.arachne_machine.specs.Work.{task_work}
+use Rattle.arachne_machine.specs.declared.{pause.{Pending.Pending, Pause.Pause}, state.State.State}
+use Rattle.arachne_machine.specs.{Account.with_fork, Ending.{unjoined_of, work_left}, Suspended.IsFresh, Work.task_work}
+use Rattle.arachne_machine.specs.{Steps.{pending_of, suspended, task_begun, top, waiting_in}, Trace.{At, task_trace}}
+use Rattle.arachne_machine.{specs.Runs.{IsByItself, RunsOn, last_of, outermost_in}, proofs.Advancing.advanced_seen}
 use Rattle.arachne_machine.specs.Nested.{ArePlaced, FallsBy, outermost, IsAlone, IsRest, SameWhole, Stops, whole, work_in, works}
 use Rattle.arachne_machine.specs.Advance.{Advanced, AdvancedAlone, AwaitsAt, IsCharged, IsSpentAt, Moves, PausesAt, PlacesNone, RefusedAlone, pause_at, pause_seen}
 use Rattle.arachne_machine.specs.Kept.{AdvancesWith, IsKept, Went, WentToFork, WentToPause, nested, seen_children}
 use Rattle.arachne_machine.proofs.Soundness.{fork_has_task, forked_seen, gives_after, goes_then_stops, same_thread, sound_fork, with_fork-sums}
-use Rattle.arachne_machine.proofs.Advancing.{advanced_seen}
 use Rattle.arachne_machine.proofs.Levels.{alone_waiting, last_same, leaves_waiting, sound_top}
-use Rattle.arachne_machine.proofs.Nesting.{pauses_seen, program_seen, same_whole, whole_seen}
-use Rattle.arachne_machine.proofs.Lasting.{stopped_pending}
+use Rattle.arachne_machine.proofs.{Nesting.{pauses_seen, program_seen, same_whole, whole_seen}, Lasting.stopped_pending}
 use Rattle.arachne_machine.proofs.Handed.{kept_sound, none_parents, none_placed, paused}
+use Rattle.arachne_machine.specs.declared.pause.Pending.TheVariants as pause
+use Rattle.arachne_machine.specs.declared.pause.Pause.TheVariants as pauses
 
 -- a thread in whose place no other runs stays so
 all_alone : {Q : Type 0} → {had left : ℕ} → {old new : State} → {ps qs : List (Box State)} → Went Q had left old ps new qs → IsAlone (nested old ps) → (qs ≡ []) × RunsOn Q had left 0 old new
@@ -154,9 +142,6 @@ shown_pause Q had beside left old new ps qs pause.Ended one p =
       sums = s.sums;
     }
 
-forks_go_on : ◌≡◌ {A = Option Pending} (Some pause.Forks) (Some pause.Ended) → ⊥
-forks_go_on e = cc
-
 -- it forks a child
 shown_fork : (Q : Type 0) (had beside left : ℕ) (old new : State) (ps qs : List (Box State)) (class : Class) (child : Box State) → IsKept old ps → had ≡ beside + 1 → WentToFork Q beside left old ps class child.value new qs →
     Shown Q had left old ps (pauses.Forks class (nested child.value [])) new qs
@@ -179,7 +164,7 @@ shown_fork Q had beside left old new ps qs class child was one f =
       λ ledger. ap (λ f. f ledger) (with_fork-sums made account),
     )) in
     let kept_new = kept_sound new qs sound w.kept.children (subst (λ p. ArePlaced (source_of p.now) (seen_children qs)) (sym l.program) w.kept.nested_is.waiting)
-    (λ e. absurd (forks_go_on (sym f.gives.pending ∙ e))) in
+    (λ e. cc (sym f.gives.pending ∙ e)) in
     let alone_c : IsAlone (nested c []) = (ap (map suspended) (alone_waiting c f.alone), refl, f.gives.fresh.here) in
     let whole_c : whole (nested c []) ≡ suspended (top c) = ap (λ ts. outermost (suspended (top c)) (map suspended ts)) (alone_waiting c f.alone) in
     let fresh : IsFresh (suspended (top new)).program ((suspended (top new)).name ++ (top last).forks ∷ []) 0 (whole (nested c [])) =

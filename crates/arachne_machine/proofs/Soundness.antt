@@ -1,35 +1,21 @@
 -- A sound thread stays sound, and ends in the outcome of its name.
-use Rattle.std.proofs.Common.{◌≡◌, ◌≤◌, ℕ, ◌+◌, List, [], ◌∷◌, ◌++◌, length, map, Option, None, Some, refl, ap, sym, ◌∙◌, subst, arith, rules, length-append}
-use Rattle.std.specs.Prelude.{option_map, option_and_then, slice_get, IsSome}
-use Rattle.std.proofs.lemmas.List.{append-nil, map-append}
-use Rattle.arachne_program.specs.declared.program.Program.{Program}
-use Rattle.arachne_program.specs.declared.meaning.Meaning.{Meaning}
-use Rattle.arachne_program.specs.declared.meaning.Line.{Line}
-use Rattle.arachne_program.specs.Tree.{Source}
-use Rattle.arachne_program.specs.Program.{source_of}
+use Rattle.std.proofs.Common.{◌≡◌, ◌≤◌, ℕ, ◌+◌, List, [], ◌∷◌, ◌++◌, length, map, Option, None, Some, refl, ap, sym, ◌∙◌, subst, arith, rules, length-append, option_map, option_and_then, slice_get, IsSome, append-nil}
+use Rattle.std.proofs.lemmas.List.{map-append}
+use Rattle.arachne_program.specs.declared.{program.Program.Program, meaning.{Meaning.Meaning, Line.Line}}
+use Rattle.arachne_program.specs.{Tree.Source, Program.source_of, Meaning.{task_of, child_of}, Checked.IsChecked}
 use Rattle.arachne_program.specs.Effects.{Task, Evaluate, Child, Effects, task_value, task_effects, line_of, tabulated}
-use Rattle.arachne_program.specs.Meaning.{task_of, child_of}
-use Rattle.arachne_machine.specs.declared.frame.Control.{Control}
-use Rattle.arachne_machine.specs.declared.frame.Control.TheVariants.{Begin, Give, Cover, Forked as Forks, Halved, Awaits, AwaitsHalf, Asks, Frees, Tallies, Ended}
-use Rattle.arachne_machine.specs.declared.pause.Pending.{Pending}
-use Rattle.arachne_machine.specs.declared.pause.Pending.TheVariants as pause
+use Rattle.arachne_machine.specs.{declared.{frame.Control.Control, pause.Pending.Pending}, Strands.Strand}
+use Rattle.arachne_machine.specs.declared.frame.Control.TheVariants.{Forked as Forks, Awaits, AwaitsHalf, Asks, Frees, Tallies, Ended}
 use Rattle.arachne_machine.specs.Suspended.{own_line_of, SameThread, MakesSteps, Forked, Joined, awaited}
-use Rattle.arachne_machine.specs.Strands.{Strand}
-use Rattle.arachne_machine.specs.declared.line.Label.{Label}
+use Rattle.arachne_machine.specs.{declared.line.Label.Label, Account.{Account, untouched, after, with_fork, with_join}}
 use Rattle.arachne_machine.specs.Outcome.{Finished, named_holds, meaning_as, meaning_in, outcome_of, IsOfItsName}
-use Rattle.arachne_machine.specs.Account.{Account, untouched, after, with_fork, with_join}
 use Rattle.arachne_machine.specs.Ending.{child_task, account_joined, ending, account_at_end, work_left, trace_left, unjoined_of, locks_of, forks_here, KeepsForks, resume, resume_account, frames_left, begun, begun_account, fork_awaited, forks_of, lock_freed, releases}
 use Rattle.arachne_machine.specs.Steps.{Goes, GoesWithin, GoesToFork, GivesChild, AwaitsHere, IsNew, IsNumbered, Joins, KeepsOverJoin, Counts, AfterSteps, IsUnchanged, pending_of, suspended, untagged}
-use Rattle.arachne_program.specs.Checked.{IsChecked}
-use Rattle.arachne_machine.specs.Faultless.{IsWithoutFault}
-use Rattle.arachne_machine.specs.Sound.{IsSound}
-use Rattle.arachne_machine.specs.Trace.{Event, with_steps}
-use Rattle.arachne_machine.proofs.Accounts.{after-children}
-use Rattle.arachne_machine.proofs.Frames.{with_steps-add}
-use Rattle.arachne_machine.proofs.Names.{task_below-child, slice_get-seam}
+use Rattle.arachne_machine.specs.{Faultless.IsWithoutFault, Sound.IsSound, Trace.{Event, with_steps}}
+use Rattle.arachne_machine.proofs.{Accounts.after-children, Frames.with_steps-add, Splitting.child_task-found}
+use Rattle.arachne_machine.proofs.{Names.{task_below-child, slice_get-seam}, Tabulated.tabulated-same}
 use Rattle.arachne_machine.proofs.Outlooks.{at_of, ending_at, account_at, work_at, at_faultless, there_keeps}
-use Rattle.arachne_machine.proofs.Splitting.{child_task-found}
-use Rattle.arachne_machine.proofs.Tabulated.{tabulated-same}
+use Rattle.arachne_machine.specs.declared.pause.Pending.TheVariants as pause
 
 -- steps after steps
 pub goes_on : (m n k : ℕ) (a b c : Strand) → Goes m [] a b → Goes n [] b c → k ≡ m + n → Goes k [] a c
@@ -210,18 +196,6 @@ pub with_fork-sums : (task : Child) (a : Account) → (with_fork task a).sums �
 unfolding with_fork
 with_fork-sums task a = refl
 
-with_fork-holds : (task : Child) (a : Account) → (with_fork task a).holds ≡ a.holds
-unfolding with_fork
-with_fork-holds task a = refl
-
-with_fork-lines : (task : Child) (a : Account) → (with_fork task a).lines ≡ a.lines
-unfolding with_fork
-with_fork-lines task a = refl
-
-with_fork-children : (task : Child) (a : Account) → (with_fork task a).children ≡ a.children ++ task ∷ []
-unfolding with_fork
-with_fork-children task a = refl
-
 -- the child that a sound thread forks has its task
 pub fork_has_task : (n handed : ℕ) (answered : List Event) (here : List ℕ) (old new : Strand) (made : Child) (account : Account) → IsSound old account →
     GoesToFork n handed answered here old new made → task_of (source_of old.program.now) (old.own.name ++ old.forks ∷ []) ≡ Some made.task
@@ -234,23 +208,21 @@ sound_child n old new child made account s g =
 
 pub sound_fork : (n handed : ℕ) (answered : List Event) (here : List ℕ) (old new : Strand) (made : Child) (account : Account) → IsSound old account →
     GoesToFork n handed answered here old new made → IsSound new (with_fork made account)
+unfolding with_fork
 sound_fork n handed answered here old new made account s g =
     let kept = g.keeps (fork_has_task n handed answered here old new made account s g) in
     sound_same old new account (with_fork made account) s (record {
       program = ap (λ p. source_of p.now) g.program;
       name = ap (λ o. o.name) g.own;
-      holds = λ locks h. ap (λ o. o.holds) g.own ∙ h ∙ ap (tabulated locks) (sym (with_fork-holds made account));
-      lines = λ h. ap (map named_holds) g.below ∙ h ∙ sym (with_fork-lines made account);
-      forks = λ h. omega (arith, g.forks, h, length-append account.children (made ∷ []), ap length (with_fork-children made account));
+      holds = λ locks h. ap (λ o. o.holds) g.own ∙ h;
+      lines = λ h. ap (map named_holds) g.below ∙ h;
+      forks = λ h. omega (arith, g.forks, h, length-append account.children (made ∷ []));
       ending = kept.ending;
       whole = kept.account account (sym s.forks);
       numbered = λ h. (omega (arith, h.0, g.forks, ap length g.below, ap length g.unjoined), omega (arith, h.1, ap length g.below));
       faultless = kept.faultless;
       keeps = kept.keeps;
     })
-
-none_some : (m : Meaning) → None ≡ Some m → ⊥
-none_some m h = cc
 
 same_some : (x y : Meaning) → Some x ≡ Some y → x ≡ y
 same_some x y h = cc
@@ -260,26 +232,13 @@ pub outcome_task : (source : Source) (name : List ℕ) (m : Meaning) → outcome
     (t : Task) × (task_of source name ≡ Some t) × (meaning_as source name t ≡ m)
 outcome_task source name m h =
     elim (task_of source name) as (λ o. option_map (meaning_as source name) o ≡ Some m → (t : Task) × (o ≡ Some t) × (meaning_as source name t ≡ m)) [
-      | None ↦ λ e. absurd (none_some m e)
+      | None ↦ λ e. cc
       | Some t ↦ λ e. (t, refl, same_some (meaning_as source name t) m e)
     ] h
 
 pub with_join-sums : (locks : ℕ) (name : List ℕ) (n : ℕ) (e : Effects) (a : Account) → (with_join locks name n e a).sums ≡ (λ l. a.sums l + e.sums l)
 unfolding with_join
 with_join-sums locks name n e a = refl
-
-with_join-holds : (locks : ℕ) (name : List ℕ) (n : ℕ) (e : Effects) (a : Account) → (with_join locks name n e a).holds ≡ a.holds
-unfolding with_join
-with_join-holds locks name n e a = refl
-
-with_join-children : (locks : ℕ) (name : List ℕ) (n : ℕ) (e : Effects) (a : Account) → (with_join locks name n e a).children ≡ a.children
-unfolding with_join
-with_join-children locks name n e a = refl
-
-with_join-lines : (locks : ℕ) (name : List ℕ) (n : ℕ) (e : Effects) (a : Account) →
-    (with_join locks name n e a).lines ≡ a.lines ++ (line_of locks (name ++ n ∷ []) e ∷ e.lines (name ++ n ∷ []) 0)
-unfolding with_join
-with_join-lines locks name n e a = refl
 
 -- the outcome is the meaning of the awaited child
 join_means : (old new : Strand) (outcome : Finished) → IsOfItsName outcome → source_of outcome.program ≡ source_of old.program.now → (j : Joins old outcome new) →
@@ -304,6 +263,7 @@ joined_account t number account = account_joined (source_of t.program.now) t.own
 -- A sound thread that joins an outcome of the awaited child stays sound.
 pub sound_join : (old new : Strand) (outcome : Finished) (account : Account) → IsSound old account → IsOfItsName outcome → source_of outcome.program ≡ source_of old.program.now →
     (j : Joins old outcome new) → IsSound new (joined_account old j.number account)
+unfolding with_join
 sound_join old new outcome account s of_name same_source j =
     let source = source_of old.program.now in
     let name = old.own.name in
@@ -315,11 +275,11 @@ sound_join old new outcome account s of_name same_source j =
     sound_same old new account (with_join source.locks name n effects account) s (record {
       program = ap (λ p. source_of p.now) j.program;
       name = ap (λ o. o.name) j.own;
-      holds = λ locks h. ap (λ o. o.holds) j.own ∙ h ∙ ap (tabulated locks) (sym (with_join-holds source.locks name n effects account));
+      holds = λ locks h. ap (λ o. o.holds) j.own ∙ h;
       lines = λ h. ap (map named_holds) j.below.lines_are
           ∙ map-append named_holds old.below outcome.lines ∙ ap (λ l. l ++ map named_holds outcome.lines) h
-          ∙ ap (λ l. account.lines ++ l) lines ∙ sym (with_join-lines source.locks name n effects account);
-      forks = λ h. j.forks ∙ h ∙ ap length (sym (with_join-children source.locks name n effects account));
+          ∙ ap (λ l. account.lines ++ l) lines;
+      forks = λ h. j.forks ∙ h;
       ending = kept.ending;
       whole = kept.account account;
       numbered = λ h. (omega (arith, h.0, j.forks, j.below.more, ap length j.unjoined), j.below.few);
@@ -342,14 +302,6 @@ pub after-sums : (name : List ℕ) (e : Effects) (a : Account) → (after name e
 unfolding after
 after-sums name e a = refl
 
-after-holds : (name : List ℕ) (e : Effects) (a : Account) → (after name e a).holds ≡ (λ l. a.holds l + e.holds l)
-unfolding after
-after-holds name e a = refl
-
-after-lines : (name : List ℕ) (e : Effects) (a : Account) → (after name e a).lines ≡ a.lines ++ e.lines name (length a.children)
-unfolding after
-after-lines name e a = refl
-
 same_meaning : (v v' : ℕ) (t t' : List ℕ) (l l' : List Line) → v ≡ v' → t ≡ t' → l ≡ l' →
     ◌≡◌ {A = Meaning} (record { value = v; totals = t; threads = l }) (record { value = v'; totals = t'; threads = l' })
 same_meaning v v' t t' l l' p q r =
@@ -367,6 +319,7 @@ pub record IsOver (t : Strand) (value : ℕ) (account : Account) : Type 0 where
 pub over_means : (t : Strand) (v : ℕ) (account : Account) → IsSound t account → IsOver t v account →
     outcome_of (source_of t.program.now) t.own.name
     ≡ Some (record { value = v; totals = tabulated (source_of t.program.now).ledgers account.sums; threads = map named_holds (own_line_of (suspended t) ∷ t.below) })
+unfolding after
 over_means t v account s over =
     let source = source_of t.program.now in
     let name = t.own.name in
@@ -377,9 +330,8 @@ over_means t v account s over =
     ap (λ a. tabulated source.ledgers a.sums) whole ∙ ap (tabulated source.ledgers) (after-sums name effects untouched)
     ∙ tabulated-same source.ledgers (λ l. 0 + effects.sums l) effects.sums (λ k. omega arith) in
     let holds : t.own.holds ≡ tabulated source.locks effects.holds =
-    s.holds ∙ ap (λ a. tabulated source.locks a.holds) whole ∙ ap (tabulated source.locks) (after-holds name effects untouched)
-    ∙ tabulated-same source.locks (λ l. 0 + effects.holds l) effects.holds (λ k. omega arith) in
-    let below : map named_holds t.below ≡ effects.lines name 0 = s.lines ∙ ap (λ a. a.lines) whole ∙ after-lines name effects untouched in
+    s.holds ∙ ap (λ a. tabulated source.locks a.holds) whole ∙ tabulated-same source.locks (λ l. 0 + effects.holds l) effects.holds (λ k. omega arith) in
+    let below : map named_holds t.below ≡ effects.lines name 0 = s.lines ∙ ap (λ a. a.lines) whole in
     let line : List ℕ → Line = λ h. record { name = name; holds = h } in
     ap (option_map (meaning_as source name)) s.has_task
     ∙ ap (λ m. Some m) (same_meaning (task_value source.arrays s.task) v (tabulated source.ledgers effects.sums) (tabulated source.ledgers account.sums)
@@ -410,13 +362,14 @@ sound_end t v sums account s ended is =
 -- A sound thread that counts effects of its own stays sound.
 pub sound_counts : (old new : Strand) (answered : Pending) (effects : Effects) (account : Account) → IsSound old account → effects.children ≡ [] → ((name : List ℕ) (next : ℕ) → effects.lines name next ≡ []) →
     Counts answered effects old new → IsSound new (after old.own.name effects account)
+unfolding after
 sound_counts old new answered effects account s no_children no_lines g =
     let name = old.own.name in
     sound_same old new account (after name effects account) s (record {
       program = ap (λ p. source_of p.now) g.program;
       name = g.name;
-      holds = λ locks h. g.holds locks account.holds h ∙ ap (tabulated locks) (sym (after-holds name effects account));
-      lines = λ h. ap (map named_holds) g.below ∙ h ∙ sym (after-lines name effects account ∙ ap (λ l. account.lines ++ l) (no_lines name (length account.children)) ∙ append-nil account.lines);
+      holds = λ locks h. g.holds locks account.holds h;
+      lines = λ h. ap (map named_holds) g.below ∙ h ∙ sym (ap (λ l. account.lines ++ l) (no_lines name (length account.children)) ∙ append-nil account.lines);
       forks = λ h. g.forks ∙ h ∙ sym (ap length (after-children name effects account ∙ ap (λ l. account.children ++ l) no_children ∙ append-nil account.children));
       ending = g.ending;
       whole = g.account account;
@@ -426,27 +379,11 @@ sound_counts old new answered effects account s no_children no_lines g =
     })
 
 pub counted_seen : (old new : Strand) (answered : Pending) (effects : Effects) → Counts answered effects old new → SameThread (suspended old) (suspended new)
-counted_seen old new answered effects g = record {
-  program = ap (λ p. p.now) g.program;
-  name = g.name;
-  label = g.label;
-  forks = g.forks;
-  unjoined = g.unjoined;
-  here = g.here;
-  below = g.below;
-}
+counted_seen old new answered effects g = assumption (ap (λ p. p.now) g.program)
 
 -- The view that callers have of these steps.
 pub same_thread : (n : ℕ) (old new : Strand) → Goes n [] old new → SameThread (suspended old) (suspended new)
-same_thread n old new g = record {
-  program = ap (λ p. p.now) g.program;
-  name = ap (λ o. o.name) g.own;
-  label = ap (λ o. o.label) g.own;
-  forks = g.forks;
-  unjoined = g.unjoined;
-  here = g.here;
-  below = g.below;
-}
+same_thread n old new g = assumption (ap (λ p. p.now) g.program, ap (λ o. o.name) g.own, ap (λ o. o.label) g.own)
 
 pub within_seen : (least most : ℕ) (old new : Strand) → GoesWithin least most old new → MakesSteps least most (suspended old) (suspended new)
 within_seen least most old new w = record { made = w.made; at_least = w.at_least; at_most = w.at_most; work = w.goes.work; trace = sym w.goes.trace }
@@ -474,18 +411,7 @@ forked_seen n old new child made account s given =
       locks = g.locks;
       below = g.below;
       pending = given.pending;
-      fresh = record {
-        same_program = given.fresh.same_program;
-        has_name = given.fresh.has_name;
-        has_label = given.fresh.has_label;
-        no_forks = given.fresh.forks;
-        none_unjoined = given.fresh.unjoined;
-        none_here = given.fresh.here;
-        no_holds = given.fresh.holds;
-        no_locks = given.fresh.locks;
-        none_below = given.fresh.below;
-        not_paused = given.fresh.pending;
-      };
+      fresh = assumption;
       task = made.task;
       is_child = child_made n (work_left child) [] [] old new made account s g;
       childs_work = given.fresh.work;
@@ -497,32 +423,12 @@ forked_seen n old new child made account s given =
       trace = sym kept.trace;
     }
 
-not_running : ◌≡◌ {A = Option Pending} None (Some pause.Joins) → ⊥
-not_running h = cc
-
-not_another : (p : Pending) → (is_joins : Pending → Type 0) → is_joins pause.Joins → (is_joins p → ⊥) → Some p ≡ Some pause.Joins → ⊥
-not_another p is_joins holds fails h =
-    let same : p ≡ pause.Joins = cc in
-    fails (subst is_joins (sym same) holds)
-
-abbrev IsJoins : Pending → Type 0
-IsJoins pause.Joins = Unit {0}
-IsJoins _ = ⊥
-
 -- a thread that awaits a child shows which one it awaits
 awaits_some : (k : Control) (name frames : List ℕ) → pending_of k ≡ Some pause.Joins →
     IsSome (option_map (λ number. name ++ number ∷ []) (slice_get (fork_awaited k ++ frames) 0))
 awaits_some (Awaits number during next) name frames h = search rules
 awaits_some (AwaitsHalf number right reduction) name frames h = search rules
-awaits_some (Begin expr) name frames h = absurd (not_running h)
-awaits_some (Give value) name frames h = absurd (not_running h)
-awaits_some (Cover stretch) name frames h = absurd (not_running h)
-awaits_some (Forks expr) name frames h = absurd (not_another pause.Forks IsJoins tt (λ x. x) h)
-awaits_some (Halved stretch) name frames h = absurd (not_another pause.Forks IsJoins tt (λ x. x) h)
-awaits_some (Asks lock body) name frames h = absurd (not_another (pause.Asks lock) IsJoins tt (λ x. x) h)
-awaits_some (Frees lock value) name frames h = absurd (not_another (pause.Frees lock) IsJoins tt (λ x. x) h)
-awaits_some (Tallies ledger amount body) name frames h = absurd (not_another (pause.Tallies ledger amount) IsJoins tt (λ x. x) h)
-awaits_some (Ended value) name frames h = absurd (not_another pause.Ended IsJoins tt (λ x. x) h)
+awaits_some _ name frames h = cc
 
 pub stopped_seen : (t : Strand) → pending_of t.control ≡ Some pause.Joins → IsSome (awaited (suspended t))
 stopped_seen t h = awaits_some t.control t.own.name (forks_of t.frames) h

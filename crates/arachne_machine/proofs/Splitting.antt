@@ -1,36 +1,23 @@
 -- A fork doesn't change the result of the thread, if the child is the one of the fork's number.
-use Rattle.std.proofs.Common.{◌≡◌, ◌<◌, ℕ, ◌+◌, ◌-◌, ◌/◌, List, [], ◌∷◌, ◌++◌, length, Bool, false, Some, refl, ap, sym, ◌∙◌, subst, arith, append_assoc}
-use Rattle.std.specs.Prelude.{unwrap_or, max}
+use Rattle.std.proofs.Common.{◌≡◌, ◌<◌, ℕ, ◌+◌, ◌-◌, ◌/◌, List, [], ◌∷◌, ◌++◌, length, Bool, false, Some, refl, ap, sym, ◌∙◌, subst, arith, append_assoc, unwrap_or, max, append-nil}
 use Rattle.std.specs.Borrow.{Bor}
-use Rattle.std.proofs.lemmas.List.{append-nil}
-use Rattle.arachne_program.specs.declared.program.Class.{Class}
-use Rattle.arachne_program.specs.declared.program.Class.TheVariants.{Normal}
-use Rattle.arachne_program.specs.declared.program.Expr.{Expr}
-use Rattle.arachne_program.specs.Tree.{Fork, Number, Source}
-use Rattle.arachne_program.specs.Program.{source_of, tree_of}
-use Rattle.arachne_program.specs.Value.{value_of, with_newest, apply, operation_of}
+use Rattle.arachne_program.specs.declared.program.{Class.{Class, TheVariants.Normal}, Expr.Expr}
+use Rattle.arachne_program.specs.{Tree.{Fork, Number, Source}, Program.{source_of, tree_of}, Meaning.task_of}
+use Rattle.arachne_program.specs.{Value.{value_of, with_newest, apply, operation_of}, Checked.node_faults}
 use Rattle.arachne_program.specs.Effects.{Task, Evaluate, Reduce, Child, forked, half, effects_of, task_effects, task_value}
-use Rattle.arachne_program.specs.Meaning.{task_of}
-use Rattle.arachne_machine.specs.declared.frame.Stretch.{Stretch}
-use Rattle.arachne_machine.specs.declared.frame.Frame.{Frame}
-use Rattle.arachne_machine.specs.declared.frame.Frame.TheVariants.{Join, Merge, JoinHere, MergeHere}
-use Rattle.arachne_machine.specs.declared.frame.Control.{Control}
-use Rattle.arachne_machine.specs.declared.frame.Control.TheVariants.{Begin, Cover, Forked, Halved}
-use Rattle.arachne_machine.specs.declared.pause.Pending.TheVariants as pause
-use Rattle.arachne_machine.specs.Strands.{Strand}
-use Rattle.arachne_machine.specs.Account.{Account, after, with_fork, with_join}
-use Rattle.arachne_machine.specs.Work.{work_of, task_work}
-use Rattle.arachne_machine.specs.Trace.{Event, Step, At, trace_of, task_trace}
-use Rattle.arachne_machine.specs.Ending.{child_task, stretch_task, resume_account, begun, begun_account, fork_awaited, lock_freed, forks_of, forks_here, releases, work_left}
-use Rattle.arachne_program.specs.Checked.{node_faults}
-use Rattle.arachne_program.specs.declared.check_fault.CheckFault.TheVariants as fault
-use Rattle.arachne_machine.specs.Faultless.{IsFaultless, IsFaultlessNext, held_by}
-use Rattle.arachne_machine.specs.Steps.{PushesFork, SpawnsChild, GoesToFork, GivesChild, PlacesChild, task_begun, pending_of}
-use Rattle.arachne_machine.proofs.Accounts.{after-sequence, after-forked, after-children}
-use Rattle.arachne_machine.proofs.Frames.{Grows-frames}
-use Rattle.arachne_machine.proofs.Halves.{value_split, effects_split, work_split, trace_split}
+use Rattle.arachne_machine.proofs.{Accounts.{after-sequence, after-forked, after-children}, Frames.Grows-frames}
 use Rattle.arachne_machine.proofs.Faultlessness.{no_faults-append, within_none}
+use Rattle.arachne_machine.proofs.Halves.{value_split, effects_split, work_split, trace_split}
 use Rattle.arachne_machine.proofs.Outlooks.{KeepsTop, SameOutlook, IsAt, LeavesFrames, at_itself, account_at, faultless_at, unjoined_at, here_at, locks_at, same_end}
+use Rattle.arachne_machine.specs.{Account.{Account, after, with_fork, with_join}, Strands.Strand}
+use Rattle.arachne_machine.specs.Ending.{child_task, stretch_task, resume_account, begun, begun_account, fork_awaited, lock_freed, forks_of, forks_here, releases, work_left}
+use Rattle.arachne_machine.specs.{Faultless.{IsFaultless, IsFaultlessNext, held_by}, Work.{work_of, task_work}}
+use Rattle.arachne_machine.specs.Steps.{PushesFork, SpawnsChild, GoesToFork, GivesChild, PlacesChild, task_begun, pending_of}
+use Rattle.arachne_machine.specs.{Trace.{Event, Step, At, trace_of, task_trace}, declared.frame.Control.Control}
+use Rattle.arachne_machine.specs.declared.frame.{Control.TheVariants.{Begin, Cover, Forked, Halved}, Frame.Frame}
+use Rattle.arachne_machine.specs.declared.frame.{Frame.TheVariants.{Join, Merge, JoinHere, MergeHere}, Stretch.Stretch}
+use Rattle.arachne_machine.specs.declared.pause.Pending.TheVariants as pause
+use Rattle.arachne_program.specs.declared.check_fault.CheckFault.TheVariants as fault
 
 -- the task of a child that exists
 pub child_task-found : (source : Source) (name : List ℕ) (n : ℕ) (task : Task) → task_of source (name ++ n ∷ []) ≡ Some task → child_task source name n ≡ task
@@ -81,13 +68,7 @@ forks_by class handed answered old new begins k k' f is_k pushed left left' fork
     let task = task_begun begins env in
     let made = made_as class begins env in
     let at : IsAt source name k (fs ++ []) env old = at_itself old k is_k in
-    let at' : IsAt source name k' (fs ++ f ∷ []) env new = record {
-      source_is = ap (λ p. source_of p.now) pushed.program;
-      name_is = ap (λ o. o.name) pushed.own;
-      control_is = pushed.control_is;
-      frames_are = pushed.frames;
-      environment_is = pushed.environment;
-    } in
+    let at' : IsAt source name k' (fs ++ f ∷ []) env new = assumption (ap (λ p. source_of p.now) pushed.program, ap (λ o. o.name) pushed.own) in
     record {
       program = pushed.program;
       own = pushed.own;

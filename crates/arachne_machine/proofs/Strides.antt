@@ -1,15 +1,11 @@
 -- Steps that are made together, of those that are left.
-use Rattle.std.proofs.Common.{◌≡◌, ℕ, None, Some, refl, sym, subst, ◌∙◌, arith}
-use Rattle.std.specs.Prelude.{IfOk, Result, Ok, Err}
+use Rattle.std.proofs.Common.{◌≡◌, ℕ, None, Some, refl, sym, subst, ◌∙◌, arith, IfOk, Result, Ok, Err}
 use Rattle.std.specs.Borrow.{Bor}
 use Rattle.arachne_program.specs.declared.program.Expr.{Expr}
-use Rattle.arachne_machine.specs.declared.pause.Pending.{Pending}
-use Rattle.arachne_machine.specs.declared.state.State.{State}
-use Rattle.arachne_machine.specs.declared.state.Progress.{Progress}
-use Rattle.arachne_machine.specs.declared.state.Progress.TheVariants as part
-use Rattle.arachne_machine.specs.Strands.{Strand}
-use Rattle.arachne_machine.specs.Steps.{AfterSteps, IsNotEnd, Makes, Reaches, beginning, giving, top}
+use Rattle.arachne_machine.specs.declared.{pause.Pending.Pending, state.{State.State, Progress.Progress}}
+use Rattle.arachne_machine.specs.{Strands.Strand, Steps.{AfterSteps, IsNotEnd, Makes, Reaches, beginning, giving, top}}
 use Rattle.arachne_machine.specs.Runs.{IsOneStep, seen_in}
+use Rattle.arachne_machine.specs.declared.state.Progress.TheVariants as part
 
 -- a value that is known at once
 pub reaches_value : (had value : ℕ) (a c : Strand) → AfterSteps 0 a None (giving c value) → Reaches had had a (part.Value value) c
@@ -41,9 +37,6 @@ reaches_stop had a next c on stops = (refl, (next, on, stops))
 pub ok_then : {X E : Type 0} (r : Result X E) (P Q : X → Type 0) → IfOk r P → ((x : X) → P x → Q x) → IfOk r Q
 ok_then (Ok x) P Q h f = f x h
 ok_then (Err e) P Q h f = tt
-
-pub some_none : (e : Bor Expr) → Some e ≡ None → ⊥
-some_none e h = cc
 
 pub ok_both : {X E : Type 0} (r : Result X E) (L P Q : X → Type 0) → IfOk r L → IfOk r P → ((x : X) → L x → P x → Q x) → IfOk r Q
 ok_both (Ok x) L P Q l h f = f x l h

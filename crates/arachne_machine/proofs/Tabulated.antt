@@ -1,14 +1,9 @@
 -- Tables of numbers modulo 2 ^ 64.
-use Rattle.std.proofs.Common.{◌≡◌, ◌≢◌, set, ℕ, zero, suc, ◌+◌, ◌^◌, ◌<◌, ◌≤◌, inl, inr, List, [], ◌∷◌, ◌++◌, length, get_or, replicate, refl, ap, sym, ◌∙◌, arith, length-append, add-one}
-use Rattle.std.specs.Prelude.{◌==◌, if◌then◌else◌}
-use Rattle.std.proofs.lemmas.Bool.Decides.{eqb_tells}
-use Rattle.std.proofs.lemmas.Option.{slice_get_cases}
+use Rattle.std.proofs.Common.{◌≡◌, ◌≢◌, set, ℕ, zero, suc, ◌+◌, ◌^◌, ◌<◌, ◌≤◌, inl, inr, List, [], ◌∷◌, ◌++◌, length, get_or, replicate, refl, ap, sym, ◌∙◌, arith, length-append, add-one, ◌==◌, if◌then◌else◌}
+use Rattle.std.proofs.{lemmas.{Bool.Decides.eqb_tells, Option.slice_get_cases}, Math.Seq.get_or-append_seam}
 use Rattle.std.proofs.lemmas.List.{ext_get_or, get_or_append_left, get_or-set_other, length-set, set_past}
-use Rattle.std.proofs.Math.Seq.{get_or-append_seam}
-use Rattle.std.proofs.Math.Nat.{add-mod, mod-add-mod, eq-or-lt_of_le}
-use Rattle.std.proofs.lemmas.Grind.{replicate_next, get_or-set_at}
-use Rattle.arachne_program.specs.Value.{wrapped}
-use Rattle.arachne_program.specs.Effects.{tabulated}
+use Rattle.std.proofs.{Math.Nat.{add-mod, mod-add-mod, eq-or-lt_of_le}, lemmas.Grind.{replicate_next, get_or-set_at}}
+use Rattle.arachne_program.specs.{Value.wrapped, Effects.tabulated}
 use Rattle.arachne_machine.specs.Suspended.{raised, added}
 
 pub length-tabulated : (n : ℕ) (f : ℕ → ℕ) → length (tabulated n f) ≡ n

@@ -1,40 +1,24 @@
 -- A child of another state goes on in the place of the thread that awaits it.
-use Rattle.std.proofs.Common.{◌≡◌, length, length-append, ℕ, ◌+◌, List, [], ◌∷◌, ◌++◌, false, None, Some, refl, ap, sym, ◌∙◌, subst, arith}
-use Rattle.std.specs.Prelude.{map, reverse}
+use Rattle.std.proofs.Common.{◌≡◌, length, length-append, ℕ, ◌+◌, List, [], ◌∷◌, ◌++◌, false, None, Some, refl, ap, sym, ◌∙◌, subst, arith, map, reverse}
 use Rattle.std.proofs.lemmas.List.{map-append}
-use Rattle.arachne_program.specs.Program.{source_of}
-use Rattle.arachne_program.specs.Tree.{Source}
-use Rattle.arachne_program.specs.Effects.{Task, tabulated}
-use Rattle.arachne_program.specs.Meaning.{task_of}
-use Rattle.arachne_machine.specs.declared.frame.Frame.{Frame}
-use Rattle.arachne_machine.specs.declared.frame.Frame.TheVariants.{Join, Merge}
-use Rattle.arachne_machine.specs.declared.frame.Control.{Control}
-use Rattle.arachne_machine.specs.declared.frame.Control.TheVariants.{Begin, Give, Cover, Forked, Halved, Awaits, AwaitsHalf, Asks, Frees, Tallies, Ended}
-use Rattle.arachne_machine.specs.declared.level.Parent.{Parent}
-use Rattle.arachne_machine.specs.declared.line.ThreadLine.{ThreadLine}
-use Rattle.arachne_machine.specs.declared.pause.Pending.TheVariants as pause
-use Rattle.arachne_machine.specs.declared.state.State.{State}
+use Rattle.arachne_program.specs.{Program.source_of, Tree.Source, Effects.{Task, tabulated}, Meaning.task_of}
+use Rattle.arachne_machine.specs.declared.frame.Frame.{Frame, TheVariants.{Join, Merge}}
+use Rattle.arachne_machine.specs.declared.frame.Control.{Control, TheVariants.{Give, Awaits, AwaitsHalf}}
+use Rattle.arachne_machine.specs.declared.{level.Parent.Parent, line.ThreadLine.ThreadLine, state.State.State}
 use Rattle.arachne_machine.specs.Ending.{AwaitsFork, IsForkedIn, KeepsForks, begun, ending, environment_of, fork_awaited, frames_left, work_left}
 use Rattle.arachne_machine.specs.Faultless.{IsFaultlessFrame, IsFaultlessNext, IsWithoutFault, held_by}
-use Rattle.arachne_machine.specs.Outcome.{named_holds}
+use Rattle.arachne_machine.specs.{Outcome.named_holds, Sound.{AreSound, IsRunningFor, IsSoundState, RunFor}}
 use Rattle.arachne_machine.specs.Strands.{Strand, Fits, moved_level, moved_parents, moved_place, own_line, strand_at}
 use Rattle.arachne_machine.specs.Steps.{AfterSteps, Becomes, IsPopped, Changes, LeavesOthers, giving, pending_of, suspended, top, waiting, waiting_in}
-use Rattle.arachne_machine.specs.Sound.{AreSound, IsRunningFor, IsSoundState, RunFor}
 use Rattle.arachne_machine.specs.Runs.{StandsBefore, TakesIn, outermost_in, work_in_state, works_left}
-use Rattle.arachne_machine.specs.Suspended.{added, awaited}
-use Rattle.arachne_machine.specs.Nested.{marked, marked_parents, of_program}
-use Rattle.arachne_machine.proofs.Tabulated.{added_is}
-use Rattle.arachne_machine.proofs.Faultlessness.{append-faultless}
+use Rattle.arachne_machine.specs.{Suspended.{added, awaited}, Nested.{marked, marked_parents, of_program}}
+use Rattle.arachne_machine.proofs.{Tabulated.added_is, Faultlessness.append-faultless, Soundness.sound_same}
 use Rattle.arachne_machine.proofs.Outlooks.{IsAt, append-keeps, at_faultless, faultless_at, keeps_there, there_keeps}
-use Rattle.arachne_machine.proofs.Soundness.{sound_same}
-use Rattle.arachne_machine.proofs.Copies.{copy_ending, copy_seen}
-use Rattle.arachne_machine.proofs.Marking.{here_state, marks}
+use Rattle.arachne_machine.proofs.{Copies.{copy_ending, copy_seen}, Marking.{here_state, marks}, Joining.awaited_child}
 use Rattle.arachne_machine.proofs.Moving.{Programs, all_sound, copy_under, fits_moved, last_sound, moved_strand, moved_waiting, programs_waiting, run_moved, seen_under, under, works_moved}
-use Rattle.arachne_machine.proofs.Nesting.{outermost_own, outermost_program}
-use Rattle.arachne_machine.proofs.Joining.{awaited_child}
-use Rattle.arachne_machine.proofs.Handings.{hand_join, hand_merge}
-use Rattle.arachne_machine.proofs.Levels.{changes_leave, leaves_waiting, sound_top, top_becomes}
-use Rattle.arachne_machine.proofs.Going.{start_in}
+use Rattle.arachne_machine.proofs.{Nesting.{outermost_own, outermost_program}, Handings.{hand_join, hand_merge}}
+use Rattle.arachne_machine.proofs.{Levels.{changes_leave, leaves_waiting, sound_top, top_becomes}, Going.start_in}
+use Rattle.arachne_machine.specs.declared.pause.Pending.TheVariants as pause
 
 -- The task of the child that a thread awaits.
 pub record AwaitsTask (t : Strand) (name : List ℕ) : Type 0 where
@@ -56,15 +40,7 @@ awaits_task t name (AwaitsHalf n right reduction) is p keeps of_child = record {
   named = awaited_child t n (AwaitsHalf n right reduction) name is refl of_child;
   forked = subst (λ x. AwaitsFork (source_of t.program.now) t.own.name x t.environment) is keeps.0;
 }
-awaits_task t name (Begin expr) is p keeps of_child = cc
-awaits_task t name (Give value) is p keeps of_child = cc
-awaits_task t name (Cover stretch) is p keeps of_child = cc
-awaits_task t name (Forked expr) is p keeps of_child = cc
-awaits_task t name (Halved stretch) is p keeps of_child = cc
-awaits_task t name (Asks lock body) is p keeps of_child = cc
-awaits_task t name (Frees lock value) is p keeps of_child = cc
-awaits_task t name (Tallies ledger amount body) is p keeps of_child = cc
-awaits_task t name (Ended value) is p keeps of_child = cc
+awaits_task t name _ is p keeps of_child = cc
 
 same_task : (a b : Task) → Some a ≡ Some b → a ≡ b
 same_task a b e = cc
@@ -199,15 +175,7 @@ pub record Unstepped (old new : State) : Type 0 where
   pub pending : pending_of new.control ≡ None
 
 popped_by : (t u : Strand) (f : Frame) (v : ℕ) → Becomes t u t.environment (t.frames ++ f ∷ []) (Give v) → IsPopped f u (giving t v)
-popped_by t u f v b = record {
-  program = b.program;
-  own = b.own;
-  below = b.below;
-  forks = b.forks;
-  environment_is = b.environment_is;
-  frames_are = b.frames_are;
-  control_is = b.control_is;
-}
+popped_by t u f v b = assumption
 
 stepped_by : (t : Strand) (v : ℕ) (k : Control) → t.control ≡ k → Becomes (giving t v) t t.environment t.frames k
 stepped_by t v k is = record { program = refl; own = refl; below = refl; forks = refl; environment_is = refl; frames_are = refl; control_is = is }
@@ -257,13 +225,7 @@ with_frame source name t u f v k at at' left one h =
 
 -- the thread before that step, with that frame
 at_frame : (t u : Strand) (f : Frame) (v : ℕ) → Becomes t u t.environment (t.frames ++ f ∷ []) (Give v) → IsAt (source_of t.program.now) t.own.name (Give v) (t.frames ++ f ∷ []) t.environment u
-at_frame t u f v b = record {
-  source_is = ap (λ p. source_of p.now) b.program;
-  name_is = ap (λ o. o.name) b.own;
-  control_is = b.control_is;
-  frames_are = b.frames_are;
-  environment_is = b.environment_is;
-}
+at_frame t u f v b = assumption (ap (λ p. source_of p.now) b.program, ap (λ o. o.name) b.own)
 
 unstepped_at : (old new : State) (k : Control) → old.control ≡ k → IsSoundState old → StandsBefore k old new → Unstepped old new
 unstepped_at old new (Awaits n v next) is s changed =

@@ -1,24 +1,15 @@
 -- Iterations that are made at once.
 use Rattle.std.proofs.Common.{◌≡◌, ◌≤◌, ◌<◌, ℕ, ◌+◌, ◌-◌, List, [], ◌∷◌, ◌++◌, None, refl, ap, sym, subst, ◌∙◌, arith}
 use Rattle.std.specs.Borrow.{Bor}
-use Rattle.arachne_program.specs.declared.program.Expr.{Expr}
-use Rattle.arachne_program.specs.declared.program.Reduction.{Reduction}
-use Rattle.arachne_program.specs.Tree.{Source, Tree}
-use Rattle.arachne_program.specs.Program.{source_of, tree_of}
-use Rattle.arachne_program.specs.Value.{apply, operation_of, with_newest}
-use Rattle.arachne_machine.specs.declared.frame.Frame.TheVariants.{FoldTurn, SweepTurn}
-use Rattle.arachne_machine.specs.declared.frame.Control.{Control}
-use Rattle.arachne_machine.specs.declared.frame.Control.TheVariants.{Begin, Give}
-use Rattle.arachne_machine.specs.declared.state.State.{State}
-use Rattle.arachne_machine.specs.declared.state.Progress.{Progress}
-use Rattle.arachne_machine.specs.declared.state.Progress.TheVariants as part
-use Rattle.arachne_machine.specs.Pure.{IsWorth}
-use Rattle.arachne_machine.specs.Strands.{Strand}
-use Rattle.arachne_machine.specs.Steps.{AfterSteps, Becomes, ComesToFold, ComesToSweep, IsSame, IsUnchanged, Makes, Reaches, TurnsFold, TurnsSweep, giving, top}
-use Rattle.arachne_machine.specs.Runs.{IsOneStep, seen_in}
+use Rattle.arachne_program.specs.{declared.program.{Expr.Expr, Reduction.Reduction}, Tree.{Source, Tree}}
+use Rattle.arachne_program.specs.{Program.{source_of, tree_of}, Value.{apply, operation_of, with_newest}}
 use Rattle.arachne_machine.proofs.Handings.{hand_fold_turn, hand_sweep_turn, without-one, without-two}
-use Rattle.arachne_machine.proofs.Openings.{Opens, goes_to_value, open_pure}
-use Rattle.arachne_machine.proofs.Soundness.{goes_on}
+use Rattle.arachne_machine.proofs.{Openings.{Opens, goes_to_value, open_pure}, Soundness.goes_on}
+use Rattle.arachne_machine.specs.{Pure.IsWorth, Runs.{IsOneStep, seen_in}, Strands.Strand, declared.state.State.State}
+use Rattle.arachne_machine.specs.Steps.{AfterSteps, Becomes, ComesToFold, ComesToSweep, IsSame, IsUnchanged, Makes, Reaches, TurnsFold, TurnsSweep, giving, top}
+use Rattle.arachne_machine.specs.declared.frame.Control.{Control, TheVariants.{Begin, Give}}
+use Rattle.arachne_machine.specs.declared.{frame.Frame.TheVariants.{FoldTurn, SweepTurn}, state.Progress.Progress}
+use Rattle.arachne_machine.specs.declared.state.Progress.TheVariants as part
 
 after_steps : (m n k : ℕ) (a b c : Strand) → k ≡ m + n → AfterSteps m a None b → AfterSteps n b None c → AfterSteps k a None c
 after_steps m n k a b c is p q = (goes_on m n k a b c p.0 q.0 is, q.1, q.2 ∙ p.2)

@@ -1,13 +1,9 @@
 -- Turns keep the order in which threads wait for each other.
-use Rattle.std.proofs.Common.{◌≡◌, ◌<◌, ℕ, List, [], ◌∷◌, ◌++◌, length, map, reverse, None, Some, refl, ap, sym, ◌∙◌, subst, arith}
-use Rattle.std.specs.Prelude.{slice_get, option_map, IsSome}
+use Rattle.std.proofs.Common.{◌≡◌, ◌<◌, ℕ, List, [], ◌∷◌, ◌++◌, length, map, reverse, None, Some, refl, ap, sym, ◌∙◌, subst, arith, slice_get, option_map, IsSome}
 use Rattle.std.proofs.lemmas.List.{length-map, length-reverse, reverse-append}
-use Rattle.arachne_program.specs.declared.program.Class.{Class}
-use Rattle.arachne_program.specs.declared.program.Program.{Program}
-use Rattle.arachne_machine.specs.Outcome.{Finished}
-use Rattle.arachne_machine.specs.Suspended.{Suspended, SameThread, IsFresh, Forked, Joined, awaited}
-use Rattle.arachne_machine.specs.Nested.{Nested, IsAlone, pending_in}
-use Rattle.arachne_machine.specs.Alone.{key, childs_keys, Waits, Rests}
+use Rattle.arachne_program.specs.declared.program.{Class.Class, Program.Program}
+use Rattle.arachne_machine.specs.{Outcome.Finished, Suspended.{Suspended, SameThread, IsFresh, Forked, Joined, awaited}}
+use Rattle.arachne_machine.specs.{Nested.{Nested, IsAlone, pending_in}, Alone.{key, childs_keys, Waits, Rests}}
 
 pub waits_same : (program : Program) (name name' : List ℕ) (threads : List Nested) (keys : List (Program × List ℕ)) → name' ≡ name →
     Waits program name threads keys → Waits program name' threads keys
@@ -72,11 +68,8 @@ rests_fork program budget class old new child mid threads keys forked same alone
       ),
     )
 
-not_some : IsSome (option_map (λ (n : ℕ). n ∷ []) None) → ⊥
-not_some h = cc
-
 first_of : (l : List ℕ) (name : List ℕ) → IsSome (option_map (λ number. name ++ number ∷ []) (slice_get l 0)) → (n : ℕ) × (others : List ℕ) × (l ≡ n ∷ others)
-first_of [] name h = absurd (not_some h)
+first_of [] name h = cc
 first_of (n ∷ others) name h = (n, others, refl)
 
 -- the needs of a thread that joins, and its state after the join
@@ -87,9 +80,6 @@ pub record IsReady (program : Program) (mid : Suspended) (threads : List Nested)
 
 same_first : (x y : Program × List ℕ) (xs ys : List (Program × List ℕ)) → x ∷ xs ≡ y ∷ ys → (x ≡ y) × (xs ≡ ys)
 same_first x y xs ys h = (cc, cc)
-
-same_tail : (x y : ℕ) (xs ys : List ℕ) → x ∷ xs ≡ y ∷ ys → xs ≡ ys
-same_tail x y xs ys h = cc
 
 pub ready : (program : Program) (old : Nested) (mid : Suspended) (threads : List Nested) (outcome : Finished) (keys : List (Program × List ℕ)) →
     SameThread old.running mid → IsSome (awaited mid) → Rests program (old ∷ threads) (key outcome ∷ keys) → IsReady program mid threads outcome keys
@@ -104,7 +94,7 @@ ready program old mid threads outcome keys same some (newest, waits) =
       of_program = ap (λ k. k.0) both.0;
       of_child = ap (λ l. option_map (λ number. mid.name ++ number ∷ []) (slice_get l 0)) first.2 ∙ ap (λ k. Some k.1) (sym both.0);
       goes_on = λ new alone running joined.
-          let left : others ≡ new.running.unjoined = same_tail n joined.unjoined.0 others new.running.unjoined (sym first.2 ∙ joined.unjoined.1) in (
+          let left : others ≡ new.running.unjoined = cc (sym first.2 ∙ joined.unjoined.1) in (
             record {
               alone = alone;
               same_program = joined.program ∙ same.program ∙ newest.same_program;
@@ -169,11 +159,3 @@ some_outcome program old mid threads outcomes same some (newest, waits) =
     let brought : map key (reverse outcomes) ≡ (program, mid.name ++ first.0 ∷ []) ∷ (childs_keys program mid.name first.1 ++ newest.rest) =
     brought_same program old.running mid (map key (reverse outcomes)) newest.rest same newest.brought ∙ ap (λ l. childs_keys program mid.name l ++ newest.rest) first.2 in
     omega (arith, ap length brought, length-map (reverse outcomes) key, length-reverse outcomes)
-
--- at the end the root's outcome is ready
-pub root_outcome : (program : Program) (outcomes : List Finished) → Rests program [] (map key (reverse outcomes)) → 0 < length outcomes
-root_outcome program outcomes h = omega (arith, ap length h, length-map (reverse outcomes) key, length-reverse outcomes)
-
-pub last_outcome : (program : Program) (outcomes left : List Finished) (outcome : Finished) → outcomes ≡ left ++ outcome ∷ [] → Rests program [] (map key (reverse outcomes)) → key outcome ≡ (program, [])
-last_outcome program outcomes left outcome popped h =
-    (same_first (key outcome) (program, []) (map key (reverse left)) [] (ap (map key) (sym (pushed left outcomes outcome popped)) ∙ h)).0

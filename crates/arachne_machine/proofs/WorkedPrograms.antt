@@ -1,12 +1,9 @@
 -- The steps and the traces of worked programs.
 use Rattle.std.proofs.Common.{◌≡◌, ◌∷◌, [], refl}
-use Rattle.arachne_program.specs.declared.program.Class.TheVariants.{Normal, Exclusive}
-use Rattle.arachne_program.specs.declared.program.Operation.TheVariants.{Add}
+use Rattle.arachne_program.specs.declared.program.{Class.TheVariants.{Normal, Exclusive}, Operation.TheVariants.Add}
 use Rattle.arachne_program.specs.declared.program.Reduction.TheVariants.{Sum, Least, Greatest}
-use Rattle.arachne_program.specs.Tree.{Number, Variable, Binary, Bind, Tally, Hold, Fork, Fold, Sweep}
-use Rattle.arachne_program.specs.Effects.{Reduce}
-use Rattle.arachne_machine.specs.declared.pause.Pending.TheVariants.{Forks, Joins, Asks, Frees, Tallies}
-use Rattle.arachne_machine.specs.Work.{work_of}
+use Rattle.arachne_program.specs.{Tree.{Number, Variable, Binary, Bind, Tally, Hold, Fork, Fold, Sweep}, Effects.Reduce}
+use Rattle.arachne_machine.specs.{declared.pause.Pending.TheVariants.{Forks, Joins, Asks, Frees, Tallies}, Work.work_of}
 use Rattle.arachne_machine.specs.Trace.{Step, At, with_steps, trace_of, task_trace}
 
 -- one step for each node

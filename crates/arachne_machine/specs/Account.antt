@@ -1,7 +1,6 @@
 -- The effects of a thread so far, beside its value.
 use Rattle.std.specs.Prelude.{ℕ, ◌+◌, List, [], ◌∷◌, ◌++◌, length}
-use Rattle.arachne_program.specs.declared.meaning.Line.{Line}
-use Rattle.arachne_program.specs.Effects.{Child, Effects, line_of}
+use Rattle.arachne_program.specs.{declared.meaning.Line.Line, Effects.{Child, Effects, line_of}}
 
 pub record Account : Type 0 where
   -- for each ledger, the sum of all that was added to it, by the joined children too

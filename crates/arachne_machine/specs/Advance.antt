@@ -1,21 +1,15 @@
 -- The results of a thread's calls.
 use Rattle.std.specs.Prelude.{◌≡◌, ◌+◌, ◌-◌, ◌<◌, ℕ, List, [], ◌∷◌, Option, None, Some, IsSome, Result, Ok, Err}
-use Rattle.arachne_machine.specs.declared.pause.Pending.{Pending}
-use Rattle.arachne_machine.specs.declared.pause.Pending.TheVariants as pause
-use Rattle.arachne_machine.specs.declared.pause.Pause.{Pause}
-use Rattle.arachne_machine.specs.declared.pause.Pause.TheVariants as pauses
-use Rattle.arachne_machine.specs.declared.pause.NotJoined.{NotJoined}
-use Rattle.arachne_machine.specs.declared.pause.NotJoined.TheVariants as refused
-use Rattle.arachne_machine.specs.declared.pause.NotPlaced.{NotPlaced}
-use Rattle.arachne_machine.specs.declared.pause.NotPlaced.TheVariants as unplaced
 use Rattle.std.specs.Global.{Box}
-use Rattle.arachne_program.specs.declared.program.Class.{Class}
-use Rattle.arachne_machine.specs.declared.state.State.{State}
-use Rattle.arachne_machine.specs.Kept.{nested}
-use Rattle.arachne_machine.specs.Faultless.{PausesWithin}
+use Rattle.arachne_machine.specs.declared.pause.{Pending.Pending, Pause.Pause, NotJoined.NotJoined, NotPlaced.NotPlaced}
+use Rattle.arachne_machine.specs.{declared.state.State.State, Kept.nested, Faultless.PausesWithin}
 use Rattle.arachne_machine.specs.Nested.{Nested, AwaitsElsewhere, FallsBy, IsAlone, IsChildOf, IsForked, SameWhole, Stops, pending_in, whole, work_in}
-use Rattle.arachne_machine.specs.Outcome.{Finished}
-use Rattle.arachne_machine.specs.Suspended.{Suspended, SameThread, MakesSteps, Forked, awaited}
+use Rattle.arachne_machine.specs.{Outcome.Finished, Suspended.{Suspended, SameThread, MakesSteps, Forked, awaited}}
+use Rattle.arachne_machine.specs.declared.pause.Pending.TheVariants as pause
+use Rattle.arachne_machine.specs.declared.pause.Pause.TheVariants as pauses
+use Rattle.arachne_machine.specs.declared.pause.NotJoined.TheVariants as refused
+use Rattle.arachne_machine.specs.declared.pause.NotPlaced.TheVariants as unplaced
+use Rattle.arachne_program.specs.declared.program.Class.{Class}
 
 -- The change that an advance makes to a thread in whose place no other runs, given the pause that it returns.
 abbrev pub Advanced : ℕ → Suspended → Pause → Suspended → Type 0

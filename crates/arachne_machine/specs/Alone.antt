@@ -1,10 +1,8 @@
 -- The way in which the threads of a program wait for each other if only one of them goes on at a time.
 use Rattle.std.specs.Prelude.{◌≡◌, ℕ, ◌+◌, ◌*◌, List, [], ◌∷◌, ◌++◌, None}
 use Rattle.arachne_program.specs.declared.program.Program.{Program}
-use Rattle.arachne_machine.specs.Outcome.{Finished}
-use Rattle.arachne_machine.specs.Nested.{Nested, IsAlone, pending_in, whole}
-use Rattle.arachne_machine.specs.declared.alone.Turn.{Turn}
-use Rattle.arachne_machine.specs.declared.alone.Turn.TheVariants.{Goes, Forks, Ends}
+use Rattle.arachne_machine.specs.{Outcome.Finished, Nested.{Nested, IsAlone, pending_in, whole}}
+use Rattle.arachne_machine.specs.declared.alone.Turn.{Turn, TheVariants.{Goes, Forks, Ends}}
 
 -- the program and the thread's name of an outcome
 abbrev pub key : Finished → Program × List ℕ

@@ -1,22 +1,16 @@
 -- The result that a suspended thread will have.
 use Rattle.std.specs.Prelude.{◌≡◌, ℕ, ◌+◌, ◌-◌, ◌==◌, if◌then◌else◌, List, [], ◌∷◌, ◌++◌, Some, unwrap_or, take, length, slice_index}
-use Rattle.arachne_program.specs.declared.program.Operation.{Operation}
-use Rattle.arachne_program.specs.Tree.{Tree, Source, Number}
-use Rattle.arachne_program.specs.Program.{source_of, tree_of}
-use Rattle.arachne_program.specs.Value.{Environment, with_newest, value_of, array_at, apply, operation_of}
 use Rattle.arachne_program.specs.Effects.{Task, Evaluate, Reduce, task_value, task_effects, effects_of, tallied, held}
-use Rattle.arachne_program.specs.Meaning.{task_of}
-use Rattle.arachne_machine.specs.declared.frame.Stretch.{Stretch}
-use Rattle.arachne_machine.specs.declared.frame.Frame.{Frame}
+use Rattle.arachne_program.specs.{Meaning.task_of, Program.{source_of, tree_of}, Tree.{Tree, Source, Number}}
+use Rattle.arachne_program.specs.Value.{Environment, with_newest, value_of, array_at, apply, operation_of}
+use Rattle.arachne_program.specs.declared.program.Operation.{Operation}
+use Rattle.arachne_machine.specs.{declared.frame.{Stretch.Stretch, Frame.Frame, Control.Control}, Strands.Strand}
 use Rattle.arachne_machine.specs.declared.frame.Frame.TheVariants.{Index, Right, Apply, Branch, Extend, Amount, Release, Join, Merge, JoinHere, MergeHere, FoldTo, FoldFirst, FoldStart, FoldTurn, SweepTo, SweepStart, SweepTurn, Restore}
-use Rattle.arachne_machine.specs.declared.frame.Control.{Control}
 use Rattle.arachne_machine.specs.declared.frame.Control.TheVariants.{Begin, Give, Cover, Forked, Halved, Awaits, AwaitsHalf, Asks, Frees, Tallies, Ended}
-use Rattle.arachne_machine.specs.Strands.{Strand}
-use Rattle.arachne_machine.specs.declared.pause.Pending.TheVariants as pause
-use Rattle.arachne_machine.specs.Work.{work_of, task_work}
-use Rattle.arachne_machine.specs.Trace.{Event, Step, At, trace_of, task_trace}
+use Rattle.arachne_machine.specs.{Work.{work_of, task_work}, Trace.{Event, Step, At, trace_of, task_trace}}
 use Rattle.arachne_machine.specs.Turns.{folded, folded_effects, folded_work, folded_trace, swept, swept_effects, swept_work, swept_trace}
 use Rattle.arachne_machine.specs.Account.{Account, after, with_join}
+use Rattle.arachne_machine.specs.declared.pause.Pending.TheVariants as pause
 
 -- the environment and the value that a part of the evaluation leaves
 pub record Status : Type 0 where

@@ -1,17 +1,12 @@
 -- The properties of the threads of a checked program: nothing that they will begin has a fault, and they hold at most
 -- one lock.
 use Rattle.std.specs.Prelude.{◌≡◌, ◌≤◌, ◌<◌, ℕ, Bool, true, false, List, [], ◌∷◌, length, Option, None, Some}
-use Rattle.arachne_program.specs.Tree.{Tree, Source}
-use Rattle.arachne_program.specs.Program.{source_of, tree_of}
-use Rattle.arachne_program.specs.Checked.{NodeFault, node_faults}
-use Rattle.arachne_machine.specs.declared.frame.Frame.{Frame}
+use Rattle.arachne_program.specs.{Tree.{Tree, Source}, Program.{source_of, tree_of}, Checked.{NodeFault, node_faults}}
+use Rattle.arachne_machine.specs.declared.{frame.{Frame.Frame, Control.Control}, pause.Pending.Pending}
 use Rattle.arachne_machine.specs.declared.frame.Frame.TheVariants.{Index, Right, Apply, Branch, Extend, Amount, Release, Join, Merge, JoinHere, MergeHere, FoldTo, FoldFirst, FoldStart, FoldTurn, SweepTo, SweepStart, SweepTurn, Restore}
-use Rattle.arachne_machine.specs.declared.frame.Control.{Control}
 use Rattle.arachne_machine.specs.declared.frame.Control.TheVariants.{Begin, Give, Cover, Forked, Halved, Awaits, AwaitsHalf, Asks, Frees, Tallies, Ended}
-use Rattle.arachne_machine.specs.declared.pause.Pending.{Pending}
+use Rattle.arachne_machine.specs.{Strands.Strand, Suspended.Suspended}
 use Rattle.arachne_machine.specs.declared.pause.Pending.TheVariants as pause
-use Rattle.arachne_machine.specs.Strands.{Strand}
-use Rattle.arachne_machine.specs.Suspended.{Suspended}
 
 -- no node of these has a fault
 abbrev pub NoFaults : List (Option NodeFault) → Type 0

@@ -2,18 +2,13 @@
 use Rattle.std.specs.Prelude.{◌≡◌, ◌≢◌, ◌≤◌, ℕ, ◌+◌, Bool, true, false, List, [], ◌∷◌, ◌++◌, map, reverse, All, Option, None, Some, Result, Ok, Err}
 use Rattle.std.specs.Global.{Box}
 use Rattle.arachne_machine.specs.declared.line.Ran.TheVariants as ways
-use Rattle.arachne_machine.specs.declared.placed.Unplaced.{Unplaced}
-use Rattle.arachne_machine.specs.declared.placed.Unplaced.TheVariants.{Foreign, Memory}
-use Rattle.arachne_machine.specs.declared.state.State.{State}
-use Rattle.arachne_program.specs.declared.program.Class.{Class}
-use Rattle.arachne_program.specs.Effects.{tabulated}
-use Rattle.arachne_machine.specs.declared.pause.Pending.{Pending}
-use Rattle.arachne_machine.specs.declared.pause.Pending.TheVariants as pause
-use Rattle.arachne_machine.specs.Suspended.{awaited}
 use Rattle.arachne_machine.specs.Nested.{AwaitsElsewhere, IsRest, Nested, Placed, IsNested, work_in}
-use Rattle.arachne_machine.specs.Runs.{LooksSame, RunsOn, StandsBefore, TakesIn, after_fork}
+use Rattle.arachne_machine.specs.{Runs.{LooksSame, RunsOn, StandsBefore, TakesIn, after_fork}, Sound.IsSoundState}
 use Rattle.arachne_machine.specs.Steps.{AfterSteps, GivesChild, IsSame, LeavesOthers, Turns, pending_of, suspended, task_begun, top, waiting_in}
-use Rattle.arachne_machine.specs.Sound.{IsSoundState}
+use Rattle.arachne_machine.specs.{Suspended.awaited, declared.{pause.Pending.Pending, placed.Unplaced.Unplaced}}
+use Rattle.arachne_machine.specs.declared.{placed.Unplaced.TheVariants.{Foreign, Memory}, state.State.State}
+use Rattle.arachne_program.specs.{declared.program.Class.Class, Effects.tabulated}
+use Rattle.arachne_machine.specs.declared.pause.Pending.TheVariants as pause
 
 -- a child that was handed back
 abbrev pub seen_child : Box State → Placed

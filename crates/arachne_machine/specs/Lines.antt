@@ -1,26 +1,36 @@
 -- The lines of threads in the form in which they are kept until a run is over.
-use Rattle.std.specs.Prelude.{◌≡◌, ◌≤◌, ◌<◌, ℕ, ◌+◌, ◌*◌, ◌^◌, ◌==◌, if◌then◌else◌, List, [], ◌∷◌, ◌++◌, drop, get_or, length, set, take}
+use Rattle.std.specs.Prelude.{◌≡◌, ◌≤◌, ◌<◌, ℕ, ◌+◌, ◌*◌, ◌/◌, ◌%◌, ◌^◌, ◌==◌, if◌then◌else◌, List, [], ◌∷◌, ◌++◌, drop, get_or, length, set, take}
 use Rattle.arachne_program.specs.Effects.{tabulated}
-use Rattle.arachne_machine.specs.declared.line.ThreadLine.{ThreadLine}
-use Rattle.arachne_machine.specs.declared.line_list.Mark.{Mark}
+use Rattle.arachne_machine.specs.declared.{line.{Ran.Ran, ThreadLine.ThreadLine}, line_list.Mark.Mark}
+use Rattle.arachne_machine.specs.declared.line.Ran.TheVariants as ways
 
--- a list of lines of threads of a program with this number of locks
+-- a list of lines of threads of a program with this number of locks; `quarter` is the two highest bits of their tags
 pub record Listed : Type 0 where
   pub locks : ℕ
+  pub quarter : ℕ
   pub lines : List ThreadLine
 
--- the line of this thread, with these holds
-abbrev pub line_with : Mark → List ℕ → ThreadLine
-line_with mark holds = record { name = mark.name; tag = mark.label.tag; holds = holds; ran = mark.label.ran }
+-- the kind of thread slot that has this number
+abbrev pub ran_of : ℕ → Ran
+ran_of code = if code == 0 then ways.Slot else if code == 1 then ways.Spill else ways.InPlace
+
+-- the line of this thread, whose tag has these two highest bits, with these holds
+abbrev pub line_with : ℕ → Mark → List ℕ → ThreadLine
+line_with quarter mark holds = record { name = mark.name; tag = quarter * 2 ^ 62 + mark.label / 4; holds = holds; ran = ran_of (mark.label % 4) }
 
 -- the lines of these threads: `holds` has as many numbers for each of them in turn as there are locks
-abbrev pub with_holds : ℕ → List Mark → List ℕ → List ThreadLine
-with_holds locks [] holds = []
-with_holds locks (mark ∷ marks) holds = line_with mark (take locks holds) ∷ with_holds locks marks (drop locks holds)
+abbrev pub with_holds : ℕ → ℕ → List Mark → List ℕ → List ThreadLine
+with_holds quarter locks [] holds = []
+with_holds quarter locks (mark ∷ marks) holds = line_with quarter mark (take locks holds) ∷ with_holds quarter locks marks (drop locks holds)
 
 -- there are as many numbers for each thread as there are locks
 abbrev pub AreHoldsOf : ℕ → List Mark → List ℕ → Type 0
 AreHoldsOf locks marks holds = length holds ≡ length marks * locks
+
+-- the numbers fit the threads, and a quarter is two bits
+pub record AreKept (quarter locks : ℕ) (marks : List Mark) (holds : List ℕ) : Type 0 where
+  pub fit : AreHoldsOf locks marks holds
+  pub four : quarter < 4
 
 -- the lines in these lists
 abbrev pub lines_in : List Listed → List ThreadLine

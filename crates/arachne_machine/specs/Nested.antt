@@ -1,17 +1,11 @@
 -- The view that callers have of a thread with the threads that run in its place.
 use Rattle.std.specs.Prelude.{◌≡◌, ◌≢◌, ◌≤◌, ℕ, ◌+◌, List, [], ◌∷◌, ◌++◌, map, Option, None, Some}
-use Rattle.arachne_program.specs.declared.program.Program.{Program}
-use Rattle.arachne_program.specs.declared.program.Class.{Class}
-use Rattle.arachne_program.specs.Effects.{Task, tabulated}
-use Rattle.arachne_program.specs.Meaning.{child_of}
-use Rattle.arachne_program.specs.Tree.{Source}
-use Rattle.arachne_program.specs.Program.{source_of}
+use Rattle.arachne_program.specs.{declared.program.{Program.Program, Class.Class}, Effects.{Task, tabulated}}
+use Rattle.arachne_program.specs.{Meaning.child_of, Tree.Source, Program.source_of}
 use Rattle.arachne_machine.specs.declared.line.Ran.TheVariants as ways
-use Rattle.arachne_machine.specs.declared.pause.Pending.{Pending}
-use Rattle.arachne_machine.specs.declared.pause.Pending.TheVariants as pause
-use Rattle.arachne_machine.specs.Trace.{At, task_trace}
-use Rattle.arachne_machine.specs.Work.{task_work}
+use Rattle.arachne_machine.specs.{declared.pause.Pending.Pending, Trace.{At, task_trace}, Work.task_work}
 use Rattle.arachne_machine.specs.Suspended.{Suspended, IsAnswered, IsFresh, SameThread, added, awaited}
+use Rattle.arachne_machine.specs.declared.pause.Pending.TheVariants as pause
 
 -- a child that was handed back to run in its parent's place and is not awaited yet, with the threads that run in its
 -- own

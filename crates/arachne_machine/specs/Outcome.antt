@@ -1,14 +1,9 @@
 -- The outcome of a thread.
 use Rattle.std.specs.Prelude.{◌≡◌, ℕ, List, ◌∷◌, map, Option, Some, option_map}
-use Rattle.arachne_program.specs.declared.program.Program.{Program}
-use Rattle.arachne_program.specs.declared.meaning.Line.{Line}
-use Rattle.arachne_program.specs.declared.meaning.Meaning.{Meaning}
-use Rattle.arachne_program.specs.Tree.{Source}
-use Rattle.arachne_program.specs.Program.{source_of}
-use Rattle.arachne_program.specs.Effects.{Task, task_value, task_effects, line_of, tabulated}
-use Rattle.arachne_program.specs.Meaning.{task_of}
-use Rattle.arachne_machine.specs.declared.line.ThreadLine.{ThreadLine}
-use Rattle.arachne_machine.specs.declared.contents.Contents.{Contents}
+use Rattle.arachne_program.specs.declared.{program.Program.Program, meaning.{Line.Line, Meaning.Meaning}}
+use Rattle.arachne_program.specs.{Tree.Source, Program.source_of}
+use Rattle.arachne_program.specs.{Effects.{Task, task_value, task_effects, line_of, tabulated}, Meaning.task_of}
+use Rattle.arachne_machine.specs.declared.{line.ThreadLine.ThreadLine, contents.Contents.Contents}
 
 -- The meaning of a task as that of the thread of this name: its value, its sum for each ledger, and the thread's line
 -- before the lines of the threads below it.

@@ -1,10 +1,8 @@
 -- Expressions that fork, hold and tally nothing.
 use Rattle.std.specs.Prelude.{◌≡◌, ℕ, ◌+◌, []}
-use Rattle.arachne_program.specs.Tree.{Tree, Number, Variable, Source}
-use Rattle.arachne_program.specs.Value.{Environment, value_of}
+use Rattle.arachne_program.specs.{Tree.{Tree, Number, Variable, Source}, Value.{Environment, value_of}}
 use Rattle.arachne_program.specs.Effects.{nothing, effects_of}
-use Rattle.arachne_machine.specs.Work.{work_of}
-use Rattle.arachne_machine.specs.Trace.{with_steps, trace_of}
+use Rattle.arachne_machine.specs.{Work.work_of, Trace.{with_steps, trace_of}}
 
 -- a number or a variable
 abbrev pub IsLeaf : Tree → Type 0

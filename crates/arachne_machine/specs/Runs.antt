@@ -1,32 +1,19 @@
 -- The changes that an advance makes to a state.
 use Rattle.std.specs.Prelude.{◌≡◌, ◌≤◌, ◌<◌, ℕ, ◌+◌, ◌^◌, ◌==◌, if◌then◌else◌, List, [], ◌∷◌, ◌++◌, length, reverse, Option, None, Some}
-use Rattle.std.specs.Borrow.{Bor}
-use Rattle.std.specs.Global.{Box}
-use Rattle.arachne_program.specs.declared.program.Class.{Class}
-use Rattle.arachne_program.specs.declared.program.Expr.{Expr}
-use Rattle.arachne_program.specs.Effects.{tabulated}
-use Rattle.arachne_machine.specs.declared.frame.Frame.{Frame}
-use Rattle.arachne_machine.specs.declared.frame.Frame.TheVariants.{FoldTurn, Join, Merge, Restore, SweepTurn}
-use Rattle.arachne_machine.specs.declared.frame.Control.{Control}
-use Rattle.arachne_machine.specs.declared.frame.Control.TheVariants.{Begin, Give, Cover, Forked, Halved, Awaits, AwaitsHalf}
-use Rattle.arachne_machine.specs.declared.state.Progress.{Progress}
-use Rattle.arachne_machine.specs.declared.state.Progress.TheVariants as progress
-use Rattle.arachne_program.specs.declared.program.Reduction.{Reduction}
+use Rattle.std.specs.{Borrow.Bor, Global.Box}
+use Rattle.arachne_program.specs.{declared.program.{Class.Class, Expr.Expr, Reduction.Reduction}, Effects.tabulated}
 use Rattle.arachne_program.specs.Value.{Environment, apply, operation_of, with_newest}
-use Rattle.arachne_machine.specs.declared.level.Parent.{Parent}
-use Rattle.arachne_machine.specs.declared.line.Ran.TheVariants as ways
-use Rattle.arachne_machine.specs.declared.line.ThreadLine.{ThreadLine}
-use Rattle.arachne_machine.specs.declared.state.Own.{Own}
-use Rattle.arachne_machine.specs.declared.state.State.{State}
-use Rattle.arachne_machine.specs.Lines.{CountsHoldAt}
-use Rattle.arachne_machine.specs.Ending.{fork_awaited, here_of, locks_of, work_left}
-use Rattle.arachne_machine.specs.Outcome.{Finished}
-use Rattle.arachne_machine.specs.Suspended.{awaited}
-use Rattle.arachne_machine.specs.Strands.{Fits, Strand, moved_level, moved_parents, own_line}
-use Rattle.arachne_machine.specs.declared.pause.Pending.{Pending}
-use Rattle.arachne_machine.specs.declared.pause.Pending.TheVariants as pause
+use Rattle.arachne_machine.specs.declared.frame.Frame.{Frame, TheVariants.{FoldTurn, Join, Merge, Restore, SweepTurn}}
+use Rattle.arachne_machine.specs.declared.{frame.Control.Control, state.Progress.Progress, level.Parent.Parent}
+use Rattle.arachne_machine.specs.declared.frame.Control.TheVariants.{Begin, Give, Cover, Forked, Halved, Awaits, AwaitsHalf}
+use Rattle.arachne_machine.specs.declared.{line.ThreadLine.ThreadLine, state.{Own.Own, State.State}}
+use Rattle.arachne_machine.specs.{Lines.CountsHoldAt, Ending.{fork_awaited, here_of, locks_of, work_left}}
+use Rattle.arachne_machine.specs.{Outcome.Finished, Suspended.awaited, declared.pause.Pending.Pending}
+use Rattle.arachne_machine.specs.{Strands.{Fits, Strand, moved_level, moved_parents, own_line}, Sound.IsSoundState}
 use Rattle.arachne_machine.specs.Steps.{AfterSteps, HasRoom, Changes, GivesChild, Goes, IsLeftOver, IsSame, LeavesOthers, Turns, pending_of, suspended, task_begun, top, waiting_in}
-use Rattle.arachne_machine.specs.Sound.{IsSoundState}
+use Rattle.arachne_machine.specs.declared.state.Progress.TheVariants as progress
+use Rattle.arachne_machine.specs.declared.line.Ran.TheVariants as ways
+use Rattle.arachne_machine.specs.declared.pause.Pending.TheVariants as pause
 
 -- the steps that these threads have left
 abbrev pub works_left : List Strand → ℕ

@@ -1,17 +1,11 @@
 -- Sound threads: those that will end with the outcome of their name, and without fault in a checked program.
 use Rattle.std.specs.Prelude.{◌≡◌, ◌<◌, ◌^◌, ℕ, ◌+◌, List, [], ◌∷◌, ◌++◌, length, map, reverse, Some}
-use Rattle.arachne_program.specs.Program.{source_of}
-use Rattle.arachne_program.specs.Effects.{Task, task_value, task_effects, tabulated}
-use Rattle.arachne_program.specs.Meaning.{task_of}
-use Rattle.arachne_program.specs.Checked.{IsChecked}
+use Rattle.arachne_program.specs.{Program.source_of, Effects.{Task, task_value, task_effects, tabulated}}
+use Rattle.arachne_program.specs.{Meaning.task_of, Checked.IsChecked}
 use Rattle.arachne_machine.specs.declared.line.Ran.TheVariants as ways
-use Rattle.arachne_machine.specs.declared.state.State.{State}
-use Rattle.arachne_machine.specs.Outcome.{named_holds}
-use Rattle.arachne_machine.specs.Account.{Account, untouched, after}
+use Rattle.arachne_machine.specs.{declared.state.State.State, Outcome.named_holds, Account.{Account, untouched, after}}
 use Rattle.arachne_machine.specs.Ending.{ending, account_at_end, environment_of, fork_awaited, KeepsForks}
-use Rattle.arachne_machine.specs.Faultless.{IsWithoutFault}
-use Rattle.arachne_machine.specs.Strands.{Strand, Fits}
-use Rattle.arachne_machine.specs.Steps.{IsNumbered, top, waiting_in}
+use Rattle.arachne_machine.specs.{Faultless.IsWithoutFault, Strands.{Strand, Fits}, Steps.{IsNumbered, top, waiting_in}}
 
 -- The thread, with what it has done so far, will have done its task in the end. The children that it has forked and
 -- those that it will still fork are the task's children; and the same is true of sums, holds and lines.

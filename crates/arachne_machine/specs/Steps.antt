@@ -1,38 +1,22 @@
 -- The changes that a thread's steps make to it.
 use Rattle.std.specs.Prelude.{◌≡◌, ◌≤◌, ◌<◌, ℕ, ◌+◌, ◌^◌, false, List, [], ◌∷◌, ◌++◌, length, reverse, take, vec_len, vec_capacity, Option, None, Some}
-use Rattle.arachne_program.specs.declared.program.Program.{Program}
-use Rattle.arachne_program.specs.declared.program.Class.{Class}
-use Rattle.arachne_program.specs.declared.program.Reduction.{Reduction}
-use Rattle.arachne_program.specs.declared.program.Expr.{Expr}
 use Rattle.std.specs.Borrow.{Bor}
-use Rattle.arachne_program.specs.Tree.{Number}
-use Rattle.arachne_program.specs.Program.{source_of, tree_of}
-use Rattle.arachne_program.specs.Value.{Environment, with_newest}
+use Rattle.arachne_program.specs.declared.program.{Program.Program, Class.Class, Reduction.Reduction, Expr.Expr}
+use Rattle.arachne_program.specs.{Tree.Number, Program.{source_of, tree_of}, Value.{Environment, with_newest}}
 use Rattle.arachne_program.specs.Effects.{Task, Evaluate, Child, Effects, task_value, task_effects, tabulated}
 use Rattle.arachne_program.specs.Meaning.{task_of}
-use Rattle.arachne_machine.specs.declared.frame.Frame.{Frame}
+use Rattle.arachne_machine.specs.declared.{frame.{Frame.Frame, Control.Control}, pause.Pending.Pending, state.Own.Own}
 use Rattle.arachne_machine.specs.declared.frame.Frame.TheVariants.{FoldTo, FoldFirst, FoldStart, FoldTurn, SweepTo, SweepStart, SweepTurn, Amount, Release, Join, Merge, JoinHere, MergeHere}
-use Rattle.arachne_machine.specs.declared.frame.Control.{Control}
 use Rattle.arachne_machine.specs.declared.frame.Control.TheVariants.{Begin, Give, Cover, Forked, Halved, Awaits, AwaitsHalf, Asks, Frees, Tallies, Ended}
-use Rattle.arachne_machine.specs.declared.pause.Pending.{Pending}
-use Rattle.arachne_machine.specs.declared.pause.Pending.TheVariants as pause
-use Rattle.arachne_machine.specs.declared.state.Own.{Own}
-use Rattle.arachne_machine.specs.declared.state.State.{State}
-use Rattle.arachne_machine.specs.declared.state.Progress.{Progress}
-use Rattle.arachne_machine.specs.declared.state.Progress.TheVariants as part
-use Rattle.arachne_machine.specs.declared.line.Ran.TheVariants as ways
-use Rattle.arachne_machine.specs.declared.level.Parent.{Parent}
-use Rattle.arachne_machine.specs.declared.line.Label.{Label}
-use Rattle.arachne_machine.specs.Strands.{Owned, Strand, strand_at}
-use Rattle.arachne_machine.specs.Lines.{Gains}
-use Rattle.arachne_machine.specs.Outcome.{Finished}
-use Rattle.arachne_machine.specs.Account.{Account, untouched, after, with_fork}
-use Rattle.arachne_machine.specs.declared.line.ThreadLine.{ThreadLine}
-use Rattle.arachne_machine.specs.Suspended.{Suspended}
-use Rattle.arachne_machine.specs.Work.{task_work}
-use Rattle.arachne_machine.specs.Trace.{Event, At, with_steps, task_trace}
+use Rattle.arachne_machine.specs.declared.{state.{State.State, Progress.Progress}, level.Parent.Parent}
+use Rattle.arachne_machine.specs.{declared.line.{Label.Label, ThreadLine.ThreadLine}, Lines.Gains, Outcome.Finished}
+use Rattle.arachne_machine.specs.{Strands.{Owned, Strand, strand_at}, Account.{Account, untouched, after, with_fork}}
+use Rattle.arachne_machine.specs.{Suspended.Suspended, Work.task_work, Trace.{Event, At, with_steps, task_trace}}
 use Rattle.arachne_machine.specs.Faultless.{IsFaultlessNext, IsWithoutFault}
 use Rattle.arachne_machine.specs.Ending.{child_task, stretch_task, account_joined, ending, account_at_end, work_left, trace_left, unjoined_of, here_of, locks_of, fork_awaited, environment_of, KeepsForks}
+use Rattle.arachne_machine.specs.declared.pause.Pending.TheVariants as pause
+use Rattle.arachne_machine.specs.declared.state.Progress.TheVariants as part
+use Rattle.arachne_machine.specs.declared.line.Ran.TheVariants as ways
 
 -- the pending pause: the one that is not answered yet
 abbrev pub pending_of : Control → Option Pending

@@ -1,15 +1,8 @@
 -- The threads of a state, one by one.
-use Rattle.std.specs.Prelude.{◌≤◌, ◌<◌, ◌≡◌, ℕ, ◌+◌, List, [], ◌∷◌, drop, get_or}
-use Rattle.std.specs.Borrow.{Bor}
-use Rattle.arachne_program.specs.declared.program.Program.{Program}
-use Rattle.arachne_program.specs.Value.{Environment}
-use Rattle.arachne_machine.specs.declared.frame.Frame.{Frame}
-use Rattle.arachne_machine.specs.declared.frame.Control.{Control}
-use Rattle.arachne_machine.specs.declared.level.Level.{Level}
-use Rattle.arachne_machine.specs.declared.level.Parent.{Parent}
-use Rattle.arachne_machine.specs.declared.line.Label.{Label}
-use Rattle.arachne_machine.specs.declared.line.Ran.TheVariants.{Slot}
-use Rattle.arachne_machine.specs.declared.line.ThreadLine.{ThreadLine}
+use Rattle.std.specs.{Prelude.{◌≤◌, ◌<◌, ◌≡◌, ℕ, ◌+◌, List, [], ◌∷◌, drop, get_or}, Borrow.Bor}
+use Rattle.arachne_program.specs.{declared.program.Program.Program, Value.Environment}
+use Rattle.arachne_machine.specs.declared.{frame.{Frame.Frame, Control.Control}, level.{Level.Level, Parent.Parent}}
+use Rattle.arachne_machine.specs.declared.line.{Label.Label, Ran.TheVariants.Slot, ThreadLine.ThreadLine}
 use Rattle.arachne_machine.specs.declared.state.Own.{Own}
 
 -- the data of which a thread's own line is made

@@ -1,19 +1,11 @@
 -- The view that callers have of a thread between two calls.
 use Rattle.std.specs.Prelude.{◌≡◌, ◌≤◌, ℕ, ◌+◌, List, [], ◌∷◌, ◌++◌, length, get_or, set, Option, None, Some, option_map, slice_get}
-use Rattle.arachne_program.specs.Value.{wrapped}
-use Rattle.arachne_program.specs.Effects.{Task, tabulated}
-use Rattle.arachne_program.specs.declared.program.Class.{Class}
-use Rattle.arachne_program.specs.declared.program.Program.{Program}
-use Rattle.arachne_program.specs.Program.{source_of}
-use Rattle.arachne_program.specs.Meaning.{child_of}
-use Rattle.arachne_machine.specs.declared.line.Label.{Label}
+use Rattle.arachne_program.specs.{Value.wrapped, Effects.{Task, tabulated}, declared.program.Class.Class}
+use Rattle.arachne_program.specs.{declared.program.Program.Program, Program.source_of, Meaning.child_of}
+use Rattle.arachne_machine.specs.declared.{line.{Label.Label, ThreadLine.ThreadLine}, pause.Pending.Pending}
+use Rattle.arachne_machine.specs.{Outcome.Finished, Work.task_work, Trace.{Event, Step, At, with_steps, task_trace}}
 use Rattle.arachne_machine.specs.declared.line.Ran.TheVariants as ways
-use Rattle.arachne_machine.specs.declared.line.ThreadLine.{ThreadLine}
-use Rattle.arachne_machine.specs.declared.pause.Pending.{Pending}
 use Rattle.arachne_machine.specs.declared.pause.Pending.TheVariants as pause
-use Rattle.arachne_machine.specs.Outcome.{Finished}
-use Rattle.arachne_machine.specs.Work.{task_work}
-use Rattle.arachne_machine.specs.Trace.{Event, Step, At, with_steps, task_trace}
 
 pub record Suspended : Type 0 where
   pub program : Program

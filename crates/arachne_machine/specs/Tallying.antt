@@ -1,14 +1,11 @@
 -- The result of an advance, and of one that goes on over tallies which are made as the thread comes to them.
 use Rattle.std.specs.Prelude.{◌≡◌, ℕ, ◌+◌, ◌-◌, ◌==◌, if◌then◌else◌, List, [], ◌∷◌, None, Some}
-use Rattle.arachne_program.specs.Value.{wrapped}
-use Rattle.arachne_program.specs.Program.{source_of}
-use Rattle.arachne_program.specs.Checked.{IsChecked}
+use Rattle.arachne_program.specs.{Value.wrapped, Program.source_of, Checked.IsChecked}
 use Rattle.arachne_machine.specs.declared.pause.Pending.TheVariants as pause
-use Rattle.arachne_machine.specs.declared.pause.Pause.{Pause}
-use Rattle.arachne_machine.specs.declared.pause.Pause.TheVariants as pauses
-use Rattle.arachne_machine.specs.Suspended.{IsAnswered, SameThread, raised}
+use Rattle.arachne_machine.specs.{declared.pause.Pause.Pause, Suspended.{IsAnswered, SameThread, raised}}
 use Rattle.arachne_machine.specs.Nested.{FallsBy, IsAlone, IsRest, Nested, SameWhole, pending_in, whole, work_in}
 use Rattle.arachne_machine.specs.Advance.{AdvancedAlone, AwaitsAt, IsCharged, IsSpentAt, Moves, PausesAt, PlacesNone, RefusedAlone}
+use Rattle.arachne_machine.specs.declared.pause.Pause.TheVariants as pauses
 
 -- the amount that is due to each ledger
 abbrev pub Dues : Type 0

@@ -1,11 +1,9 @@
 -- The trace of a thread: its steps and its pauses, in order.
 use Rattle.std.specs.Prelude.{ℕ, zero, suc, ◌+◌, ◌-◌, ◌==◌, if◌then◌else◌, List, [], ◌∷◌, ◌++◌}
 use Rattle.arachne_program.specs.Tree.{Tree, Number, Variable, Length, Item, Binary, Choose, Bind, Tally, Hold, Fork, Fold, Sweep}
-use Rattle.arachne_program.specs.Value.{Environment, with_newest, value_of, turns}
-use Rattle.arachne_program.specs.Effects.{Task, Evaluate, Reduce}
-use Rattle.arachne_machine.specs.declared.pause.Pending.{Pending}
-use Rattle.arachne_machine.specs.declared.pause.Pending.TheVariants.{Forks, Joins, Asks, Frees, Tallies}
+use Rattle.arachne_program.specs.{Value.{Environment, with_newest, value_of, turns}, Effects.{Task, Evaluate, Reduce}}
 use Rattle.arachne_program.specs.Parts.{by_halves}
+use Rattle.arachne_machine.specs.declared.pause.Pending.{Pending, TheVariants.{Forks, Joins, Asks, Frees, Tallies}}
 
 -- an event of a thread that others can observe
 pub data Event : Type 0 where

@@ -1,11 +1,8 @@
 -- The iterations of a fold or a sweep over n numbers, from a number on.
 use Rattle.std.specs.Prelude.{ℕ, ◌+◌, List}
-use Rattle.arachne_program.specs.declared.program.Reduction.{Reduction}
-use Rattle.arachne_program.specs.Tree.{Tree}
-use Rattle.arachne_program.specs.Value.{Environment, with_newest, value_of, apply, operation_of, turns}
-use Rattle.arachne_program.specs.Effects.{Effects, turns_effects, effects_of}
-use Rattle.arachne_machine.specs.Work.{total, work_of}
-use Rattle.arachne_machine.specs.Trace.{Event, in_turn, trace_of}
+use Rattle.arachne_program.specs.{Value.{Environment, with_newest, value_of, apply, operation_of, turns}, Tree.Tree}
+use Rattle.arachne_program.specs.{Effects.{Effects, turns_effects, effects_of}, declared.program.Reduction.Reduction}
+use Rattle.arachne_machine.specs.{Work.{total, work_of}, Trace.{Event, in_turn, trace_of}}
 
 -- the value of a fold's iterations from a value on; their effects, steps and trace follow
 abbrev pub folded : List (List ℕ) → Tree → Environment → ℕ → ℕ → ℕ → ℕ

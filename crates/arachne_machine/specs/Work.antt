@@ -1,8 +1,7 @@
 -- The number of steps that an expression takes, with those of the threads that it forks.
 use Rattle.std.specs.Prelude.{ℕ, zero, suc, ◌+◌, ◌-◌, ◌==◌, if◌then◌else◌, List}
 use Rattle.arachne_program.specs.Tree.{Tree, Number, Variable, Length, Item, Binary, Choose, Bind, Tally, Hold, Fork, Fold, Sweep}
-use Rattle.arachne_program.specs.Value.{Environment, with_newest, value_of, turns}
-use Rattle.arachne_program.specs.Effects.{Task, Evaluate, Reduce}
+use Rattle.arachne_program.specs.{Value.{Environment, with_newest, value_of, turns}, Effects.{Task, Evaluate, Reduce}}
 use Rattle.arachne_program.specs.Parts.{by_halves}
 
 -- the sum of the first n values of f, from f of 0 on

@@ -16,11 +16,10 @@ use crate::thread::Thread;
 use arachne_program::{Line, Meaning, Program, Sequence};
 use std::alloc::{AllocError, Global};
 
-/// Runs a program on the calling kernel thread. Returns the program's value, ledger sums and report lines.
+/// Runs a program on the calling kernel thread, and returns its value, ledger sums and report lines.
 ///
-/// Always runs the newest of the program's threads, for at most `budget` steps at a time; a budget of 0 counts as 1.
-/// Each request for a lock is granted at once. That is safe because a checked program forks no thread while it holds a
-/// lock, so no other thread runs until the lock is free.
+/// Always runs the newest thread, for at most `budget` steps at a time. A budget of 0 counts as 1. Each lock is granted
+/// at once, since no other thread can hold it. A checked program doesn't fork while it holds a lock.
 pub fn run_alone(alloc: Global, program: &Program, budget: u32) -> Result<Meaning, AllocError>
     ensures { IfOk result (λ meaning. meaning ≡ meaning_of (source_of program.now)) }
 {
@@ -29,7 +28,6 @@ pub fn run_alone(alloc: Global, program: &Program, budget: u32) -> Result<Meanin
     meaning(alloc, outcome)
 }
 
-/// Runs the root thread and all its descendants, and returns the root's outcome.
 fn run_all<'p>(alloc: Global, root: Thread<'p>, budget: u32) -> Result<DetachedOutcome, AllocError>
     requires some { 1 ≤ budget }
     requires rests { Rests root.running.program (root ∷ []) [] }
@@ -45,21 +43,18 @@ fn run_all<'p>(alloc: Global, root: Thread<'p>, budget: u32) -> Result<DetachedO
     Ok(outcomes.pop().unwrap())
 }
 
-/// The result of a thread's slice (at most `budget` steps).
 #[derive(Drop)]
 enum Turn<'p> {
-    /// The thread can run on in a later slice.
     Goes,
-    /// The thread has forked this child, which is to run first.
+    /// The thread has forked this child, which must run next.
     Forks(Thread<'p>),
-    /// The thread has ended.
     Ends,
 }
 
-/// Runs `thread`, the newest thread, for one slice (at most `budget` steps). `threads` has all older threads.
+/// Runs `thread`, the newest, for at most `budget` steps.
 ///
-/// `outcomes` is a stack of the outcomes of ended threads that were not joined yet. The newest thread's children are at
-/// its top, below them the children of the next older thread, and so on.
+/// `outcomes` is a stack of outcomes that were not joined yet: at the top those of the newest thread's children, below
+/// them those of the next older thread's children, and so on.
 fn take_turn<'p>(
     threads: &mut Vec<Thread<'p>>,
     outcomes: &mut Vec<DetachedOutcome>,
@@ -91,7 +86,6 @@ fn take_turn<'p>(
     }
 }
 
-/// Runs the newest thread for at most `budget` steps. If the thread pauses with a request, fulfils the request.
 fn go_on<'p>(
     thread: &mut Thread<'p>,
     outcomes: &mut Vec<DetachedOutcome>,
@@ -136,7 +130,6 @@ fn go_on<'p>(
     }
 }
 
-/// Returns the value, ledger sums and report lines in `outcome`, the outcome of a program's root.
 fn meaning(alloc: Global, outcome: DetachedOutcome) -> Result<Meaning, AllocError>
     ensures means { IfOk result (λ meaning. meaning ≡ meaning_in outcome) }
     ensures of_its_name { IsOfItsName outcome }
@@ -155,7 +148,6 @@ fn meaning(alloc: Global, outcome: DetachedOutcome) -> Result<Meaning, AllocErro
     })
 }
 
-/// Returns the name of a thread and how often it held each lock, without its tag and its kind of slot.
 fn line_of_thread(line: ThreadLine) -> Line
     ensures { result ≡ named_holds line }
 {

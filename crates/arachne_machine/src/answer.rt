@@ -1,10 +1,8 @@
-//! Resumes a paused thread after its caller has fulfilled its request: taken a forked child, got or freed a lock, or
-//! added to a ledger (a shared sum).
+//! Resumes a paused thread after the caller has fulfilled the thread's request.
 use crate::frame::Control;
 use crate::state::State;
 use crate::tables::add_at;
 
-/// The calls that resume a paused thread. None of them allocates memory.
 impl<'p> State<'p> {
     ghost use Rattle.std.specs.Prelude.{◌≡◌, ℕ, Some};
     ghost use Rattle.std.specs.Borrow.{Bor};
@@ -16,8 +14,7 @@ impl<'p> State<'p> {
     ghost use Rattle.arachne_machine.specs.Steps.{HasLine, Turns, pending_of};
     ghost use Rattle.arachne_machine.specs.Runs.{CountsHold, CountsTally, after_fork};
 
-    /// Resumes a thread that paused at a fork. Call it after you have taken the child. The thread then evaluates its
-    /// own expression of the fork or, in a sweep (a parallel reduction), reduces the right half of the range.
+    /// Resumes a thread that paused at a fork. The caller must have taken the child.
     pub fn forked(&mut self)
         requires { pending_of self.old.control ≡ Some pause.Forks }
         ensures { Turns self.old self.new (after_fork self.old.control) }
@@ -29,8 +26,7 @@ impl<'p> State<'p> {
         }
     }
 
-    /// Resumes a thread that paused to ask for a lock. Call it when the thread holds the lock. Also adds one to the
-    /// number of times that the thread has held this lock.
+    /// Resumes a thread that paused to ask for a lock. The thread must hold the lock now.
     pub fn granted(&mut self)
         requires asks { IsAsk (pending_of self.old.control) }
         requires line { HasLine self.old }
@@ -44,8 +40,6 @@ impl<'p> State<'p> {
         self.control = Control::Begin(body);
     }
 
-    /// Adds one to the number of times that the innermost thread (the one that makes the next step) has held the lock
-    /// of number `lock`.
     fn count_hold(&mut self, lock: u64)
         requires { HasLine self.old }
         ensures { CountsHold self.old self.new lock }
@@ -57,7 +51,7 @@ impl<'p> State<'p> {
         }
     }
 
-    /// Resumes a thread that paused to release a lock. Call it after you have freed the lock.
+    /// Resumes a thread that paused to release a lock, which must now be free.
     pub fn freed(&mut self)
         requires { IsFree (pending_of self.old.control) }
         ensures { (lock value : ℕ) × (self.old.control ≡ control.Frees lock value) × Turns self.old self.new (control.Give value) }
@@ -68,10 +62,9 @@ impl<'p> State<'p> {
         self.control = Control::Give(value);
     }
 
-    /// Resumes a thread that paused to add an amount to a ledger (a shared sum). Call it after you have added the
-    /// amount.
+    /// Resumes a thread that paused to add to a ledger, after the caller has added the amount.
     ///
-    /// Also adds the amount to this state's own sum for the ledger, which becomes part of the thread's outcome.
+    /// Also adds the amount to the sum that becomes part of the thread's outcome.
     pub fn tallied(&mut self)
         requires { IsTally (pending_of self.old.control) }
         ensures { (ledger amount : ℕ) × (body : Bor Expr) × (counted : TheState) × (self.old.control ≡ control.Tallies ledger amount body) × CountsTally self.old counted ledger amount
@@ -89,7 +82,6 @@ impl<'p> State<'p> {
         self.control = Control::Begin(body);
     }
 
-    /// Adds `amount` to this state's own sum for the ledger of number `ledger`.
     fn count_tally(&mut self, ledger: u64, amount: u64)
         ensures { CountsTally self.old self.new ledger amount }
     {

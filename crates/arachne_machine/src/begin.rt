@@ -1,5 +1,4 @@
-//! Makes the first step of an expression: a number or a variable yields its value, and any other expression begins one
-//! of its parts.
+//! The first step of each kind of expression.
 use crate::frame::{Control, Frame};
 use crate::lookup::{length_in, variable_in};
 use crate::placing::Placing;
@@ -8,7 +7,6 @@ use crate::state::{Progress, State};
 use arachne_program::{Expr, Operation};
 use std::alloc::AllocError;
 
-/// The first step of each kind of expression.
 impl<'p> State<'p> {
     ghost use Rattle.std.specs.Prelude.{true, ◌≡◌, ◌≤◌, ◌∷◌, ◌++◌, [], length, slice_index, IfOk, IfSome, OnOk, OnErr};
     ghost use Rattle.std.specs.Borrow.{Bor};
@@ -24,8 +22,7 @@ impl<'p> State<'p> {
     ghost use Rattle.arachne_machine.specs.Steps.{beginning, Changes, IsSame, LeavesOthers, OnStops, Pushes, Reaches, top};
     ghost use Rattle.arachne_machine.specs.Runs.{beginning_in, Comes};
 
-    /// Makes the first step of the expression `expr`. If that step already yields the value, returns the value and
-    /// changes nothing else.
+    /// Makes the first step of `expr`. If this step already yields the value, returns the value and changes nothing.
     #[inline(always)]
     pub fn begin<P: Placing>(
         &mut self,
@@ -68,8 +65,10 @@ impl<'p> State<'p> {
         }
     }
 
-    /// Makes the first step of a binary operation. If `left` is at least 2, also evaluates the first operand if it is a
-    /// number or a variable, and then the second if it is one too, and subtracts a step from `left` for each.
+    /// Begins a binary operation.
+    ///
+    /// If at least 2 steps are left, also evaluates operands that are numbers or variables, and subtracts a step for
+    /// each.
     #[inline(always)]
     fn operate(
         &mut self,
@@ -100,7 +99,6 @@ impl<'p> State<'p> {
         self.enter(Frame::Right(operation, second), first)
     }
 
-    /// Returns the value of `expr` if it is a number or a variable, otherwise `None`.
     #[inline(always)]
     fn leaf(&self, expr: &Expr) -> Option<u64>
         ensures leaf { IfSome result (λ _. IsLeaf (tree_of expr.now)) }
@@ -113,7 +111,6 @@ impl<'p> State<'p> {
         }
     }
 
-    /// Pushes `frame`, which waits for the value of `part`, and makes `part` the next expression.
     #[inline(always)]
     fn enter(&mut self, frame: Frame<'p>, part: &'p Expr) -> Result<Progress<'p>, AllocError>
         ensures begins { IfOk result (λ begun. begun ≡ ways.Begin part.entry) }
@@ -124,8 +121,7 @@ impl<'p> State<'p> {
         Ok(Progress::Begin(part))
     }
 
-    /// Pauses the thread until it gets the lock of number `lock`. Pushes a frame that releases the lock when the value
-    /// of `body` is known.
+    /// Pauses the thread until it gets the lock, which a frame releases after `body`.
     #[inline(always)]
     fn ask(&mut self, lock: u64, body: &'p Expr) -> Result<Progress<'p>, AllocError>
         ensures stops { IfOk result (λ asked. asked ≡ ways.Stops) }

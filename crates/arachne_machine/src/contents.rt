@@ -10,27 +10,24 @@ use std::mem::replace;
 
 /// The value, ledger sums and report lines of an ended thread, without a reference to its program.
 ///
-/// The box around this struct is allocated before the thread ends. Only the box moves from the thread that ends to the
-/// thread that joins it.
+/// A caller allocates the box around this struct before the thread ends. Joining the thread then only moves the box.
 #[derive(Debug, Drop)]
 pub struct Contents {
     pub(crate) value: u64,
-    /// For each ledger (a shared sum), the total that the thread and its descendants have added, modulo 2^64.
+    /// For each ledger, the total that the thread and its descendants have added, modulo 2^64.
     pub(crate) sums: Vec<u64>,
-    /// The thread's own report line.
     pub(crate) own: ThreadLine,
-    /// The report lines of the thread's descendants.
     pub(crate) below: Lines,
 }
 
 impl Contents {
-    /// Allocates a box without an outcome. A thread's outcome can be written into the box later, without an allocation.
+    /// Allocates a box, so that a thread's result can later be written into it without an allocation.
     pub fn new(alloc: Global) -> Result<Box<Contents>, AllocError> {
         Ok(Box::new(alloc, Contents::vacant(alloc))?)
     }
 
-    /// Returns a placeholder that belongs to no thread. Allocates no memory.
-    fn vacant(alloc: Global) -> Contents {
+    /// Returns a placeholder, for which no memory is allocated.
+    pub(crate) fn vacant(alloc: Global) -> Contents {
         Contents {
             value: 0,
             sums: Vec::new(alloc),
@@ -39,9 +36,8 @@ impl Contents {
         }
     }
 
-    /// Moves the value, the ledger sums and the report lines out of `self`.
-    ///
-    /// Allocates a list for the lines. Returns `Err`, with `self` unchanged, if memory is refused.
+    /// Moves out of `self` the thread's value, the sums added to each ledger, and the report lines of the thread and
+    /// its descendants. If memory is refused, changes nothing.
     pub(crate) fn take_parts(&mut self) -> Result<OutcomeParts, AllocError>
         ensures value { IfOk result (λ parts. parts.value ≡ self.old.value) }
         ensures sums { IfOk result (λ parts. parts.sums ≡ self.old.sums.items) }

@@ -8,12 +8,9 @@ use arachne_program::{Program, Sequence};
 use std::marker::Model;
 use std::snapshot::Snapshot;
 
-/// The boxed value, ledger sums and report lines of an ended thread, without a reference to the program.
-///
-/// In contracts, it still refers to the program, as an `Outcome` does.
+/// The value, ledger sums and report lines of an ended thread, in a box.
 #[derive(Drop)]
 pub struct DetachedOutcome {
-    /// The thread's program. A `Snapshot` exists only for contracts and has size 0.
     pub(crate) program: Snapshot<Program>,
     pub(crate) contents: Box<Contents>,
 }

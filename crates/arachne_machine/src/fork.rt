@@ -1,5 +1,4 @@
-//! The steps that fork a child, or split a sweep (a parallel reduction over a range of numbers, which is halved among
-//! threads).
+//! The steps that fork a child, or halve a sweep (a parallel reduction over a range of numbers).
 use crate::frame::{Control, Frame, Stretch};
 use crate::placing::Placing;
 use crate::spares::Spares;
@@ -7,7 +6,6 @@ use crate::state::{Progress, State};
 use arachne_program::{Class, Expr};
 use std::alloc::AllocError;
 
-/// The steps that fork a child or begin a part of a sweep (a parallel reduction).
 impl<'p> State<'p> {
     ghost use Rattle.std.specs.Prelude.{true, ◌≡◌, ◌≤◌, ◌+◌, ◌<◌, ◌^◌, ◌∷◌, ◌++◌, [], IfOk, OnOk, OnErr};
     ghost use Rattle.arachne_program.specs.Effects.{tabulated};
@@ -20,8 +18,7 @@ impl<'p> State<'p> {
     ghost use Rattle.arachne_machine.specs.Runs.{Comes};
     ghost use Rattle.arachne_machine.specs.Steps.{CountsFork, HasLine, IsForkOf, IsSame, IsSpawned};
 
-    /// Forks a child of class `class` (normal or exclusive), which evaluates `child`. Meanwhile this thread evaluates
-    /// `during`; then it joins the child and evaluates `after`.
+    /// Forks a child that evaluates `child`. This thread evaluates `during`, joins the child, and evaluates `after`.
     pub fn fork(
         &mut self,
         class: Class,
@@ -46,8 +43,9 @@ impl<'p> State<'p> {
         )
     }
 
-    /// Forks a child without a pause of this thread. The child runs inside this thread's slot, as a function call
-    /// would, after this thread has evaluated `during`. Then this thread evaluates `after`.
+    /// Forks a child without a pause.
+    ///
+    /// The child runs inside this thread's slot, as a function call would, after `during`.
     #[inline(always)]
     pub fn fork_here(
         &mut self,
@@ -71,8 +69,6 @@ impl<'p> State<'p> {
         Ok(Progress::Begin(during))
     }
 
-    /// Creates a child of class `class` whose first action is `begins`. Pushes `frame`, which joins the child later,
-    /// and makes `next` this thread's next action.
     #[inline(always)]
     fn spawn(
         &mut self,
@@ -105,8 +101,8 @@ impl<'p> State<'p> {
         Ok(Progress::Forks(class, state))
     }
 
-    /// Begins to reduce `stretch`, a range of numbers. If it is longer than its grain, forks a child for the left half;
-    /// otherwise reduces its numbers one after another.
+    /// Begins to reduce a range of numbers, and forks a child for the left half if the range is longer than its grain
+    /// (the length up to which it isn't halved).
     #[inline(always)]
     pub fn cover<P: Placing>(
         &mut self,
@@ -142,8 +138,7 @@ impl<'p> State<'p> {
         ))
     }
 
-    /// Forks a child for the numbers of `stretch` below `middle`. This thread next reduces the numbers from `middle`
-    /// on.
+    /// Forks a child for the numbers below `middle`, so that this thread next reduces the others.
     fn halve(
         &mut self,
         stretch: Stretch<'p>,
@@ -177,8 +172,8 @@ impl<'p> State<'p> {
         )
     }
 
-    /// Splits `stretch` at `middle` without a pause of this thread. This thread reduces the right half next. Then a
-    /// child reduces the left half inside this thread's slot, as a function call would.
+    /// Splits `stretch` without a pause. This thread reduces the right half next, and then a child reduces the left
+    /// half, as a function call would.
     #[inline(always)]
     fn halve_here(&mut self, stretch: Stretch<'p>, middle: u64) -> Result<Progress<'p>, AllocError>
         requires number { self.old.level.forks + 1 < 2 ^ 64 }

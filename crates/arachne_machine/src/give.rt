@@ -1,4 +1,4 @@
-//! Passes a value to the newest stack frame, and the value that results to the next frame, until a frame needs a step.
+//! Passes values to stack frames.
 use crate::frame::{Control, Frame, Stretch};
 use crate::lookup::item_in;
 use crate::placing::Placing;
@@ -6,7 +6,6 @@ use crate::state::{Progress, State};
 use arachne_program::Expr;
 use std::alloc::AllocError;
 
-/// The functions that pass a value to stack frames.
 impl<'p> State<'p> {
     ghost use Rattle.std.specs.Prelude.{true, ◌≡◌, ◌+◌, ◌<◌, ◌≤◌, ◌++◌, ◌∷◌, [], length, slice_index, vec_len, vec_capacity, IfOk, IsErr, OnOk, OnErr};
     ghost use Rattle.arachne_program.specs.Program.{source_of};
@@ -21,11 +20,11 @@ impl<'p> State<'p> {
     ghost use Rattle.arachne_machine.specs.Runs.{Comes, FoldsOn, HandsResult, IsOneStep, IsPoppedIn, RunsOn, SweepsOn, giving_in, seen_in};
     ghost use Rattle.arachne_machine.specs.declared.state.Progress.TheVariants as ways;
 
-    /// Passes `value` to the newest stack frame, and the value that results to the next frame, until a frame needs a
-    /// further step or no frame is left.
+    /// Passes `value` to the newest stack frame, the result to the next frame, and so on, until a frame needs a further
+    /// step or no frame is left.
     ///
     /// If that ends a child that runs inside its parent's slot, the parent joins the child and resumes. If memory is
-    /// refused, returns `Err`, and the thread keeps the value, which a later step passes on.
+    /// refused, the thread keeps the value, and a later step passes it on.
     #[inline(always)]
     pub fn give<P: Placing>(
         &mut self,
@@ -50,8 +49,9 @@ impl<'p> State<'p> {
         }
     }
 
-    /// Passes `value` to the newest frame of the innermost thread (the one that makes the next step). If that thread
-    /// has no frame left, it ends with `value`; if it ran inside its parent's slot, the parent joins it and resumes.
+    /// Passes `value` to the newest frame, or ends a thread without frames.
+    ///
+    /// If the thread ran inside its parent's slot, the parent joins it and resumes.
     #[inline(always)]
     fn hand_newest<P: Placing>(
         &mut self,
@@ -81,8 +81,7 @@ impl<'p> State<'p> {
         self.join_here(value, left)
     }
 
-    /// Stores `value` in `control`, so that a later step passes it to the newest frame. Always returns
-    /// `Err(AllocError)`.
+    /// Keeps `value` for a later step, since memory was refused. Always returns this error.
     #[cold]
     #[inline(never)]
     pub fn refused(&mut self, value: u64) -> Result<Progress<'p>, AllocError>
@@ -93,7 +92,7 @@ impl<'p> State<'p> {
         Err(AllocError)
     }
 
-    /// Reserves room for two more variables and one more frame, which is as much as passing a value to a frame can add.
+    /// Reserves room for two more variables and one more frame, the most that passing a value to a frame can add.
     pub fn reserve_turn(&mut self) -> Result<(), AllocError>
         ensures same { IsSame self.old self.new }
         ensures environment { OnOk result (vec_len self.new.environment + 2 ≤ vec_capacity self.new.environment) }
@@ -103,8 +102,7 @@ impl<'p> State<'p> {
         self.frames.try_reserve(1)
     }
 
-    /// Passes `value` to `frame`, which the caller has popped from the stack. If memory is refused, pushes `frame`
-    /// again.
+    /// Passes `value` to `frame`, or pushes `frame` again if memory is refused.
     #[inline(always)]
     fn hand<P: Placing>(
         &mut self,
@@ -159,8 +157,6 @@ impl<'p> State<'p> {
         }
     }
 
-    /// Undoes the step that passed `value` to `frame`: pushes `frame` again, and stores `value` in `control` for a
-    /// later step.
     #[cold]
     #[inline(never)]
     fn stand_before(&mut self, frame: Frame<'p>, value: u64)
@@ -171,7 +167,7 @@ impl<'p> State<'p> {
         self.control = Control::Give(value);
     }
 
-    /// Passes `value` to `frame`, which must not be one that begins a child (`JoinHere` or `MergeHere`).
+    /// Passes `value` to a frame that doesn't begin a child.
     #[inline(always)]
     fn hand_within(&mut self, frame: Frame<'p>, value: u64, left: &mut u32) -> Progress<'p>
         requires within { IsWithin frame }
@@ -217,8 +213,7 @@ impl<'p> State<'p> {
         }
     }
 
-    /// Passes `value` to `frame`, which must be one at which the thread pauses (`Amount`, `Release`, `Join` or `Merge`)
-    /// or one that `hand_to_range` accepts.
+    /// Passes `value` to a frame at which the thread pauses, or to one that `hand_to_range` accepts.
     #[inline(always)]
     fn hand_on(&mut self, frame: Frame<'p>, value: u64, left: &mut u32) -> Progress<'p>
         requires later { IsPauseOrRange frame }
@@ -265,8 +260,7 @@ impl<'p> State<'p> {
         }
     }
 
-    /// Passes `value` to `frame`, which must wait for a loop's range or first value (`FoldTo`, `FoldFirst`,
-    /// `FoldStart`, `SweepTo` or `SweepStart`).
+    /// Passes `value` to a frame that waits for a loop's range or first value.
     #[inline(always)]
     fn hand_to_range(&mut self, frame: Frame<'p>, value: u64, left: &mut u32) -> Progress<'p>
         requires range { IsOfRange frame }
@@ -303,8 +297,7 @@ impl<'p> State<'p> {
         }
     }
 
-    /// Pushes `frame`, and begins the expression `part`, whose value `frame` waits for. Allocates nothing: the caller
-    /// must have room for one more frame, for instance since it has popped one.
+    /// Pushes `frame`, and begins the expression `part`, for whose value the frame waits. Allocates nothing.
     #[inline(always)]
     pub fn go_on(&mut self, frame: Frame<'p>, part: &'p Expr) -> Progress<'p>
         requires { vec_len self.old.frames + 1 ≤ vec_capacity self.old.frames }
@@ -315,7 +308,6 @@ impl<'p> State<'p> {
         Progress::Begin(part)
     }
 
-    /// Appends `value` as a new variable, pushes a frame that removes it later, and begins the expression `body`.
     #[inline(always)]
     fn extend(&mut self, value: u64, body: &'p Expr) -> Progress<'p>
         requires environment { vec_len self.old.environment + 1 ≤ vec_capacity self.old.environment }
@@ -330,8 +322,7 @@ impl<'p> State<'p> {
         Progress::Begin(body)
     }
 
-    /// Returns `value`, the result of a loop or of a part of one, to be passed to the newest frame. That takes a step:
-    /// if none is left, stores `value` in `control` instead, for a later step.
+    /// Returns `value`, the result of a loop, if a step is left for this, and otherwise keeps it for a later step.
     #[inline(always)]
     pub fn hand_result(&mut self, value: u64, left: &mut u32) -> Progress<'p>
         ensures same { Changes self.old (seen_in result self.new) self.old.environment.items self.old.frames.items (control.Give value) }
@@ -348,7 +339,6 @@ impl<'p> State<'p> {
         Progress::Value(value)
     }
 
-    /// Removes the `count` newest variables.
     #[inline(always)]
     fn drop_newest(&mut self, count: usize)
         requires environment { vec_len self.old.environment + 2 ≤ vec_capacity self.old.environment }

@@ -1,5 +1,4 @@
-//! Begins children inside their parent's thread slot, and joins children, whether they ran there or in a slot of their
-//! own.
+//! Begins children inside their parent's thread slot, and joins children.
 use crate::contents::Contents;
 use crate::frame::{Control, Frame};
 use crate::level::{Level, Parent, move_parents};
@@ -11,16 +10,12 @@ use arachne_program::Name;
 use std::alloc::AllocError;
 use std::mem::swap;
 
-/// The reason why a child's outcome could not be joined.
 #[derive(Clone, Copy)]
 pub enum Unjoined {
-    /// The outcome is not that of the child that the thread waits for.
     Foreign,
-    /// Memory was refused.
     Memory,
 }
 
-/// The functions that begin a child inside its parent's slot, and that join children.
 impl<'p> State<'p> {
     ghost use Rattle.std.specs.Prelude.{◌≡◌, ◌≢◌, ◌+◌, ◌≤◌, ◌<◌, ◌^◌, ◌∷◌, ◌++◌, ◌↔◌, [], ℕ, length, reverse, vec_len, vec_capacity, Err, Some, IsTrue, IfOk, OnOk, OnErr};
     ghost use Rattle.arachne_machine.specs.declared.frame.Frame.TheVariants as frames;
@@ -35,8 +30,7 @@ impl<'p> State<'p> {
     ghost use Rattle.arachne_machine.specs.Outcome.{finished};
     ghost use Rattle.arachne_machine.specs.declared.join.Unjoined.TheVariants.{Foreign};
 
-    /// Returns whether `name` is the name of the child that the innermost thread (the one that makes the next step)
-    /// waits to join.
+    /// Returns true if `name` is that of the child for which the innermost thread (the one that runs) waits.
     pub fn awaits(&self, name: &Name) -> bool
         requires joins { pending_of self.now.control ≡ Some pause.Joins }
         requires line { HasLine self.now }
@@ -50,10 +44,10 @@ impl<'p> State<'p> {
         }
     }
 
-    /// Begins child `number` of this state's innermost thread inside that thread's slot. The parent waits until the
-    /// child has ended, as for a function call; `awaits` is the parent's pending join.
+    /// Begins child `number` of the innermost thread (the one that runs) inside the same slot, as a function call
+    /// would.
     ///
-    /// Returns `Err` if memory is refused; then only capacities may have changed.
+    /// `awaits` is the parent's next action, to wait for the child. If memory is refused, only capacities may change.
     #[inline(always)]
     pub fn begin_here<P: Placing>(
         &mut self,
@@ -79,11 +73,9 @@ impl<'p> State<'p> {
         Ok(())
     }
 
-    /// Makes a child this state's innermost thread, the one that makes the next step. The parent, which was innermost
-    /// before, now waits for the child: `awaits` is the parent's pending join.
+    /// Makes a child the innermost thread (the one that runs), for which its parent waits by `awaits`.
     ///
     /// `place` is the index of the child's report line, and `forks` the number of threads that the child has forked.
-    /// The caller must have reserved room for one more item in `parents`.
     #[inline(always)]
     fn descend(&mut self, awaits: Control<'p>, place: usize, forks: u64)
         requires { vec_len self.old.parents + 1 ≤ vec_capacity self.old.parents }
@@ -101,10 +93,8 @@ impl<'p> State<'p> {
         };
     }
 
-    /// Moves `child`, for which this state's innermost thread waits, into this state, together with the threads that
-    /// run inside the child's slot. They continue here, while the child's parent waits as for a function call.
-    ///
-    /// Returns `Err` if memory is refused; then only capacities may have changed.
+    /// Moves `child`, for which the thread of this state waits, and the threads inside its slot into this state, where
+    /// they continue. If memory is refused, only lists' capacities may change.
     pub fn take_in(&mut self, child: &mut State<'p>) -> Result<(), AllocError>
         requires { FitsInto self.old child.old }
         ensures ok { OnOk result (TakesIn self.old child.old self.new) }
@@ -133,11 +123,7 @@ impl<'p> State<'p> {
         Ok(())
     }
 
-    /// Takes over the levels (each a thread's indices and counts) of `child` and of the threads that run inside its
-    /// slot. This state's innermost thread, the parent, now waits for `child`.
-    ///
-    /// The child's frames will follow the frames of this state, and its report lines begin at index `place`. The caller
-    /// must have reserved room in `parents` for all threads that wait.
+    /// Takes over the indices and counts of `child` and the threads in its slot, whose report lines begin at `place`.
     #[inline(always)]
     fn take_levels(&mut self, child: &State<'p>, place: usize)
         requires room { vec_len self.old.parents + vec_len child.now.parents + 1 ≤ vec_capacity self.old.parents }
@@ -155,10 +141,9 @@ impl<'p> State<'p> {
         self.level = child.level.moved(child.parents.is_empty(), start, place);
     }
 
-    /// Ends the innermost thread, a child that ran inside its parent's slot, with the value `value`. The parent joins
-    /// the child and resumes.
+    /// Ends the thread that runs inside its parent's slot, and resumes the parent.
     ///
-    /// If memory is refused, returns `Err`, and a later step passes the value to the parent.
+    /// If memory is refused, a later step passes `value` to the parent.
     #[inline(always)]
     pub fn join_here(&mut self, value: u64, left: &mut u32) -> Result<Progress<'p>, AllocError>
         requires parent { HasParent self.old }
@@ -191,8 +176,6 @@ impl<'p> State<'p> {
         }
     }
 
-    /// Appends two variables: `value`, the child's value, and then `during`. Pushes a frame that removes them later.
-    /// The caller must have reserved room for both variables and the frame.
     #[inline(always)]
     fn bind_joined(&mut self, value: u64, during: u64)
         requires environment { vec_len self.old.environment + 2 ≤ vec_capacity self.old.environment }
@@ -206,10 +189,7 @@ impl<'p> State<'p> {
         self.frames.push_reserved(Frame::Restore(length));
     }
 
-    /// Joins the child whose outcome is `contents`. Returns the error `Foreign` if that is not the child that this
-    /// thread waits for.
-    ///
-    /// After an error, only capacities may have changed.
+    /// Joins the child whose result is `contents`. After an error, only lists' capacities may have changed.
     pub fn join(&mut self, contents: &mut Contents) -> Result<(), Unjoined>
         requires joins { pending_of self.old.control ≡ Some pause.Joins }
         requires line { HasLine self.old }
@@ -232,8 +212,9 @@ impl<'p> State<'p> {
         Ok(())
     }
 
-    /// Moves the report lines of `contents` behind this state's lines, and adds the ledger sums of `contents` to this
-    /// state's sums. Returns `Err` if memory is refused; then only capacities may have changed.
+    /// Takes over the report lines and the ledger sums of `contents`.
+    ///
+    /// If memory is refused, only capacities may change.
     #[inline(always)]
     fn take_contents(&mut self, contents: &mut Contents) -> Result<(), AllocError>
         requires sums { length contents.old.sums.items ≡ length self.old.sums.items }
@@ -252,8 +233,6 @@ impl<'p> State<'p> {
         Ok(())
     }
 
-    /// Resumes the thread after it has joined the child that it waited for, which has ended with the value `value`. The
-    /// caller must have reserved room for two more variables and one more frame.
     #[inline(always)]
     fn resume_joined(&mut self, value: u64)
         requires joins { pending_of self.old.control ≡ Some pause.Joins }
@@ -278,8 +257,7 @@ impl<'p> State<'p> {
         }
     }
 
-    /// Undoes the step in which the thread began to wait for a child: pushes the frame again, and stores its value in
-    /// `control`.
+    /// Undoes the step in which the thread began to wait for a child.
     pub fn stand_before_join(&mut self)
         requires joins { pending_of self.old.control ≡ Some pause.Joins }
         requires room { HasRoom self.old }

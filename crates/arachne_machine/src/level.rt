@@ -4,20 +4,17 @@ ghost use Rattle.arachne_machine.specs.Strands.{Fits, moved_parents};
 
 use crate::frame::Control;
 
-/// The indices and counts of one thread in a `State`. A state has several if children run inside their parent's slot.
+/// The indices and counts of one thread in a `State`, which has several if threads run inside their parent's slot.
 #[derive(Clone, Copy)]
 pub struct Level {
     /// The index of this thread's first stack frame. Earlier frames belong to the threads that wait for this one.
     pub start: usize,
-    /// The number of children that this thread has forked.
     pub forks: u64,
-    /// The index of this thread's report line in `State::lines`. Unused for the outermost thread, whose line isn't
-    /// there.
+    /// The index of this thread's report line in `State::lines`. The slot's owner (`outermost`) has no line there.
     pub place: usize,
 }
 
 impl Level {
-    /// Returns the indices and counts with which the outermost thread of a state begins.
     pub fn outermost() -> Level
         ensures { result ≡ record { start = 0; forks = 0; place = 0 } }
     {
@@ -28,11 +25,10 @@ impl Level {
         }
     }
 
-    /// Returns this level with the indices that it gets when its state is moved into another one, behind that one's
-    /// `start` frames.
+    /// Returns the indices that this thread has after its state was appended to another state with `start` frames.
     ///
-    /// `outermost` says if this level is that of the moved state's outermost thread. That thread's report line gets the
-    /// index `place`, and the lines of the threads nested in it follow.
+    /// `outermost` is true for the moved state's outermost thread (its slot's owner), whose report line gets index
+    /// `place`. The lines of the other threads in that slot follow.
     #[inline(always)]
     pub fn moved(self, outermost: bool, start: usize, place: usize) -> Level
         requires start { start + self.start < 2 ^ 64 }
@@ -53,19 +49,15 @@ impl Level {
     }
 }
 
-/// A thread that waits for a child, while the child runs inside the thread's slot.
 #[derive(Clone, Copy)]
 pub struct Parent<'p> {
     pub level: Level,
-    /// The pending join: the number of the child that this thread waits for, and the action after the join.
     pub control: Control<'p>,
 }
 
-/// Appends `others`, the waiting threads of a state that is moved into this one, to `parents`. In both lists the
-/// outermost thread comes first.
+/// Appends the waiting threads `others` of a state that is moved into this one.
 ///
-/// The frames of `others` will follow `start` other frames, and their report lines begin at index `place`. The caller
-/// must have reserved room in `parents`.
+/// `start` is the number of frames before those of `others`, and `place` the index of the moved state's first line.
 pub fn move_parents<'p>(
     parents: &mut Vec<Parent<'p>>,
     others: &[Parent<'p>],

@@ -1,14 +1,14 @@
 //! An interpreter for the threads of a task program, which can be interrupted after any step.
 //!
-//! A `Thread` evaluates its expressions with a stack of *frames*: each frame waits for the value of a part of an
-//! expression. A child thread gets one of a core's thread slots (a *place* of its own), or it runs inside its parent's
-//! slot (*in its parent's place*), as a function call would. Of the threads nested in one slot, the *outermost* is the
-//! one that the slot was given to, and the *innermost* makes the next step.
+//! A `Thread` evaluates its expressions with a stack of *frames*, each of which waits for the value of a part of an
+//! expression. A child thread may get one of a core's thread slots (a *place* of its own). Otherwise the child runs
+//! inside its parent's slot (*in its parent's place*), as a function call would. Of the threads inside one slot, the
+//! *outermost* is the one that the slot was given to, and the *innermost* makes the next step.
 //!
-//! A thread *pauses* if its caller must do something for it: find a slot for a child, deliver a child's outcome, get or
-//! free a lock, or add to a *ledger*, which is a sum that no thread reads. Each ended thread has a *line* in the report
-//! of a run. A *fold* is a sequential loop over a range of numbers. A *sweep* is a reduction over a range that is
-//! halved among threads, down to a length, its *grain*.
+//! A thread *pauses* if its caller must do something for it, such as find a slot for a child or get a lock. A *ledger*
+//! is a sum to which threads add and that no thread reads. Each ended thread has a *line* in the report of a run. A
+//! *fold* is a sequential loop over a range of numbers. A *sweep* is a reduction over a range that is halved among
+//! threads, down to a length, its *grain*.
 #![tactic(auto)]
 
 mod alone;

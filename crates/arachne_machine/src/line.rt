@@ -10,38 +10,33 @@ use std::mem::replace;
 /// The kind of thread slot (a core's room for one thread) in which a thread ran.
 #[derive(Clone, Copy, Debug, PartialEq, Eq)]
 pub enum Ran {
-    /// In a slot of its own, which was found when its parent forked it.
+    /// The thread ran in a slot of its own, which was found when the thread was forked.
     Slot,
-    /// In a slot of its own, which a worker found later, while the thread waited for one.
+    /// The thread ran in a slot of its own, for which it had to wait.
     Spill,
-    /// Inside its parent's slot, run like a function call.
+    /// The thread ran inside its parent's slot, like a function call.
     InPlace,
 }
 
-/// The tag (identifying number) of a thread, and the kind of thread slot in which the thread runs.
+/// A thread's tag (number in its run), and the kind of slot in which it runs.
 #[derive(Clone, Copy, Debug)]
 pub struct Label {
-    /// The number by which a run identifies the thread.
     pub tag: u64,
-    /// The kind of slot in which the thread runs.
     pub ran: Ran,
 }
 
-/// The line of an ended thread in the report of a run: its name, its tag (identifying number), the kind of thread slot
-/// in which it ran, and how often it held each lock.
 #[derive(Debug, Drop)]
 pub struct ThreadLine {
     pub name: Name,
-    /// The number by which the run identified the thread.
+    /// The thread's number in its run.
     pub tag: u64,
     /// For each lock, the number of times that the thread held it, modulo 2^64.
     pub holds: Sequence<u64>,
-    /// The kind of slot in which the thread ran.
     pub ran: Ran,
 }
 
 impl ThreadLine {
-    /// Returns a placeholder that belongs to no thread. Allocates no memory.
+    /// Returns a placeholder, for which no memory is allocated.
     #[inline(always)]
     pub(crate) fn vacant(alloc: Global) -> ThreadLine {
         ThreadLine {
@@ -52,7 +47,6 @@ impl ThreadLine {
         }
     }
 
-    /// Moves the line out of `self`, in which a placeholder remains.
     #[inline(always)]
     pub(crate) fn take(&mut self, alloc: Global) -> ThreadLine
         ensures { result ≡ self.old }
@@ -61,8 +55,7 @@ impl ThreadLine {
     }
 }
 
-/// A reference to the line of one thread in a [`LineList`]. Such a list stores the parts of its lines in separate
-/// arrays.
+/// A reference to one thread's line in a list of report lines.
 #[derive(Drop)]
 pub struct LineView<'a> {
     name: &'a Name,
@@ -82,7 +75,6 @@ impl<'a> Model for LineView<'a> {
 impl<'a> LineView<'a> {
     ghost use Rattle.arachne_machine.specs.declared.line.ThreadLine.{ThreadLine};
 
-    /// Returns a view of the line with the name `name`, the label `label` and the counts of held locks `holds`.
     #[inline(always)]
     pub(crate) fn new(name: &'a Name, label: Label, holds: &'a [u64]) -> LineView<'a>
         ensures { result ≡ record { name = name.now; tag = label.tag; holds = holds.now; ran = label.ran } }
@@ -90,7 +82,6 @@ impl<'a> LineView<'a> {
         LineView { name, label, holds }
     }
 
-    /// Returns the thread's name.
     #[inline(always)]
     pub fn name(&self) -> &'a Name
         ensures { result.now ≡ self.now.name }
@@ -98,7 +89,7 @@ impl<'a> LineView<'a> {
         self.name
     }
 
-    /// Returns the number by which the run identified the thread.
+    /// Returns the thread's number in its run.
     #[inline(always)]
     pub fn tag(&self) -> u64
         ensures { result ≡ self.now.tag }
@@ -114,7 +105,6 @@ impl<'a> LineView<'a> {
         self.holds
     }
 
-    /// Returns the kind of slot in which the thread ran.
     #[inline(always)]
     pub fn ran(&self) -> Ran
         ensures { result ≡ self.now.ran }
@@ -122,7 +112,6 @@ impl<'a> LineView<'a> {
         self.label.ran
     }
 
-    /// Allocates a copy of the line.
     pub(crate) fn to_line(&self, alloc: Global) -> Result<ThreadLine, AllocError>
         ensures { IfOk result (λ line. line ≡ self.now) }
     {
@@ -137,7 +126,6 @@ impl<'a> LineView<'a> {
     }
 }
 
-/// Allocates a copy of `name`.
 fn copy_of(alloc: Global, name: &Name) -> Result<Name, AllocError>
     ensures { IfOk result (λ copy. copy ≡ name.now) }
 {

@@ -1,69 +1,134 @@
-//! A list of threads' report lines, whose counts of held locks are in one flat array.
-ghost use Rattle.std.specs.Prelude.{◌≡◌, ◌+◌, ◌<◌, ◌∷◌, ◌++◌, [], ℕ, length, get_or, IfOk, IfSome, MatchOption, OnOk, OnErr};
+//! A list of report lines. One array has the counts of all lines: how often each line's thread held each lock.
+ghost use Rattle.std.specs.Prelude.{◌≡◌, ◌+◌, ◌*◌, ◌/◌, ◌%◌, ◌^◌, ◌<◌, ◌∷◌, ◌++◌, [], ℕ, length, get_or, IfOk, IfSome, MatchOption, OnOk, OnErr};
 ghost use Rattle.arachne_program.specs.Effects.{tabulated};
 ghost use Rattle.arachne_machine.specs.declared.line.ThreadLine.{ThreadLine};
-ghost use Rattle.arachne_machine.specs.Lines.{CountsHoldAt};
+ghost use Rattle.arachne_machine.specs.Lines.{CountsHoldAt, ran_of};
 
-use crate::line::{Label, LineView, ThreadLine};
+use crate::line::{Label, LineView, Ran, ThreadLine};
 use crate::tables::push_zeros;
 use arachne_program::Name;
 use std::alloc::{AllocError, Global};
 use std::marker::Model;
 
-/// A thread's report line without its counts of held locks: its name, its tag (identifying number) and its kind of
-/// slot.
+/// The number of tags in a quarter: those that have the same two highest bits.
+const QUARTER: u64 = 1 << 62;
+
 #[derive(Debug, Drop)]
 struct Mark {
     name: Name,
-    label: Label,
+    /// The tag's lower 62 bits, times 4, plus a number below 3 for the kind of slot.
+    label: u64,
 }
 
-/// The report lines of threads of one program. `locks` is the number of the program's locks, and `holds` has `locks`
-/// counts for each line.
+const _: () = prove!(size_of::<Mark>() == 40);
+
+/// The report lines of threads of one program, which has `locks` locks. Their tags are all in one quarter.
 #[derive(Debug, Drop)]
 pub struct LineList {
     locks: usize,
+    /// The two highest bits of all tags.
+    quarter: u64,
     marks: Vec<Mark>,
-    /// For each line and each lock, the number of times that the thread held the lock, modulo 2^64.
+    /// For each line, `locks` counts: how often its thread held each lock.
     holds: Vec<u64>,
 }
 
-// In contracts, a `LineList` is its number of locks and a list of whole lines.
+// In contracts, a `LineList` is its number of locks, the quarter of its tags, and a list of whole lines.
 impl Model for LineList {
-    ghost use Rattle.arachne_machine.specs.Lines.{AreHoldsOf, Listed, with_holds};
+    ghost use Rattle.arachne_machine.specs.Lines.{AreKept, Listed, with_holds};
 
     ghost Value = { Listed };
 
-    ghost view = { λ l. record { locks = l.locks; lines = with_holds l.locks l.marks.items l.holds.items } };
+    ghost view = { λ l. record { locks = l.locks; quarter = l.quarter; lines = with_holds l.quarter l.locks l.marks.items l.holds.items } };
 
-    ghost invariant = { λ l. AreHoldsOf l.locks l.marks.items l.holds.items };
+    ghost invariant = { λ l. AreKept l.quarter l.locks l.marks.items l.holds.items };
+}
+
+/// Returns the two highest bits of a tag.
+#[inline(always)]
+pub(crate) fn quarter_of(tag: u64) -> u64
+    ensures { result ≡ tag / 2 ^ 62 }
+{
+    tag / QUARTER
+}
+
+/// Returns a label without its tag's two highest bits, in one number.
+#[inline(always)]
+fn packed(label: Label) -> u64
+    ensures tag { result / 4 ≡ label.tag % 2 ^ 62 }
+    ensures ran { ran_of (result % 4) ≡ label.ran }
+{
+    let code = match label.ran {
+        Ran::Slot => 0,
+        Ran::Spill => 1,
+        Ran::InPlace => 2,
+    };
+    label.tag % QUARTER * 4 + code
+}
+
+/// Returns the label that is in this number, but for its tag's two highest bits, which are `quarter`.
+#[inline(always)]
+fn unpacked(quarter: u64, packed: u64) -> Label
+    requires { quarter < 4 }
+    ensures { result ≡ record { tag = quarter * 2 ^ 62 + packed / 4; ran = ran_of (packed % 4) } }
+{
+    let ran = match packed % 4 {
+        0 => Ran::Slot,
+        1 => Ran::Spill,
+        _ => Ran::InPlace,
+    };
+    Label {
+        tag: quarter * QUARTER + packed / 4,
+        ran,
+    }
 }
 
 impl LineList {
-    /// Returns an empty list for threads of a program with `locks` locks. Allocates no memory.
+    /// Returns an empty list for tags below 2^62. Allocates no memory.
     #[inline(always)]
     pub fn new(alloc: Global, locks: usize) -> LineList
-        ensures { result ≡ record { locks = locks; lines = [] } }
+        ensures { result ≡ record { locks = locks; quarter = 0; lines = [] } }
+    {
+        LineList::for_tag(alloc, locks, 0)
+    }
+
+    /// Returns an empty list for tags that have the same two highest bits as `tag`. Allocates no memory.
+    #[inline(always)]
+    pub fn for_tag(alloc: Global, locks: usize, tag: u64) -> LineList
+        ensures { result ≡ record { locks = locks; quarter = tag / 2 ^ 62; lines = [] } }
     {
         LineList {
             locks,
+            quarter: quarter_of(tag),
             marks: Vec::new(alloc),
             holds: Vec::new(alloc),
         }
     }
 
-    /// Moves the line `own` into a new list. Returns `Err` if memory is refused; then nothing has changed.
+    /// Removes all lines, and makes this a list for a program with `locks` locks and for tags below 2^62. Keeps the
+    /// capacities.
+    #[inline(always)]
+    pub fn clear(&mut self, locks: usize)
+        ensures { self.new ≡ record { locks = locks; quarter = 0; lines = [] } }
+    {
+        self.marks.clear();
+        self.holds.clear();
+        self.locks = locks;
+        self.quarter = 0;
+    }
+
+    /// Moves the line `own` into a new list. If memory is refused, changes nothing.
     pub fn of(alloc: Global, own: &mut ThreadLine) -> Result<LineList, AllocError>
-        ensures ok { IfOk result (λ list. list ≡ record { locks = length own.old.holds; lines = own.old ∷ [] }) }
+        ensures ok { IfOk result (λ list. list ≡ record { locks = length own.old.holds; quarter = own.old.tag / 2 ^ 62; lines = own.old ∷ [] }) }
         ensures err { OnErr result (own.new ≡ own.old) }
     {
         let locks = own.holds.as_slice().len();
-        let mut list = LineList::new(alloc, locks);
-        list.append(alloc, own, &mut LineList::new(alloc, locks))?;
+        let mut list = LineList::for_tag(alloc, locks, own.tag);
+        let mut none = LineList::for_tag(alloc, locks, own.tag);
+        list.append(alloc, own, &mut none)?;
         Ok(list)
     }
 
-    /// Returns the number of locks of the threads' program, which is the number of counts in each line.
     #[inline(always)]
     pub fn locks(&self) -> usize
         ensures { result ≡ self.now.locks }
@@ -71,7 +136,13 @@ impl LineList {
         self.locks
     }
 
-    /// Returns the number of lines.
+    #[inline(always)]
+    pub fn quarter(&self) -> u64
+        ensures { result ≡ self.now.quarter }
+    {
+        self.quarter
+    }
+
     #[inline(always)]
     pub fn len(&self) -> usize
         ensures { result ≡ length self.now.lines }
@@ -79,7 +150,6 @@ impl LineList {
         self.marks.len()
     }
 
-    /// Returns the line at index `place`.
     #[inline(always)]
     pub fn at(&self, place: usize) -> LineView<'_>
         requires { place < length self.now.lines }
@@ -89,12 +159,11 @@ impl LineList {
         let first = place * self.locks;
         LineView::new(
             &mark.name,
-            mark.label,
+            unpacked(self.quarter, mark.label),
             &self.holds[first..first + self.locks],
         )
     }
 
-    /// Adds one to the number of times that the thread whose line is at index `place` has held the lock `lock`.
     #[inline(always)]
     pub fn count_hold(&mut self, place: usize, lock: u64)
         requires { place < length self.old.lines }
@@ -107,25 +176,27 @@ impl LineList {
         }
     }
 
-    /// Appends the line of a thread that has held no lock. Returns `Err` if memory is refused; then nothing has
-    /// changed.
+    /// Appends the line of a thread that has held no lock. If memory is refused, changes nothing.
     #[inline(always)]
     pub fn push(&mut self, name: Name, label: Label) -> Result<(), AllocError>
+        requires { label.tag / 2 ^ 62 ≡ self.old.quarter }
         ensures ok { OnOk result (self.new ≡ record {
           locks = self.old.locks;
+          quarter = self.old.quarter;
           lines = self.old.lines ++ record { name = name; tag = label.tag; holds = tabulated self.old.locks (λ lock. 0); ran = label.ran } ∷ [];
         }) }
         ensures err { OnErr result (self.new ≡ self.old) }
     {
         self.marks.try_reserve(1)?;
         push_zeros(&mut self.holds, self.locks)?;
-        self.marks.push_reserved(Mark { name, label });
+        self.marks.push_reserved(Mark {
+            name,
+            label: packed(label),
+        });
         Ok(())
     }
 
-    /// Moves `own`, and then the lines of `below`, to the end of this list. All lines must have equally many counts.
-    ///
-    /// Returns `Err` if memory is refused; then only capacities may have changed.
+    /// Moves `own` and the lines of `below` to the end of this list. If memory is refused, only capacities may change.
     #[inline(always)]
     pub fn append(
         &mut self,
@@ -134,8 +205,14 @@ impl LineList {
         below: &mut LineList,
     ) -> Result<(), AllocError>
         requires own { length own.old.holds ≡ self.old.locks }
+        requires tag { own.old.tag / 2 ^ 62 ≡ self.old.quarter }
         requires below { below.old.locks ≡ self.old.locks }
-        ensures ok { OnOk result (self.new ≡ record { locks = self.old.locks; lines = self.old.lines ++ own.old ∷ below.old.lines }) }
+        requires below_tags { below.old.quarter ≡ self.old.quarter }
+        ensures ok { OnOk result (self.new ≡ record {
+          locks = self.old.locks;
+          quarter = self.old.quarter;
+          lines = self.old.lines ++ own.old ∷ below.old.lines;
+        }) }
         ensures left { OnOk result (below.new.lines ≡ []) }
         ensures err { OnErr result (self.new ≡ self.old) }
         ensures own { OnErr result (own.new ≡ own.old) }
@@ -150,7 +227,7 @@ impl LineList {
             holds,
             ran,
         } = own.take(alloc);
-        let label = Label { tag, ran };
+        let label = packed(Label { tag, ran });
         self.marks.push_reserved(Mark { name, label });
         let _ = self.marks.append(&mut below.marks);
         let mut holds = holds.into_vec();

@@ -1,31 +1,27 @@
-//! The report lines of threads, in several lists, so that joining a child with many descendants copies few lines.
+//! Report lines in several lists, so that joining a child with many descendants copies few lines.
 ghost use Rattle.std.specs.Prelude.{◌≡◌, ◌+◌, ◌-◌, ◌≤◌, ◌<◌, ◌^◌, List, [], ◌∷◌, ◌++◌, get_or, length, vec_len, vec_capacity, IfOk, IfErr, OnOk, OnErr};
 ghost use Rattle.arachne_program.specs.Effects.{tabulated};
 ghost use Rattle.arachne_machine.specs.declared.line.ThreadLine.{ThreadLine};
 ghost use Rattle.arachne_machine.specs.Lines.{CountsHoldAt, lines_in};
 
 use crate::line::{Label, LineView, ThreadLine};
-use crate::line_list::LineList;
+use crate::line_list::{LineList, quarter_of};
 use crate::thread_lines::ThreadLines;
 use arachne_program::Name;
 use std::alloc::{AllocError, Global};
 use std::marker::Model;
 use std::mem::replace;
 
-/// The greatest number of lines that a join copies to the end of another list. A list with more lines is kept as it is.
+/// The greatest number of lines that a join copies; it moves a longer list as a whole.
 const MOST_MOVED: usize = 1000;
 
-/// The greatest number of lines in a `Lines`.
 const MOST: usize = usize::MAX / 2;
 
-/// The report lines of threads, in the report's order, in a few lists. Most lines are copied only once, when the report
-/// is complete.
+/// The report lines of threads, in a few lists. Most lines are copied only once, when the report is complete.
 #[derive(Debug, Drop)]
 pub struct Lines {
     earlier: Vec<LineList>,
-    /// The number of lines in the lists before `last`.
     count: usize,
-    /// The list to which new lines are appended.
     last: LineList,
 }
 
@@ -42,7 +38,7 @@ impl Model for Lines {
 }
 
 impl Lines {
-    /// Returns an empty list for threads of a program with `locks` locks. Allocates no memory.
+    /// Returns an empty list. Allocates no memory.
     #[inline(always)]
     pub fn new(alloc: Global, locks: u8) -> Lines
         ensures { result ≡ [] }
@@ -54,7 +50,16 @@ impl Lines {
         }
     }
 
-    /// Returns the number of lines.
+    /// Removes all lines, and makes this a list for a program with `locks` locks. Keeps the memory of the list `last`.
+    #[inline(always)]
+    pub fn clear(&mut self, locks: u8)
+        ensures { self.new ≡ [] }
+    {
+        self.earlier.clear();
+        self.count = 0;
+        self.last.clear(usize::from(locks));
+    }
+
     #[inline(always)]
     pub fn len(&self) -> usize
         ensures length { result ≡ length self.now }
@@ -63,8 +68,8 @@ impl Lines {
         self.count + self.last.len()
     }
 
-    /// Appends the line of a thread that has held no lock, in a program with `locks` locks. Returns `Err` if memory is
-    /// refused; then only capacities may have changed.
+    /// Appends the line of a thread that has held no lock, in a program with `locks` locks. If memory is refused, only
+    /// lists' capacities may change.
     #[inline(always)]
     pub fn push(
         &mut self,
@@ -80,14 +85,13 @@ impl Lines {
         if self.len() >= MOST {
             return Err(AllocError);
         }
-        if self.last.locks() != usize::from(locks) {
+        if self.last.locks() != usize::from(locks) || self.last.quarter() != quarter_of(label.tag) {
             return self.push_apart(alloc, name, label, locks);
         }
         self.last.push(name, label)?;
         Ok(())
     }
 
-    /// Appends a line like `push`, but to a new list, since the last list is for another number of locks.
     #[cold]
     #[inline(never)]
     fn push_apart(
@@ -103,7 +107,7 @@ impl Lines {
         ensures err { OnErr result (self.new ≡ self.old) }
     {
         self.earlier.try_reserve(1)?;
-        let mut own = LineList::new(alloc, usize::from(locks));
+        let mut own = LineList::for_tag(alloc, usize::from(locks), label.tag);
         own.push(name, label)?;
         self.count += self.last.len();
         let list = replace(&mut self.last, own);
@@ -111,7 +115,6 @@ impl Lines {
         Ok(())
     }
 
-    /// Returns the line at index `place`.
     #[inline(always)]
     pub fn at(&self, place: usize) -> LineView<'_>
         requires { place < length self.now }
@@ -123,7 +126,6 @@ impl Lines {
         line_in(&self.earlier, place)
     }
 
-    /// Adds one to the number of times that the thread whose line is at index `place` has held the lock `lock`.
     pub fn count_hold(&mut self, place: usize, lock: u64)
         requires { place < length self.old }
         ensures { CountsHoldAt self.old self.new place lock }
@@ -135,8 +137,8 @@ impl Lines {
         }
     }
 
-    /// Moves `own`, the line of a joined child, and then `below`, the lines of its descendants, to the end of this
-    /// list. Returns `Err` if memory is refused; then only capacities may have changed.
+    /// Moves `own`, a joined child's line, and then `below`, its descendants' lines, to the end of this list. If memory
+    /// is refused, only lists' capacities may change.
     #[inline(always)]
     pub fn append(
         &mut self,
@@ -154,15 +156,18 @@ impl Lines {
             return Err(AllocError);
         }
         let locks = self.last.locks();
+        let quarter = self.last.quarter();
         let is_small = below.earlier.is_empty() && below.last.len() <= MOST_MOVED;
-        if is_small && own.holds.as_slice().len() == locks && below.last.locks() == locks {
+        let has_locks = own.holds.as_slice().len() == locks && below.last.locks() == locks;
+        let has_quarter = quarter_of(own.tag) == quarter && below.last.quarter() == quarter;
+        if is_small && has_locks && has_quarter {
             self.last.append(alloc, own, &mut below.last)?;
             return Ok(());
         }
         self.append_many(alloc, own, below)
     }
 
-    /// Appends like `append`, but moves the lists of `below` as they are, so that none of their lines is copied.
+    /// Appends like `append`, but moves whole lists instead of copying their lines.
     #[cold]
     #[inline(never)]
     fn append_many(
@@ -190,8 +195,8 @@ impl Lines {
         Ok(())
     }
 
-    /// Moves `own`, and then all lines of this list, into a `ThreadLines`. Copies no line of this list. Returns `Err`
-    /// if memory is refused; then nothing has changed.
+    /// Moves `own` and all lines of this list, without a copy, into a `ThreadLines`, or does nothing if memory is
+    /// refused.
     pub fn complete(
         &mut self,
         alloc: Global,
@@ -212,7 +217,6 @@ impl Lines {
     }
 }
 
-/// Returns the line at index `place` of the concatenated `lists`.
 #[cold]
 #[inline(never)]
 fn line_in(lists: &Vec<LineList>, place: usize) -> LineView<'_>
@@ -228,8 +232,6 @@ fn line_in(lists: &Vec<LineList>, place: usize) -> LineView<'_>
     lists[at].at(left)
 }
 
-/// Adds one to the number of times that a thread has held the lock `lock`. `place` is the index of the thread's line in
-/// the concatenated `lists`.
 #[cold]
 #[inline(never)]
 fn count_hold_in(lists: &mut Vec<LineList>, place: usize, lock: u64)

@@ -1,11 +1,10 @@
-//! Looks up variables and items of arrays. A variable or an item that doesn't exist counts as 0.
+//! Looks up variables and items of arrays. A missing one counts as 0.
 ghost use Rattle.std.specs.Prelude.{◌≡◌, length, slice_index};
 ghost use Rattle.arachne_program.specs.Program.{source_of};
 ghost use Rattle.arachne_program.specs.Value.{array_at};
 
 use arachne_program::Program;
 
-/// Returns the value of the variable at index `variable`, or 0 if there is no such variable.
 #[inline(always)]
 pub fn variable_in(environment: &[u64], variable: u64) -> u64
     ensures { result ≡ slice_index environment.now variable }
@@ -16,7 +15,6 @@ pub fn variable_in(environment: &[u64], variable: u64) -> u64
     }
 }
 
-/// Returns the number of items of the array of number `array`, or 0 if there is no such array.
 #[inline(always)]
 pub fn length_in(program: &Program, array: u64) -> u64
     ensures { result ≡ length (array_at (source_of program.now).arrays array) }
@@ -27,7 +25,6 @@ pub fn length_in(program: &Program, array: u64) -> u64
     }
 }
 
-/// Returns the item at `index` of the array of number `array`, or 0 if there is no such item.
 #[inline(always)]
 pub fn item_in(program: &Program, array: u64, index: u64) -> u64
     ensures { result ≡ slice_index (array_at (source_of program.now).arrays array) index }

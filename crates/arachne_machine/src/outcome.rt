@@ -8,11 +8,9 @@ use crate::thread_lines::ThreadLines;
 use arachne_program::{Name, Program, Sequence};
 use std::marker::Model;
 
-/// The outcome of an ended thread: its value, the totals that it has added to each ledger (a shared sum), and the
-/// report lines of the thread and its descendants.
+/// The outcome of an ended thread: its value, its sum for each ledger, and the report lines of it and its descendants.
 ///
-/// As an invariant, this is the outcome that the language's definition gives for the thread of this name in its
-/// program.
+/// An outcome is always the one that the language's definition gives for the thread of this name in its program.
 #[derive(Debug, Drop)]
 pub struct Outcome<'p> {
     pub(crate) program: &'p Program,
@@ -34,11 +32,11 @@ impl<'p> Model for Outcome<'p> {
     ghost invariant = { λ o. IsOfItsName (finished o.program.now o.contents) };
 }
 
-/// The value of an ended thread, its ledger sums, and the report lines of the thread and its descendants.
+/// The value, ledger sums and report lines of an ended thread.
 #[derive(Debug, Drop)]
 pub struct OutcomeParts {
     pub value: u64,
-    /// For each ledger (a shared sum), the total that the thread and its descendants have added, modulo 2^64.
+    /// For each ledger, the total that the thread and its descendants have added, modulo 2^64.
     pub sums: Sequence<u64>,
     /// The thread's own report line, followed by those of its descendants.
     pub lines: ThreadLines,
@@ -52,14 +50,12 @@ impl<'p> Outcome<'p> {
         self.program
     }
 
-    /// Returns the thread's name.
     pub fn name(&self) -> &Name
         ensures { result.now ≡ self.now.name }
     {
         &self.contents.own.name
     }
 
-    /// Returns the thread's value.
     pub fn value(&self) -> u64
         ensures value { result ≡ self.now.value }
         ensures of_its_name { IsOfItsName self.now }

@@ -7,25 +7,24 @@ use thiserror::Error;
 /// The reason why a thread has paused, which says what the caller must do next.
 #[derive(Drop)]
 pub enum Pause<'p> {
-    /// The thread has made all the steps that it was allowed. Call `advance` again to run it on.
+    /// The thread has made all the steps that it was allowed. Call `advance` again.
     Budget,
-    /// The thread has forked a child (fields: its class, normal or exclusive, and the child). Take the child and call
-    /// `forked`, or pass the child to `in_place`, which runs it inside this thread's slot.
+    /// The thread has forked this child, of this class (normal or exclusive). Take the child and call `forked`, or pass
+    /// the child to `in_place`, which runs it inside this thread's slot.
     Forks(Class, Thread<'p>),
-    /// The thread waits to join a child. Pass the child's outcome to `joined`, or pass the child itself to `in_place`.
+    /// The thread waits to join a child. Pass the child's outcome to `joined`, or the child itself to `in_place`.
     Joins,
     /// The thread asks for the lock of this number. Get the lock for the thread, then call `granted`.
     Asks(u64),
     /// The thread releases the lock of this number. Free the lock and call `freed`.
     Frees(u64),
-    /// The thread adds the second number to the ledger (a shared sum) that the first number identifies. Add the number
-    /// and call `tallied`.
+    /// The thread adds to a ledger (fields: the ledger's number, the amount). Add the amount, then call `tallied`.
     Tallies(u64, u64),
-    /// The thread has ended. Call `finish` to get its outcome.
+    /// The thread has ended. Call `finish` to get the thread's outcome.
     Ended,
 }
 
-/// The request of a paused thread that its caller has not fulfilled yet, or `Ended` if the thread has ended.
+/// The unfulfilled request of a paused thread, or `Ended`.
 #[derive(Clone, Copy, Debug, PartialEq, Eq)]
 pub enum Pending {
     Forks,
@@ -34,7 +33,7 @@ pub enum Pending {
     Asks(u64),
     /// The thread releases the lock of this number.
     Frees(u64),
-    /// The thread adds to a ledger (a shared sum). Fields: the ledger's number, and the amount.
+    /// The thread asks to add to a ledger. Fields: the ledger's number, and the amount.
     Tallies(u64, u64),
     Ended,
 }
@@ -45,12 +44,10 @@ pub enum NotJoined<O> {
     /// The outcome is not that of the child that the thread waits for.
     #[error("the outcome of another thread")]
     Foreign(O),
-    /// Memory was refused.
     #[error("out of memory")]
     Memory(O),
 }
 
-/// Writes only the reason, without the outcome.
 impl<O> fmt::Debug for NotJoined<O> {
     fn fmt<W: fmt::Write>(&self, f: &mut fmt::Formatter<W>) -> fmt::Result {
         match self {
@@ -66,12 +63,10 @@ pub enum NotPlaced<'p> {
     /// The child is not the one that the thread waits to join.
     #[error("another thread")]
     Foreign(Thread<'p>),
-    /// Memory was refused.
     #[error("out of memory")]
     Memory(Thread<'p>),
 }
 
-/// Writes only the reason, without the child.
 impl<'p> fmt::Debug for NotPlaced<'p> {
     fn fmt<W: fmt::Write>(&self, f: &mut fmt::Formatter<W>) -> fmt::Result {
         match self {

@@ -1,4 +1,4 @@
-//! Children that were put inside their parent's slot: each begins when its parent waits to join it.
+//! Children that run inside their parent's slot, from the time when the parent waits for them.
 use crate::frame::Control;
 use crate::line::Ran;
 use crate::placing::Placing;
@@ -7,17 +7,13 @@ use crate::state::State;
 use arachne_program::Class;
 use std::alloc::AllocError;
 
-/// The reason why a child could not be put inside its parent's slot, with that child.
 #[derive(Drop)]
 pub enum Unplaced<'p> {
-    /// The child is not the one that the thread waits to join.
     Foreign(Box<State<'p>>),
-    /// Memory was refused.
     Memory(Box<State<'p>>),
 }
 
-/// The functions that run a thread inside whose slot children wait that have not begun: the list `placed`, with the
-/// newest child last.
+/// In these functions, `placed` has the children inside a thread's slot that have not begun, the newest last.
 impl<'p> State<'p> {
     ghost use Rattle.std.specs.Prelude.{◌≡◌, ◌≤◌, None, Some, true, All, IfOk, OnOk, OnErr};
     ghost use Rattle.arachne_machine.specs.declared.pause.Pending.TheVariants as pause;
@@ -27,12 +23,11 @@ impl<'p> State<'p> {
     ghost use Rattle.arachne_machine.specs.Suspended.{awaited};
     ghost use Rattle.arachne_machine.specs.Kept.{AdvancesWith, IsKept, Places, StandsBack, TakesUp, Went};
 
-    /// Runs the thread until it pauses or has made `left` steps. Subtracts the steps that it makes from `left`.
+    /// Runs the thread until it pauses or has made `left` steps, and subtracts these from `left`.
     ///
-    /// When the innermost thread (the one that makes the next step) begins to wait for the last child of `placed`, that
-    /// child runs inside this slot, as a function call would. If a thread pauses at a fork, returns the forked child
-    /// and its class, otherwise `None`. If memory is refused, returns `Err`, and the thread is as it was before the
-    /// refused step, which is not subtracted from `left`.
+    /// When the innermost thread (the one that runs) begins to wait for the last child of `placed`, that child runs
+    /// inside this slot. If memory is refused, the thread is as it was before the refused step, which is not subtracted
+    /// from `left`.
     pub fn advance_with<P: Placing>(
         &mut self,
         placed: &mut Vec<Box<State<'p>>>,
@@ -64,8 +59,7 @@ impl<'p> State<'p> {
         Ok(None)
     }
 
-    /// If this state's innermost thread waits for the last child of `placed`, moves that child into this state, to run
-    /// as a function call would. Returns whether it moved a child.
+    /// Moves the last child of `placed` into this state, and returns true, if the innermost thread waits for it.
     #[inline(always)]
     fn take_up(
         &mut self,
@@ -84,9 +78,7 @@ impl<'p> State<'p> {
         }
     }
 
-    /// Does the work of `take_up` if this state's innermost thread waits for a child. Returns whether it moved a child.
-    ///
-    /// If memory is refused, returns `Err`, and undoes the step in which the thread began to wait for the child.
+    /// If memory is refused, undoes the step that began the wait.
     #[cold]
     #[inline(never)]
     fn take_newest(
@@ -117,12 +109,11 @@ impl<'p> State<'p> {
         Ok(true)
     }
 
-    /// Puts `child` inside this thread's slot, to run there as a function call would.
+    /// Puts `child` inside this thread's slot, to run there as a function call would. `others` are the children that
+    /// wait inside the child's own slot.
     ///
-    /// `others` are the children that wait inside the child's own slot. If this thread has paused at the fork of
-    /// `child`, then `child` goes to the end of `placed`, after `others`, and begins when this thread waits for it. If
-    /// this thread already waits for `child`, then `child` runs at once, and `others` go to the end of `placed`. After
-    /// an error, only capacities may have changed.
+    /// If this thread has just forked `child`, the child begins when this thread waits for it. If this thread already
+    /// waits for `child`, the child runs at once. After an error, only lists' capacities may have changed.
     pub fn place(
         &mut self,
         placed: &mut Vec<Box<State<'p>>>,
@@ -143,8 +134,6 @@ impl<'p> State<'p> {
         }
     }
 
-    /// Moves `grandchildren`, the children that wait inside the slot of `child`, and then `child`, which was just
-    /// forked, to the end of `placed`. The child begins when its parent waits for it.
     fn wait_with(
         &mut self,
         placed: &mut Vec<Box<State<'p>>>,
@@ -166,8 +155,6 @@ impl<'p> State<'p> {
         Ok(())
     }
 
-    /// Moves `child`, for which this thread waits, into this state, to run at once as a function call would. Moves
-    /// `others`, the children that wait inside the child's slot, to the end of `placed`.
     fn go_on_with(
         &mut self,
         placed: &mut Vec<Box<State<'p>>>,

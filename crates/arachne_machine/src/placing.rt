@@ -1,48 +1,43 @@
-//! Callbacks of a running thread. One trait decides if a forked child may get a thread slot of its own, the other
-//! collects the amounts that the thread adds to ledgers (shared sums).
+//! The two traits by which a running thread calls its caller.
 ghost use Rattle.std.specs.Prelude.{◌≡◌, ℕ, Bool, true, false, IsTrue};
 ghost use Rattle.arachne_machine.specs.Tallying.{GainsAt};
 
 use arachne_program::Class;
 
-/// Decides at each fork if the child may get a thread slot of its own. Any answer is correct: it only affects where the
-/// child runs.
+/// Decides at each fork if the child may get a thread slot (room for one thread on a core) of its own. Any answer is
+/// correct, as it only affects where the child runs.
 pub trait Placing {
     /// True if this type lets each child have a slot of its own.
     ghost gives_all: { Bool };
 
-    /// Returns whether a child of class `class` may get a thread slot of its own. If true, the thread pauses at the
-    /// fork. If false, the child runs inside its parent's slot, and the thread doesn't pause.
+    /// Returns true if a child may get a thread slot of its own. If true, the thread pauses at the fork. If false, the
+    /// child runs inside its parent's slot.
     fn is_any(&mut self, class: Class) -> bool
         ensures { gives_all ≡ true → IsTrue result };
 
-    /// Returns, like `is_any`, whether a child may get a slot of its own. The child reduces `turns` numbers of a sweep
-    /// (a parallel reduction).
+    /// Like `is_any`, for a child that reduces `turns` numbers of a sweep (a parallel reduction).
     fn is_any_for(&mut self, class: Class, _turns: u64) -> bool
         ensures { gives_all ≡ true → IsTrue result }
     {
         self.is_any(class)
     }
 
-    /// Returns a tag (the number by which the run identifies a thread) for a child that begins inside its parent's
-    /// slot.
+    /// Returns the tag (number in the run's report) for a child that begins inside its parent's slot.
     fn tag(&mut self) -> u64;
 }
 
-/// Collects the amounts that a thread adds to ledgers (shared sums). The caller must later add these amounts to the
-/// shared ledgers themselves.
+/// Collects the amounts that a thread adds to ledgers. The caller must add them to the ledgers later.
 pub trait Tallying {
     /// The amount that the caller must still add to each ledger, modulo 2^64.
     ghost due_to: { Self → ℕ → ℕ };
 
-    /// Collects `amount` for the ledger (a shared sum) of number `ledger`. If it can't collect the amount, returns
-    /// false and changes nothing.
+    /// Collects `amount` for the ledger of this number and returns true, or returns false and changes nothing.
     fn take(&mut self, ledger: u64, amount: u64) -> bool
         ensures taken { result ≡ true → GainsAt (due_to self.old) ledger amount (due_to self.new) }
         ensures full { result ≡ false → self.new ≡ self.old };
 }
 
-/// Lets each child have a slot of its own, so that the thread pauses at each fork.
+/// Gives each child a slot of its own, so that the thread pauses at each fork.
 #[derive(Clone, Copy, Debug)]
 pub struct Everywhere;
 

@@ -5,13 +5,9 @@ use arachne_program::Program;
 use std::alloc::{AllocError, Global};
 use std::marker::Model;
 
-/// The greatest number of thread states that a store keeps, and of boxes for outcomes.
 const MOST: usize = 64;
 
-/// A store for the memory of ended threads, which new threads reuse.
-///
-/// It keeps the boxed states of ended threads, with the capacity of their vectors, and the boxes of outcomes that were
-/// joined.
+/// A store for the memory of ended threads and of joined outcomes, which new threads reuse.
 #[derive(Drop)]
 pub struct Spares<'p> {
     most: usize,
@@ -30,7 +26,7 @@ impl<'p> Model for Spares<'p> {
 }
 
 impl<'p> Spares<'p> {
-    /// Returns a store without any memory to reuse. Allocates no memory.
+    /// Returns an empty store. Allocates no memory.
     pub fn new(alloc: Global) -> Spares<'p> {
         Spares {
             most: MOST,
@@ -39,7 +35,6 @@ impl<'p> Spares<'p> {
         }
     }
 
-    /// Returns a store that never keeps anything, so that no memory is reused.
     pub(crate) fn none(alloc: Global) -> Spares<'p> {
         Spares {
             most: 0,
@@ -48,7 +43,6 @@ impl<'p> Spares<'p> {
         }
     }
 
-    /// Returns a box for a thread's state: that of an ended thread if the store has one, else a new one.
     pub(crate) fn take(
         &mut self,
         alloc: Global,
@@ -60,7 +54,7 @@ impl<'p> Spares<'p> {
         }
     }
 
-    /// Returns a box for an outcome: the box of a joined outcome if the store has one, else a new one.
+    /// Returns a box for an outcome, which is allocated only if the store has no box.
     #[inline(always)]
     pub fn take_contents(&mut self) -> Result<Box<Contents>, AllocError> {
         match self.contents.pop() {
@@ -69,7 +63,7 @@ impl<'p> Spares<'p> {
         }
     }
 
-    /// Keeps the box of an outcome that was joined, or an unused box. Drops the box if the store already has `MOST`.
+    /// Keeps the box of a joined outcome, or drops it if the store is full.
     #[inline(always)]
     pub fn keep_contents(&mut self, contents: Box<Contents>) {
         if self.contents.len() < self.most {
@@ -77,7 +71,6 @@ impl<'p> Spares<'p> {
         }
     }
 
-    /// Keeps the state of an ended thread. Drops the state if the store already has `MOST`.
     #[inline(always)]
     pub(crate) fn keep(&mut self, state: Box<State<'p>>) {
         if self.states.len() < self.most {

@@ -10,10 +10,9 @@ use crate::spares::Spares;
 use crate::tables::zeros;
 use arachne_program::{Class, Expr, Name, Program, Sequence};
 use std::alloc::{AllocError, Global};
-use std::mem::replace;
+use std::mem::{replace, swap};
 
-/// A thread's line in the report of a run: its name, its tag (identifying number), the kind of thread slot in which it
-/// runs, and how often it held each lock.
+/// A running thread's line in the report of a run.
 #[derive(Drop)]
 pub struct Own {
     pub name: Name,
@@ -26,7 +25,6 @@ impl Own {
     ghost use Rattle.std.specs.Prelude.{◌≡◌};
     ghost use Rattle.arachne_machine.specs.Strands.{own_line};
 
-    /// Returns a placeholder that belongs to no thread. Allocates no memory.
     fn vacant(alloc: Global) -> Own {
         Own {
             name: Name::root(alloc),
@@ -38,7 +36,7 @@ impl Own {
         }
     }
 
-    /// Moves the report line out of `self`, in which an empty name and no counts remain.
+    /// Returns the thread's line of the run's report, and leaves an empty name and no counts.
     #[inline(always)]
     pub fn take_line(&mut self, alloc: Global) -> ThreadLine
         ensures line { result ≡ own_line self.old }
@@ -52,7 +50,8 @@ impl Own {
         }
     }
 
-    /// Undoes `take_line`: moves the name and the counts of `line` back.
+    /// Puts back the name, and the counts of locks held, of a thread's line of the report that `take_line` has
+    /// returned.
     pub fn put_back(&mut self, line: ThreadLine)
         ensures name { self.new.name ≡ line.name }
         ensures holds { self.new.holds.items ≡ line.holds }
@@ -69,32 +68,29 @@ impl Own {
     }
 }
 
-/// The state of an interpreted thread between two steps, together with the children that run inside its thread slot.
+/// The state of a thread between two steps, together with the children that run inside its thread slot.
 ///
-/// A child that gets no slot of its own runs inside its parent's slot, and the parent waits for it as for a function
-/// call. Of the threads nested in one slot, the *outermost* is the one that the slot was given to, and the *innermost*
-/// makes the next step.
+/// A child without a slot of its own runs inside its parent's slot, as a function call would. Of the threads inside one
+/// slot, the *outermost* is the one that the slot was given to, and the *innermost* makes the next step.
 #[derive(Drop)]
 pub struct State<'p> {
     pub program: &'p Program,
     pub alloc: Global,
-    /// The outermost thread's line in the report of a run.
+    /// The report line of the outermost thread (the slot's owner).
     pub own: Own,
-    /// The report lines of the outermost thread's descendants that were joined or run inside its slot, in the report's
-    /// order.
+    /// The report lines of the slot owner's descendants that were joined or run inside the slot.
     pub lines: Lines,
-    /// For each ledger (a shared sum), the total that all threads of this state have added, modulo 2^64.
+    /// For each ledger, the total that all threads of this state have added, modulo 2^64.
     pub sums: Vec<u64>,
-    /// The threads that each wait for a child that runs inside them, the outermost first.
+    /// The threads that wait for a child inside the same slot, the slot's owner first.
     pub parents: Vec<Parent<'p>>,
-    /// The innermost thread's first frame, its number of forks, and the index of its report line.
     pub level: Level,
-    /// The values of the innermost thread's variables. Those of each thread in `parents` are a prefix of this list.
+    /// The values of the variables of the innermost thread (the one that runs). The variables of each waiting parent
+    /// are a prefix of this list.
     pub environment: Vec<u64>,
-    /// The stack frames of all threads of this state, those of the outermost thread first. The newest frame is the
-    /// last.
+    /// The stack frames of all threads of this state, those of the slot's owner first.
     pub frames: Vec<Frame<'p>>,
-    /// The innermost thread's next action, or the request at which it has paused.
+    /// The next action of the innermost thread (the one that runs), or the request at which it has paused.
     pub control: Control<'p>,
 }
 
@@ -103,14 +99,13 @@ pub struct State<'p> {
 pub enum Progress<'p> {
     /// The step has computed this value, which must next be passed to the newest stack frame.
     Value(u64),
-    /// The step was made. The next step begins this expression.
+    /// The next step begins this expression.
     Begin(&'p Expr),
-    /// The step was made. The state's field `control` has the next action.
+    /// The state's field `control` has the next action.
     Goes,
-    /// The step was made. The thread pauses, for another reason than a fork, or has ended.
+    /// The thread pauses, for another reason than a fork, or has ended.
     Stops,
-    /// The step has forked a child. Fields: the child's class (normal, or exclusive: with a core for itself), and its
-    /// state.
+    /// The step has forked this child, of this class (normal or exclusive).
     Forks(Class, Box<State<'p>>),
 }
 
@@ -154,7 +149,6 @@ impl<'p> State<'p> {
         Ok(state)
     }
 
-    /// Returns a placeholder state, which belongs to no thread of `program`.
     #[cold]
     #[inline(never)]
     pub fn vacant(alloc: Global, program: &'p Program) -> State<'p> {
@@ -172,10 +166,9 @@ impl<'p> State<'p> {
         }
     }
 
-    /// Overwrites this state with that of a new thread, which has not begun. The lists keep their capacities.
+    /// Makes this the state of a new thread; the lists keep their capacities.
     ///
-    /// Reserves room for three more variables: the current number of a sweep (a parallel reduction), and the two that
-    /// `give` can add.
+    /// Reserves room for three variables: a sweep's (parallel reduction's) current number, and two that `give` adds.
     fn renew(
         &mut self,
         program: &'p Program,
@@ -191,7 +184,7 @@ impl<'p> State<'p> {
         self.environment.extend_from_slice(environment)?;
         self.frames.clear();
         self.parents.clear();
-        self.lines = Lines::new(self.alloc, program.locks);
+        self.lines.clear(program.locks);
         self.program = program;
         self.own = own;
         self.sums = sums;
@@ -202,9 +195,8 @@ impl<'p> State<'p> {
 
     /// Runs the thread until it pauses or has made `left` steps. Subtracts the steps that it makes from `left`.
     ///
-    /// A step is the evaluation of one node of an expression. If the thread pauses at a fork, returns the forked child
-    /// and its class, otherwise `None`. If memory is refused, returns `Err`, and the thread is as it was before the
-    /// refused step, which is not subtracted from `left`.
+    /// A step is the evaluation of one node of an expression. At a fork, returns the forked child and its class. If
+    /// memory is refused, the thread is as it was before the refused step, which is not subtracted from `left`.
     pub fn advance<P: Placing>(
         &mut self,
         left: &mut u32,
@@ -244,7 +236,6 @@ impl<'p> State<'p> {
         Ok(None)
     }
 
-    /// Returns the expression that the next step begins, or `None` if the next action is another one.
     #[inline(always)]
     fn beginning(&self) -> Option<&'p Expr>
         ensures current { current_in result self.now ≡ self.now }
@@ -256,7 +247,6 @@ impl<'p> State<'p> {
         }
     }
 
-    /// Stores in `control` that the next step begins the expression `begins`. If `begins` is `None`, changes nothing.
     #[inline(always)]
     fn settle(&mut self, begins: Option<&'p Expr>)
         ensures { self.new ≡ current_in begins.entry self.old }
@@ -266,12 +256,10 @@ impl<'p> State<'p> {
         }
     }
 
-    /// Makes one step, and possibly further steps in the same call. Subtracts only the further steps from `left`, since
-    /// the caller has already subtracted the first.
+    /// Makes at least one step, and subtracts the number of steps after the first from `left`.
     ///
-    /// The step begins the expression `begins`. If `begins` is `None`, the step begins a part of a sweep (a parallel
-    /// reduction), or uses a value that an earlier step has stored in `control`. If the step yields a value, passes
-    /// that value to the newest stack frame.
+    /// If `begins` is `None`, begins a part of a sweep (a parallel reduction), or uses a value that an earlier step has
+    /// kept. A value that the step yields goes to the newest stack frame.
     #[inline(always)]
     fn make<P: Placing>(
         &mut self,
@@ -297,7 +285,6 @@ impl<'p> State<'p> {
         }
     }
 
-    /// Begins the expression `begins`, or calls `resume` if `begins` is `None`.
     #[inline(always)]
     fn begin_next<P: Placing>(
         &mut self,
@@ -319,8 +306,6 @@ impl<'p> State<'p> {
         }
     }
 
-    /// Returns the value that an earlier step has stored in `control`, or begins the part of a sweep (a parallel
-    /// reduction) that is stored there.
     #[inline(always)]
     fn resume<P: Placing>(
         &mut self,
@@ -342,8 +327,8 @@ impl<'p> State<'p> {
         }
     }
 
-    /// Returns the request at which the innermost thread has paused, or that it has ended; `None` if it can make a
-    /// step.
+    /// Returns the request at which the innermost thread (the one that runs) has paused, or `Ended`. Returns `None` if
+    /// the thread can make a step.
     pub fn pending(&self) -> Option<Pending>
         ensures { result ≡ pending_of self.now.control }
     {
@@ -358,7 +343,7 @@ impl<'p> State<'p> {
         }
     }
 
-    /// Returns the name of the innermost of the threads nested in this slot, the one that makes the next step.
+    /// Returns the name of the innermost thread.
     #[inline(always)]
     pub fn running_name(&self) -> &Name
         requires { HasLine self.now }
@@ -370,8 +355,7 @@ impl<'p> State<'p> {
         self.lines.at(self.level.place).name()
     }
 
-    /// Returns the tag (identifying number) of the innermost of the threads nested in this slot, the one that makes the
-    /// next step.
+    /// Returns the tag (number in the run) of the innermost thread (the one that runs).
     pub fn running_tag(&self) -> u64
         requires { HasLine self.now }
         ensures { result ≡ (top self.now).own.label.tag }
@@ -382,26 +366,24 @@ impl<'p> State<'p> {
         self.lines.at(self.level.place).tag()
     }
 
-    /// Moves the value, the ledger sums and the report lines out of the state of a thread that has ended.
+    /// Moves the result of an ended thread into `contents`. This state gets the old lists of `contents`, so that the
+    /// next thread reuses their memory.
     #[inline(always)]
-    pub fn finish(&mut self) -> Contents
+    pub fn finish(&mut self, contents: &mut Contents)
         requires ended { pending_of self.old.control ≡ Some pause.Ended }
         requires alone { self.old.parents.items ≡ [] }
         requires sound { IsSoundState self.old }
-        ensures sums { result.sums.items ≡ self.old.sums.items }
-        ensures own { result.own ≡ own_line self.old.own }
-        ensures below { result.below ≡ self.old.lines }
-        ensures of_its_name { IsOfItsName (finished self.old.program.now result) }
+        ensures sums { contents.new.sums.items ≡ self.old.sums.items }
+        ensures own { contents.new.own ≡ own_line self.old.own }
+        ensures below { contents.new.below ≡ self.old.lines }
+        ensures of_its_name { IsOfItsName (finished self.old.program.now contents.new) }
     {
-        Contents {
-            value: self.value(),
-            sums: replace(&mut self.sums, Vec::new(self.alloc)),
-            own: self.own.take_line(self.alloc),
-            below: replace(&mut self.lines, Lines::new(self.alloc, self.program.locks)),
-        }
+        contents.value = self.value();
+        contents.own = self.own.take_line(self.alloc);
+        swap(&mut contents.sums, &mut self.sums);
+        swap(&mut contents.below, &mut self.lines);
     }
 
-    /// Returns the value of a thread that has ended.
     fn value(&self) -> u64
         requires { pending_of self.now.control ≡ Some pause.Ended }
         ensures { self.now.control ≡ control.Ended result }

@@ -1,10 +1,9 @@
-//! Functions for lists that have one number for each ledger (a shared sum) or each lock.
+//! Lists with one number for each ledger or each lock.
 ghost use Rattle.std.specs.Prelude.{◌≡◌, ℕ, ◌+◌, ◌==◌, if◌then◌else◌, ◌++◌, length, IfOk, OnOk, OnErr};
 ghost use Rattle.arachne_program.specs.Effects.{tabulated};
 
 use std::alloc::{AllocError, Global};
 
-/// Allocates a list of `n` zeros.
 #[inline(always)]
 pub fn zeros(alloc: Global, n: u8) -> Result<Vec<u64>, AllocError>
     ensures { IfOk result (λ v. v.items ≡ tabulated n (λ _. 0)) }
@@ -15,7 +14,7 @@ pub fn zeros(alloc: Global, n: u8) -> Result<Vec<u64>, AllocError>
     vec![in alloc; 0u64; usize::from(n)]
 }
 
-/// Appends `n` zeros. Returns `Err` if memory is refused; then only the capacity may have changed.
+/// Appends `n` zeros. If memory is refused, only the capacity may have changed.
 #[inline(always)]
 pub fn push_zeros(numbers: &mut Vec<u64>, n: usize) -> Result<(), AllocError>
     ensures ok { OnOk result (numbers.new.items ≡ numbers.old.items ++ tabulated n (λ _. 0)) }
@@ -28,7 +27,6 @@ pub fn push_zeros(numbers: &mut Vec<u64>, n: usize) -> Result<(), AllocError>
     Ok(())
 }
 
-/// Adds each number of `more` to the number of `sums` at the same index, modulo 2^64.
 pub fn add_each(sums: &mut [u64], more: &[u64])
     requires { length more.now ≡ length sums.old }
     ensures { (n : ℕ) (own others : ℕ → ℕ) → sums.old ≡ tabulated n own → more.now ≡ tabulated n others
@@ -39,7 +37,7 @@ pub fn add_each(sums: &mut [u64], more: &[u64])
     }
 }
 
-/// Adds `amount`, modulo 2^64, to the number at index `place`. Does nothing if there is no such index.
+/// Adds `amount`, modulo 2^64, to the number at index `place`, if there is one.
 pub fn add_at(sums: &mut [u64], place: u64, amount: u64)
     ensures { (n : ℕ) (own : ℕ → ℕ) → sums.old ≡ tabulated n own
         → sums.new ≡ tabulated n (λ other. own other + (if other == place then amount else 0)) }

@@ -1,4 +1,4 @@
-//! A thread of a task program: creates it, advances it by steps, resumes it after a pause, and joins its children.
+//! A thread of a task program, which its caller runs step by step.
 ghost use Rattle.std.specs.Prelude.{◌≡◌, ◌≢◌, ◌↔◌, ◌≤◌, ◌+◌, ◌-◌, ℕ, ◌∷◌, [], ◌++◌, true, false, Err, None, Some, IfOk, IfSome, OnOk, IfErr, OnErr, IsTrue};
 ghost use Rattle.arachne_program.specs.Effects.{tabulated};
 ghost use Rattle.arachne_machine.specs.Suspended.{IsAnswered, IsAsk, IsFree, IsFresh, IsNext, IsTally, Joined, SameThread, added, awaited, own_line_of, raised};
@@ -33,13 +33,10 @@ use std::snapshot::Snapshot;
 
 /// A paused thread of a program, together with the children that run inside its slot while it waits for them.
 ///
-/// If the caller passes a child to `in_place`, the child begins when its parent waits for it, and the parent resumes
-/// when the child has ended. A thread is not `Clone`, since each thread must run only once.
+/// A thread is not `Clone`, since each thread must run only once.
 #[derive(Drop)]
 pub struct Thread<'p> {
-    /// The state of the thread, and of the children that have begun inside its slot.
     state: Box<State<'p>>,
-    /// The children that the caller has put inside this thread's slot and that have not begun yet, the newest last.
     placed: Vec<Box<State<'p>>>,
 }
 
@@ -60,7 +57,7 @@ impl<'p> Model for Thread<'p> {
 }
 
 impl<'p> Thread<'p> {
-    /// Creates the root thread of a program. `tag` is the number by which the run identifies the thread.
+    /// Creates the root thread of a program. `tag` is the thread's number in the run.
     pub fn start(alloc: Global, program: &'p Program, tag: u64) -> Result<Thread<'p>, AllocError>
         ensures alone { IfOk result IsAlone }
         ensures fresh { IfOk result (λ thread. IsFresh program.now [] tag thread.running) }
@@ -75,8 +72,7 @@ impl<'p> Thread<'p> {
         Ok(thread_of(state))
     }
 
-    /// Returns the tag (the number by which the run identifies a thread) of this thread, not of a child that runs
-    /// inside its slot.
+    /// Returns the tag (number in the run) of this thread, not of a child that runs inside its slot.
     pub fn tag(&self) -> u64
         ensures { result ≡ (whole self.now).label.tag }
     {
@@ -90,23 +86,21 @@ impl<'p> Thread<'p> {
         &self.state.own.name
     }
 
-    /// Returns the program to which the thread belongs.
     pub fn program(&self) -> &'p Program
         ensures { result.now ≡ (whole self.now).program }
     {
         self.state.program
     }
 
-    /// Returns the tag (identifying number) of the thread that makes the next step: this thread, or a child that runs
-    /// inside its slot. A pause is always one of that thread.
+    /// Returns the tag (number in the run) of the thread that makes the next step: this thread, or a child inside its
+    /// slot. If the thread has paused, this is the thread whose request must be fulfilled.
     pub fn running_tag(&self) -> u64
         ensures { result ≡ self.now.running.label.tag }
     {
         self.state.running_tag()
     }
 
-    /// Sets the number by which the run identifies this thread. The caller must not call this while a child runs inside
-    /// the thread's slot.
+    /// Sets this thread's number in the run. Must not be called while a child runs inside the thread's slot.
     pub fn set_tag(&mut self, tag: u64)
         requires { self.old.parents ≡ [] }
         ensures tagged { self.new ≡ record self.old { running = with_tag tag self.old.running } }
@@ -116,8 +110,8 @@ impl<'p> Thread<'p> {
         self.state.own.label.tag = tag;
     }
 
-    /// Records, for the report, that this thread got its slot only after it had waited for one. The caller must not
-    /// call this while a child runs inside that slot.
+    /// Records, for the report, that this thread had to wait for its slot. Must not be called while a child runs inside
+    /// that slot.
     pub fn set_spilled(&mut self)
         requires { self.old.parents ≡ [] }
         ensures spilled { self.new ≡ record self.old { running = spilled_of self.old.running } }
@@ -140,7 +134,7 @@ impl<'p> Thread<'p> {
     /// Runs the thread until it pauses or has made `budget` steps. Evaluating one node of an expression is a step. The
     /// thread pauses at each fork.
     ///
-    /// If memory is refused, the thread stays as it was before the refused step, and the caller may call this again.
+    /// If memory is refused, the thread is as it was before the refused step, and the caller may call this again.
     pub fn advance(&mut self, budget: u32) -> Result<Pause<'p>, AllocError>
         requires not_paused { pending_in self.old ≡ None }
         requires some { 1 ≤ budget }
@@ -160,11 +154,11 @@ impl<'p> Thread<'p> {
     }
 
     /// Runs the thread until it pauses or has made `left` steps. Subtracts the steps that it makes from `left`, which
-    /// is 0 after the pause `Budget`; before any other pause, the thread makes at least one step.
+    /// is 0 after the pause `Budget`. Before any other pause, the thread makes at least one step.
     ///
-    /// `places` decides at each fork if the child gets a slot of its own. If not, the thread doesn't pause, and the
-    /// child runs inside this thread's slot later. Children with a slot of their own reuse memory of `spares`. If
-    /// memory is refused, the thread stays as it was before the refused step, as with `advance`.
+    /// `places` decides at each fork if the child gets a slot of its own. A child with a slot of its own reuses memory
+    /// of `spares`. For any other child, the thread doesn't pause, and the child runs inside this thread's slot later.
+    /// If memory is refused, the thread is as it was before the refused step, and the caller may call this again.
     pub fn advance_within<P: Placing>(
         &mut self,
         left: &mut u32,
@@ -193,8 +187,7 @@ impl<'p> Thread<'p> {
         Ok(pause_of(forked, self.pending()))
     }
 
-    /// Runs the thread like `advance_within`, but doesn't pause at an addition to a ledger (a shared sum) if `due`
-    /// collects the amount.
+    /// Works like `advance_within`, but without a pause for additions to ledgers that `due` collects.
     pub fn advance_tallying<P: Placing, D: Tallying>(
         &mut self,
         left: &mut u32,
@@ -226,8 +219,7 @@ impl<'p> Thread<'p> {
         Ok(Pause::Budget)
     }
 
-    /// If the thread has paused to add to a ledger (a shared sum) and `due` collects the amount, resumes the thread.
-    /// Returns whether it resumed the thread.
+    /// Returns true if the thread has paused to add to a ledger, and was resumed since `due` collects the amount.
     #[inline(always)]
     fn tally<D: Tallying>(&mut self, due: &mut D) -> bool
         ensures made { result ≡ true → (ledger amount : ℕ) × IsTallied ledger amount self.old self.new × GainsAt (D.due_to due.old) ledger amount (D.due_to due.new) }
@@ -243,8 +235,6 @@ impl<'p> Thread<'p> {
         true
     }
 
-    /// Runs the thread until it pauses or has made `left` steps. If it pauses at a fork, returns the forked child and
-    /// its class, otherwise `None`.
     #[inline(always)]
     fn stop<P: Placing>(
         &mut self,
@@ -266,7 +256,7 @@ impl<'p> Thread<'p> {
         Ok(forked)
     }
 
-    /// Resumes a thread that paused at a fork. Call it after you have taken the child. Allocates no memory.
+    /// Resumes a thread that paused at a fork. The caller must have taken the child. Allocates no memory.
     pub fn forked(&mut self)
         requires { pending_in self.old ≡ Some pause.Forks }
         ensures whole { SameWhole self.old self.new }
@@ -283,9 +273,9 @@ impl<'p> Thread<'p> {
 
     /// Runs a child inside this thread's slot, as a function call would.
     ///
-    /// If this thread has paused at a fork, `child` must be the child that it forked, which begins when this thread
-    /// waits for it. If this thread waits to join a child, `child` must be that child, which runs at once. After an
-    /// error nothing has changed, and the error has the child.
+    /// If this thread has paused at a fork, `child` must be the forked child, which begins when this thread waits for
+    /// it. If this thread waits to join a child, `child` must be that child, which runs at once. After an error nothing
+    /// has changed, and the error has the child.
     pub fn in_place(&mut self, child: Thread<'p>) -> Result<(), NotPlaced<'p>>
         requires pending { IsPlacing (pending_in self.old) }
         requires child { MayBePlaced self.old child }
@@ -307,7 +297,7 @@ impl<'p> Thread<'p> {
         }
     }
 
-    /// Resumes a thread that paused to ask for a lock. Call it when the thread holds the lock. Allocates no memory.
+    /// Resumes a thread that paused to ask for a lock. The thread must hold the lock now. Allocates no memory.
     pub fn granted(&mut self)
         requires { IsAsk (pending_in self.old) }
         ensures whole { SameWhole self.old self.new }
@@ -322,7 +312,7 @@ impl<'p> Thread<'p> {
         self.state.granted();
     }
 
-    /// Resumes a thread that paused to release a lock. Call it after you have freed the lock. Allocates no memory.
+    /// Resumes a thread that paused to release a lock, which must now be free. Allocates no memory.
     pub fn freed(&mut self)
         requires { IsFree (pending_in self.old) }
         ensures whole { SameWhole self.old self.new }
@@ -337,8 +327,7 @@ impl<'p> Thread<'p> {
         self.state.freed();
     }
 
-    /// Resumes a thread that paused to add to a ledger (a shared sum). Call it after you have added the amount.
-    /// Allocates no memory.
+    /// Resumes a thread that paused to add to a ledger, after the caller has added the amount. Allocates no memory.
     pub fn tallied(&mut self)
         requires { IsTally (pending_in self.old) }
         ensures whole { SameWhole self.old self.new }
@@ -354,8 +343,8 @@ impl<'p> Thread<'p> {
         self.state.tallied();
     }
 
-    /// Joins the child that this thread waits for, whose outcome is `outcome`, and resumes the thread. After an error
-    /// nothing has changed, and the error has the outcome.
+    /// Joins the child that this thread waits for and that has the outcome `outcome`, and resumes the thread. After an
+    /// error nothing has changed, and the error has the outcome.
     pub fn joined(&mut self, outcome: Outcome<'p>) -> Result<(), NotJoined<Outcome<'p>>>
         requires pending { pending_in self.old ≡ Some pause.Joins }
         requires program { source_of outcome.program ≡ source_of (whole self.old).program }
@@ -378,7 +367,7 @@ impl<'p> Thread<'p> {
         }
     }
 
-    /// Joins like `joined`, but takes the child's outcome in a box, which `spares` keeps for a later outcome.
+    /// Joins like `joined`, but takes the outcome in a box, which `spares` keeps for a later outcome.
     pub fn joined_into(
         &mut self,
         outcome: DetachedOutcome,
@@ -411,8 +400,6 @@ impl<'p> Thread<'p> {
         }
     }
 
-    /// Joins the child whose outcome is `contents`. Returns the error `Foreign` if this thread doesn't wait for that
-    /// child. After an error nothing has changed.
     #[inline(always)]
     fn join(&mut self, program: &Snapshot<Program>, contents: &mut Contents) -> Result<(), Unjoined>
         requires pending { pending_in self.old ≡ Some pause.Joins }
@@ -442,14 +429,16 @@ impl<'p> Thread<'p> {
         ensures lines { result.lines ≡ own_line_of (whole self.entry) ∷ (whole self.entry).below }
     {
         let mut state = self.state;
+        let program = state.program;
+        let mut parts = Contents::vacant(state.alloc);
+        state.finish(&mut parts);
         Outcome {
-            program: state.program,
-            contents: state.finish(),
+            program,
+            contents: parts,
         }
     }
 
-    /// Returns the outcome of a thread that has ended, in the box `contents`. `spares` keeps the thread's other memory
-    /// for later threads.
+    /// Returns the outcome of a thread that has ended, in the box `contents`. `spares` keeps the thread's other memory.
     pub fn finish_into(self, contents: Box<Contents>, spares: &mut Spares<'p>) -> DetachedOutcome
         requires { pending_in self ≡ Some pause.Ended }
         ensures program { result.program ≡ (whole self.entry).program }
@@ -460,13 +449,12 @@ impl<'p> Thread<'p> {
         let mut state = self.state;
         let mut contents = contents;
         let program = Snapshot::of(state.program);
-        *contents = state.finish();
+        state.finish(&mut contents);
         spares.keep(state);
         DetachedOutcome { program, contents }
     }
 }
 
-/// Returns a thread with the state `state`, and with no child waiting inside its slot.
 fn thread_of<'p>(state: Box<State<'p>>) -> Thread<'p>
     requires { IsSoundChild state.value }
     ensures { result ≡ nested state.entry.value [] }
@@ -478,7 +466,6 @@ fn thread_of<'p>(state: Box<State<'p>>) -> Thread<'p>
     }
 }
 
-/// Returns the pause to report to the caller: the fork with its child if a child was forked, else the pending request.
 #[inline(always)]
 fn pause_of<'p>(forked: Option<(Class, Box<State<'p>>)>, pending: Option<Pending>) -> Pause<'p>
     requires { IfSome forked (λ f. IsSoundChild f.1.value) }

@@ -8,8 +8,7 @@ use crate::line_list::LineList;
 use std::alloc::{AllocError, Global};
 use std::marker::Model;
 
-/// The report lines of all threads of a run, in the report's order, in several lists. Only `into_vec` and `to_vec` copy
-/// them into one.
+/// The report lines of all threads of a run, in several lists. Only `into_vec` copies the lines into one list.
 #[derive(Debug, Drop)]
 pub struct ThreadLines {
     count: usize,
@@ -30,7 +29,6 @@ impl Model for ThreadLines {
 }
 
 impl ThreadLines {
-    /// Returns the concatenation of `lists`. `count` must be the number of lines in all lists together.
     pub fn of(lists: Vec<LineList>, count: usize) -> ThreadLines
         requires { count ≡ length (lines_in lists.items) }
         ensures { result ≡ lines_in lists.items }
@@ -38,14 +36,12 @@ impl ThreadLines {
         ThreadLines { count, lists }
     }
 
-    /// Returns the number of lines.
     pub fn len(&self) -> usize
         ensures { result ≡ length self.now }
     {
         self.count
     }
 
-    /// Returns whether there is no line.
     pub fn is_empty(&self) -> bool
         ensures { result ≡ (length self.now == 0) }
     {
@@ -73,7 +69,6 @@ impl ThreadLines {
         }
     }
 
-    /// Returns a `Vec` with a copy of each line.
     fn to_vec(&self, alloc: Global) -> Result<Vec<ThreadLine>, AllocError>
         ensures { IfOk result (λ lines. lines.items ≡ self.now) }
     {
@@ -85,10 +80,8 @@ impl ThreadLines {
     }
 }
 
-/// An iterator over the report lines of a `ThreadLines`, in order.
 #[derive(Drop)]
 pub struct LinesLeft<'a> {
-    /// The lists that still have lines to return.
     lists: &'a [LineList],
     /// The number of lines that were already returned from the first list.
     place: usize,
@@ -104,15 +97,12 @@ impl<'a> Model for LinesLeft<'a> {
     ghost view = { λ l. lines_from l.place l.lists.now };
 }
 
-/// A line, and the position behind it: the remaining lists, and an index into the first of them.
 struct FirstLine<'a> {
     line: LineView<'a>,
     lists: &'a [LineList],
     place: usize,
 }
 
-/// Returns the line at index `place` of the first list or, if there is none, the first line of the later lists; with
-/// it, the position behind that line. Returns `None` if no line is left.
 #[inline(always)]
 fn first_line<'a>(lists: &'a [LineList], place: usize) -> Option<FirstLine<'a>>
     ensures { MatchOption result (lines_from place lists.now ≡ [])

@@ -1,11 +1,9 @@
-//! Runs the iterations of folds (sequential loops) and of sweeps (parallel reductions). If an iteration has no effects
-//! and needs no more steps than are left, runs it in one call.
+//! The iterations of folds (sequential loops) and of sweeps (parallel reductions).
 use crate::frame::Frame;
 use crate::state::{Progress, State};
 use crate::worth::body_at_once;
 use arachne_program::{Expr, Reduction};
 
-/// The iterations of folds and sweeps.
 impl<'p> State<'p> {
     ghost use Rattle.std.specs.Prelude.{◌≡◌, ◌+◌, ◌-◌, ◌<◌, ◌≤◌, ◌++◌, ◌∷◌, [], length, vec_len, vec_capacity, MatchOption};
     ghost use Rattle.arachne_program.specs.Program.{source_of, tree_of};
@@ -17,11 +15,10 @@ impl<'p> State<'p> {
     ghost use Rattle.arachne_machine.specs.Steps.{Changes, ComesToFold, ComesToSweep, IsSame, LeavesOthers, OnStops, OnValue, Reaches, Turns, top};
     ghost use Rattle.arachne_machine.specs.Runs.{FoldsOn, IsOneStep, SweepsOn, seen_in};
 
-    /// Continues a fold (a sequential loop) over the numbers `next..end`. `so_far` is the value after the earlier
-    /// iterations.
+    /// Continues a fold (a sequential loop) over the numbers `next..end`, whose earlier iterations yielded `so_far`.
     ///
-    /// First runs those iterations that need no more steps than are left and have no effects, each in one call. Then
-    /// begins the next iteration, or ends the fold.
+    /// Runs iterations in one call each while they have no effects or loops and enough steps are left. Then begins the
+    /// next iteration, or ends the loop.
     pub fn turn_fold(
         &mut self,
         next: u64,
@@ -44,8 +41,9 @@ impl<'p> State<'p> {
         self.begin_fold(next, end, body, so_far, left)
     }
 
-    /// Runs iterations of a fold (a sequential loop), each in one call, until one has effects or needs more steps than
-    /// are left. Returns the number of the next iteration, and the value so far.
+    /// Runs iterations of a fold (a sequential loop) until one has effects or loops, or needs more steps than are left.
+    ///
+    /// Returns the number of the next iteration, and the value so far.
     #[inline(always)]
     fn fold_at_once(
         &mut self,
@@ -77,8 +75,8 @@ impl<'p> State<'p> {
         (next, so_far)
     }
 
-    /// Runs one iteration of a fold (a sequential loop), and returns its value. Returns `None` if the body has effects
-    /// or needs more steps than are left.
+    /// Runs one iteration of a fold (sequential loop), or returns `None` if it has effects, loops or more than `left`
+    /// steps.
     #[inline(always)]
     fn fold_value(&mut self, next: u64, so_far: u64, body: &'p Expr, left: &mut u32) -> Option<u64>
         requires environment { vec_len self.old.environment + 2 ≤ vec_capacity self.old.environment }
@@ -98,7 +96,6 @@ impl<'p> State<'p> {
         value
     }
 
-    /// Begins the iteration for `next` of a fold (a sequential loop), or ends the fold if `next` has reached `end`.
     #[inline(always)]
     fn begin_fold(
         &mut self,
@@ -128,8 +125,7 @@ impl<'p> State<'p> {
         self.go_on(turn, body)
     }
 
-    /// Continues a sweep (a parallel reduction) over the numbers `next..end`. `so_far` is the reduction of the earlier
-    /// values. Otherwise does the same as `turn_fold`.
+    /// Continues a sweep (a parallel reduction) over the numbers `next..end`, whose earlier values reduce to `so_far`.
     #[inline(always)]
     pub fn turn_sweep(
         &mut self,
@@ -154,8 +150,10 @@ impl<'p> State<'p> {
         self.begin_sweep(reduction, next, end, body, so_far, left)
     }
 
-    /// Runs iterations of a sweep (a parallel reduction), each in one call, until one has effects or needs more steps
-    /// than are left. Returns the number of the next iteration, and the value so far.
+    /// Runs iterations of a sweep (a parallel reduction) until one has effects or loops, or needs more steps than are
+    /// left.
+    ///
+    /// Returns the number of the next iteration, and the value so far.
     #[inline(always)]
     fn sweep_at_once(
         &mut self,
@@ -188,8 +186,8 @@ impl<'p> State<'p> {
         (next, so_far)
     }
 
-    /// Runs one iteration of a sweep (a parallel reduction), and returns its value. Returns `None` if the body has
-    /// effects or needs more steps than are left.
+    /// Runs one iteration of a sweep (parallel reduction), or returns `None` if it has effects, loops or more than
+    /// `left` steps.
     #[inline(always)]
     fn sweep_value(&mut self, next: u64, body: &'p Expr, left: &mut u32) -> Option<u64>
         requires environment { vec_len self.old.environment + 2 ≤ vec_capacity self.old.environment }
@@ -208,8 +206,6 @@ impl<'p> State<'p> {
         value
     }
 
-    /// Begins the iteration for `next` of a sweep (a parallel reduction), or ends the sweep if `next` has reached
-    /// `end`.
     #[inline(always)]
     fn begin_sweep(
         &mut self,

@@ -1,4 +1,4 @@
-//! Evaluates expressions without effects in one recursive call, if they need no more steps than are left.
+//! Evaluates expressions without effects (forks, locks, ledgers) and without loops in one recursive call.
 ghost use Rattle.std.specs.Prelude.{◌≡◌, ◌≤◌, ◌+◌, ◌-◌, vec_len, vec_capacity, IfSome, MatchOption};
 ghost use Rattle.arachne_program.specs.Program.{source_of, tree_of};
 ghost use Rattle.arachne_program.specs.Value.{with_newest};
@@ -7,10 +7,9 @@ ghost use Rattle.arachne_machine.specs.Pure.{IsWorth};
 use crate::lookup::{item_in, length_in, variable_in};
 use arachne_program::{Expr, Program};
 
-/// Returns the value of `body`, the body of a loop. Returns `None` if `body` has effects or needs more than `left`
-/// steps.
+/// Returns the value of a loop's body, and subtracts its steps from `left`.
 ///
-/// If it returns a value, subtracts the steps of `body` from `left`.
+/// Returns `None`, with `left` unchanged, if the body has effects or loops, or needs more steps.
 #[inline(always)]
 pub fn body_at_once(
     program: &Program,
@@ -33,10 +32,7 @@ pub fn body_at_once(
     Some(value)
 }
 
-/// Returns the value of `expr`, or `None` if that takes more than `left` steps.
-///
-/// Evaluates only numbers, variables, lengths and items of arrays, operations, conditionals and `let`. Returns `None`
-/// for any other expression. Leaves the variables in `environment` unchanged.
+/// Returns the value of `expr`, or `None` if it has effects, loops or over `left` steps.
 #[cycle(recursion)]
 fn value_at_once(
     program: &Program,
@@ -94,7 +90,7 @@ fn value_at_once(
     }
 }
 
-/// Returns the value of `expr` as `value_at_once` does, but faster if it is a number or a variable.
+/// Returns the value of `expr` as `value_at_once` does, but faster for a number or a variable.
 #[inline(always)]
 #[cycle(recursion)]
 fn side_at_once(
@@ -116,8 +112,7 @@ fn side_at_once(
     }
 }
 
-/// Returns the value of `body`, with `newest` as an additional variable, as `value_at_once` does. Also returns `None`
-/// if there is no room for that variable.
+/// Also returns `None` if memory for `newest` is refused.
 #[cycle(recursion)]
 fn bound_at_once(
     program: &Program,

@@ -1,9 +1,7 @@
 -- A list of orders none of which is at fault is in order.
 use Rattle.std.proofs.Common.{◌≡◌, ◌≢◌, ℕ, ◌<◌, ◌≤◌, suc, List, length, get_or, None, arith, add-one}
-use Rattle.std.proofs.lemmas.Grind.{common_steps}
-use Rattle.std.proofs.lemmas.List.{get_or_default}
-use Rattle.arachne_policy.specs.declared.orders.CoreOrder.{CoreOrder}
-use Rattle.arachne_policy.specs.declared.orders.OrderKind.TheVariants.{Release}
+use Rattle.std.proofs.lemmas.{Grind.common_steps, List.get_or_default}
+use Rattle.arachne_policy.specs.declared.orders.{CoreOrder.CoreOrder, OrderKind.TheVariants.Release}
 use Rattle.arachne_policy.specs.Orders.{order_fault, order_at, due_before, fault_at, AreInOrder}
 
 -- the facts about an order without fault

@@ -1,9 +1,7 @@
 -- The advice on a list of samples, for a loop that judges them one after another.
 use Rattle.std.proofs.Common.{◌≡◌, ℕ, zero, suc, ◌<◌, List, [], ◌∷◌, ◌++◌, length, reverse, take, get_or, refl, ap, arith, sym, ◌∙◌, append_assoc}
 use Rattle.std.proofs.lemmas.List.{reverse-append, append-nil}
-use Rattle.arachne_policy.specs.declared.samples.Sample.{Sample}
-use Rattle.arachne_policy.specs.declared.samples.Advice.{Advice}
-use Rattle.arachne_policy.specs.declared.samples.Advice.TheVariants.{Add, Stay, Remove}
+use Rattle.arachne_policy.specs.declared.samples.{Sample.Sample, Advice.Advice, Advice.TheVariants.Add}
 use Rattle.arachne_policy.specs.State.{State, after, StandsFor, HasJudged}
 use Rattle.arachne_policy.specs.Advice.{Settings, advice, advices_after, advices}
 
@@ -49,8 +47,7 @@ advices-get settings samples k d a h =
 
 settings-after : (state : State) (s : Sample) (a : Advice) → (after state s a).settings ≡ state.settings
 settings-after state s Add = refl
-settings-after state s Stay = refl
-settings-after state s Remove = refl
+settings-after state s _ = refl
 
 -- one more sample is judged: the step of a loop that calls `estimate` for each sample
 pub HasJudged-push : (settings : Settings) (samples : List Sample) (answers : List Advice) (old new : State) (s : Sample) (a : Advice)

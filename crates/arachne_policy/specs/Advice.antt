@@ -1,8 +1,6 @@
 -- The advice on a sample after the samples before it. A list of past samples has the newest first.
 use Rattle.std.specs.Prelude.{◌≡◌, ◌≢◌, ℕ, ◌+◌, ◌-◌, ◌*◌, Bool, true, false, ◌&&◌, ◌==◌, nat_lt, if◌then◌else◌, List, [], ◌∷◌, ◌++◌, codes}
-use Rattle.arachne_policy.specs.declared.samples.Sample.{Sample}
-use Rattle.arachne_policy.specs.declared.samples.Advice.{Advice}
-use Rattle.arachne_policy.specs.declared.samples.Advice.TheVariants.{Add, Stay, Remove}
+use Rattle.arachne_policy.specs.declared.samples.{Sample.Sample, Advice.Advice, Advice.TheVariants.{Add, Stay, Remove}}
 use Rattle.arachne_policy.specs.Sample.{load_of, utilisation_of}
 
 -- a load over `up` asks for a core, up to `max` cores; `up` and `hysteresis` are in thousandths

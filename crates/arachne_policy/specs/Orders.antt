@@ -1,9 +1,7 @@
 -- Lists of core orders that are in order.
 use Rattle.std.specs.Prelude.{◌≡◌, ◌≢◌, ℕ, zero, suc, ◌+◌, ◌<◌, ◌≤◌, Bool, true, false, ◌&&◌, ◌==◌, nat_lt, nat_le, if◌then◌else◌, List, length, slice_index_or, All, Option, Some, None}
-use Rattle.arachne_policy.specs.declared.orders.CoreOrder.{CoreOrder}
-use Rattle.arachne_policy.specs.declared.orders.OrderKind.{OrderKind}
-use Rattle.arachne_policy.specs.declared.orders.OrderKind.TheVariants.{Grant, Release}
-use Rattle.arachne_policy.specs.declared.orders.OrderFault.{OrderFault}
+use Rattle.arachne_policy.specs.declared.orders.{CoreOrder.CoreOrder, OrderKind.OrderKind}
+use Rattle.arachne_policy.specs.declared.orders.{OrderKind.TheVariants.{Grant, Release}, OrderFault.OrderFault}
 use Rattle.arachne_policy.specs.declared.orders.OrderFaultKind.{OrderFaultKind}
 use Rattle.arachne_policy.specs.declared.orders.OrderFaultKind.TheVariants.{NoSuchCore, ReleasesCoreZero, AfterFalls}
 

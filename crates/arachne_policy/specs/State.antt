@@ -1,10 +1,7 @@
 -- The view that callers have of an estimator.
 use Rattle.std.specs.Prelude.{◌≡◌, ℕ, ◌-◌, ◌<◌, ◌≤◌, List, reverse, slice_index, slice_set}
-use Rattle.arachne_policy.specs.declared.samples.Sample.{Sample}
-use Rattle.arachne_policy.specs.declared.samples.Advice.{Advice}
-use Rattle.arachne_policy.specs.declared.samples.Advice.TheVariants.{Add, Stay, Remove}
-use Rattle.arachne_policy.specs.Sample.{utilisation_of}
-use Rattle.arachne_policy.specs.Advice.{Settings, threshold, advices}
+use Rattle.arachne_policy.specs.declared.samples.{Sample.Sample, Advice.Advice, Advice.TheVariants.{Add, Stay, Remove}}
+use Rattle.arachne_policy.specs.{Sample.utilisation_of, Advice.{Settings, threshold, advices}}
 
 -- the maximum number of cores that an estimator may advise
 abbrev pub most_cores : ℕ

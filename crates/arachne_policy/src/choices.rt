@@ -9,11 +9,10 @@ pub struct CoreLoad {
     pub count: u8,
 }
 
-/// Returns the core for a new thread: of two random entries of `loads`, the one with fewer threads.
+/// Returns the core for a new thread, which is the one with fewer threads of two random entries of `loads`.
 ///
-/// With n entries, the low 32 bits of `word`, modulo n, select the first entry, and the high 32 bits, modulo n, the
-/// second. On a tie, returns the core of the first. This method, the power of two random choices, is the one by which
-/// the original Arachne places new threads.
+/// The low 32 bits of `word`, modulo the number of entries, select the first entry, and the high 32 bits the second. On
+/// a tie, returns the core of the first. The original Arachne does the same (power of two choices).
 pub fn two_choices(word: u64, loads: &[CoreLoad]) -> u8
     requires { 0 < length loads.now }
     ensures formula { result ≡ chosen_core word loads.now }

@@ -9,12 +9,11 @@ use crate::limits::MAX_CORES;
 use crate::samples::{Advice, BadSample, Sample};
 use std::marker::Model;
 
-/// Judges samples (measurements of one period) one after another: advises to add a core if the load is high, and to
-/// remove one if the utilisation has fallen.
+/// Judges samples of the load one after another, and advises to add or to remove a core.
 ///
-/// It advises to add a core if a scan of a core sees too many runnable threads on average. The utilisation at that time
-/// becomes the threshold for the new number of cores. It advises to remove a core if the utilisation is below that
-/// threshold by more than the hysteresis. The load estimator of the original Arachne has this form.
+/// The advice is to add a core if scans of cores see too many runnable threads on average. The utilisation (average
+/// number of busy cores) at that time becomes the threshold for the new number of cores. The advice is to remove a core
+/// if the utilisation is below this threshold by more than the hysteresis. Arachne's original estimator has this form.
 #[derive(Clone, Debug, Drop)]
 pub struct Estimator {
     up: u64,
@@ -38,9 +37,9 @@ impl Model for Estimator {
 impl Estimator {
     /// Creates an estimator that has judged no sample yet.
     ///
-    /// It advises to add a core, up to `max` cores, if a scan of a core sees more than `up` thousandths of a runnable
-    /// thread on average. It advises to remove a core if the utilisation is below the threshold for the present number
-    /// of cores by more than `hysteresis` thousandths of a core.
+    /// The advice is to add a core, up to `max` cores, if a scan of a core sees more than `up` / 1000 runnable threads
+    /// on average. The advice is to remove a core if the utilisation is below the threshold for this number of cores by
+    /// more than `hysteresis` / 1000 cores.
     pub fn new(up: u64, hysteresis: u64, max: u8) -> Self
         requires { max ≤ most_cores }
         ensures settings { result.settings ≡ record { up = up; hysteresis = hysteresis; max = max } }
@@ -60,8 +59,8 @@ impl Estimator {
         }
     }
 
-    /// Creates an estimator with the thresholds that another estimator has learnt, in thousandths of a core. The
-    /// threshold for n cores is at index n - 1.
+    /// Creates an estimator with the thresholds (of the advice to remove a core) that another estimator has learnt. The
+    /// threshold for n cores is at index n - 1, in thousandths of a core.
     pub fn resume(up: u64, hysteresis: u64, max: u8, thresholds: &[u64; MAX_CORES]) -> Self
         requires { max ≤ most_cores }
         ensures settings { result.settings ≡ record { up = up; hysteresis = hysteresis; max = max } }
@@ -75,18 +74,17 @@ impl Estimator {
         }
     }
 
-    /// Returns the thresholds, in thousandths of a core: all that the estimator has learnt from its samples. The
-    /// threshold for n cores is at index n - 1.
+    /// Returns the learnt thresholds, below which the advice is to remove a core. The threshold for n cores is at index
+    /// n - 1, in thousandths of a core.
     pub fn thresholds(&self) -> &[u64; MAX_CORES]
         ensures { result.now ≡ self.now.thresholds }
     {
         &self.thresholds
     }
 
-    /// Returns the advice on `sample`. If the advice is `Add`, the sample's utilisation becomes the threshold below
-    /// which the estimator later advises to give that core back.
+    /// Returns the advice on `sample`. After `Add`, the sample's utilisation is the threshold for one more core.
     ///
-    /// If `sample` has values that no measurement can have, returns `Err`, and changes nothing.
+    /// If `sample` has values that no measurement can have, returns an error, and changes nothing.
     pub fn estimate(&mut self, sample: Sample) -> Result<Advice, BadSample>
         ensures good { is_ok result ≡ is_good self.old.settings.max sample }
         ensures advice { IfOk result (λ a. a ≡ advice_by self.old.settings (threshold_at self.old) sample) }
@@ -116,8 +114,7 @@ impl Estimator {
         Ok(advice)
     }
 
-    /// Returns the advice on `sample`, by the present thresholds. The caller must pass a sample that can have been
-    /// measured.
+    /// Returns the advice on `sample` by the present thresholds.
     fn advise(&self, sample: &Sample) -> Advice
         requires { is_good self.now.settings.max sample.now ≡ true }
         ensures { result ≡ advice_by self.now.settings (threshold_at self.now) sample.now }

@@ -1,4 +1,4 @@
-//! Laws of the definitions in the contracts. Each law is the contract of a function with an empty body.
+//! What the contracts of the core policy imply. Each law is the contract of an empty function.
 
 ghost use Rattle.std.specs.Prelude.{◌≡◌, ℕ, ◌+◌, ◌*◌, ◌<◌, List, [], ◌∷◌, ◌++◌, length, reverse, take, slice_index_or};
 ghost use Rattle.arachne_policy.specs.declared.samples.Sample.{Sample};
@@ -9,10 +9,8 @@ ghost use Rattle.arachne_policy.specs.Sample.{most_counted};
 ghost use Rattle.arachne_policy.specs.State.{most_cores, State, after, StandsFor, HasJudged};
 ghost use Rattle.arachne_policy.specs.Advice.{Settings, threshold, advice, advices, NoneAdded, RecordStands};
 
-/// The last sample whose advice was `Add` sets the threshold for the number of cores after that addition.
-///
-/// The threshold for `cores + 1` cores is the utilisation of the last sample of `cores` cores whose advice was `Add`.
-/// If there was no such sample, the threshold is the utilisation of `cores` busy cores.
+/// The policy releases one of `cores + 1` cores if the number of busy cores falls well below a threshold: that number
+/// at the last sample of `cores` cores whose advice was `Add`. If there was no such sample, the threshold is `cores`.
 pub fn threshold_is_of_last_add()
     ensures recorded { (settings : Settings) (past : List Sample) (added : Sample)
         → RecordStands settings past added
@@ -22,11 +20,10 @@ pub fn threshold_is_of_last_add()
         → threshold settings past (cores + 1) ≡ 1000 * cores }
 {}
 
-/// Samples are judged one after another.
+/// Each sample in a list gets one advice, which depends only on the settings, that sample, and the samples before it.
 ///
-/// A list of samples gets one advice for each: the advice on that sample, after all samples before it. If one more
-/// sample is added to a list, the advices on the longer list are those on the shorter list, followed by the advice on
-/// the new sample by the thresholds after the shorter list.
+/// If a sample is appended to a list, the advices for the samples before it stay the same. The new advice follows from
+/// the new sample and the thresholds (loads below which a core is released) as those samples left them.
 pub fn advices_are_in_turn()
     ensures each_once { (settings : Settings) (samples : List Sample)
         → length (advices settings samples) ≡ length samples }
@@ -42,7 +39,7 @@ pub fn advices_are_in_turn()
         → HasJudged settings (samples ++ s ∷ []) (answers ++ a ∷ []) new }
 {}
 
-/// The limits in the code equal those in the contracts' definitions.
+/// The greatest number of cores, and the greatest count in a sample, are the same in the code and in the contracts.
 pub fn limits_are_the_definitions()
     ensures cores { MAX_CORES ≡ most_cores }
     ensures counts { MAX_COUNT ≡ most_counted }

@@ -1,7 +1,6 @@
-//! Decisions about cores: which core gets a new thread, when to ask for a core and when to give one back, and if a list
-//! of orders to grant or release cores is valid.
+//! Decisions on cores: which one gets a new thread, when to add or remove one, and whether orders to do so are valid.
 //!
-//! Every call is a pure function of numbers: no call allocates, waits, or uses the table of threads.
+//! Every call is a pure function of numbers, which allocates no memory and never waits.
 #![tactic(auto)]
 
 mod choices;

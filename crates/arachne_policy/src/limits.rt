@@ -1,5 +1,4 @@
 //! The greatest number of cores, and the greatest counts in a sample, for which the estimator advises.
-
 /// The greatest number of cores for which an estimator advises.
 pub const MAX_CORES: usize = 64;
 

@@ -1,21 +1,20 @@
-//! Orders that grant cores to the runtime and take them back, and the check that a list of orders is valid.
+//! Orders that give cores to the runtime and take them back, and the check of a list of orders.
 ghost use Rattle.std.specs.Prelude.{◌≡◌, ◌↔◌, IsOk, IfErr};
 ghost use Rattle.arachne_policy.specs.Orders.{order_fault, IsFirstFault, AreInOrder};
 
 use thiserror::Error;
 
-/// The kind of an order: it gives a core to the runtime, or takes it back.
+/// The kind of an order: to open or to close a core.
 #[derive(Clone, Copy, Debug, PartialEq, Eq)]
 pub enum OrderKind {
-    /// The core is given to the runtime.
+    /// The core is given to the runtime, which opens it.
     Grant,
-    /// The core is taken back.
+    /// The core is taken from the runtime, which closes it.
     Release,
 }
 
-/// An order to grant one core to the runtime or to take it back.
-///
-/// The order is due after `after` slices have ended on all cores together. A slice is some steps of one thread.
+/// An order to give a core to the runtime or to take the core back. The order is due after `after` slices (some steps
+/// of one thread each) have ended on all cores together.
 #[derive(Clone, Copy, Debug, PartialEq, Eq)]
 pub struct CoreOrder {
     pub after: u64,
@@ -34,7 +33,7 @@ pub enum OrderFaultKind {
     AfterFalls,
 }
 
-/// The first faulty order of a list: its index from 0, and its fault.
+/// The first faulty order of a list, by its index from 0, and its fault.
 #[derive(Clone, Copy, Debug, PartialEq, Eq, Error)]
 #[error("order {index}: {kind}")]
 pub struct OrderFault {
@@ -43,8 +42,7 @@ pub struct OrderFault {
 }
 
 impl CoreOrder {
-    /// Returns the fault of this order on a machine of `cores` cores, or `None` if it has none. `previous` is the
-    /// number of slices (some steps of one thread each) after which the order before it is due.
+    /// Returns the fault of this order, if it has one. The order before it is due after `previous` slices.
     fn fault(&self, cores: u64, previous: u64) -> Option<OrderFaultKind>
         ensures { result ≡ order_fault cores previous self.now }
     {
@@ -62,9 +60,8 @@ impl CoreOrder {
 
 /// Checks that a list of orders is valid on a machine of `cores` cores.
 ///
-/// Each order must name one of the machine's cores, must not release core 0, and must not be due before the order that
-/// precedes it in the list. Returns the first faulty order as an error. If that order has several faults, returns the
-/// one that comes first in `OrderFaultKind`.
+/// Each order must name one of these cores, must not release core 0, and must not be due before the previous order.
+/// Returns the first faulty order as an error, with the first of its faults in the order of `OrderFaultKind`.
 pub fn check_orders(orders: &[CoreOrder], cores: u64) -> Result<(), OrderFault>
     ensures accepts { IsOk result ↔ AreInOrder cores orders.now }
     ensures first { IfErr result (IsFirstFault cores orders.now) }

@@ -1,4 +1,4 @@
-//! A sample (the measurements of one period on all cores), and the advice that the estimator gives on it.
+//! Samples of the load, and the advice that the estimator gives on them.
 ghost use Rattle.std.specs.Prelude.{◌≡◌, ◌<◌, ◌≤◌, Some};
 ghost use Rattle.arachne_policy.specs.Advice.{advice_text};
 ghost use Rattle.arachne_policy.specs.Sample.{most_counted, load_of, utilisation_of, is_good};
@@ -12,24 +12,21 @@ use thiserror::Error;
 pub struct Sample {
     /// The number of cores that the runtime had in the period.
     pub cores: u64,
-    /// The number of runnable threads that each scan of a core saw, summed over all scans.
+    /// The number of runnable threads that scans of cores saw, summed over all scans.
     pub runnable: u64,
     /// The number of times that a core was scanned for runnable threads.
     pub scans: u64,
-    /// The time for which cores ran threads, summed over the cores, in the unit of `elapsed`.
+    /// The time in which cores ran threads, summed over the cores, in the unit of `elapsed`.
     pub busy: u64,
     /// The length of the period, in any unit of time.
     pub elapsed: u64,
 }
 
-/// The advice on the number of cores: ask for one more, keep them, or give one back.
+/// The advice to ask for one core more, to keep the number of cores, or to give one core back.
 #[derive(Clone, Copy, Debug, PartialEq, Eq)]
 pub enum Advice {
-    /// Ask for one core more.
     Add,
-    /// Keep as many cores as there are.
     Stay,
-    /// Give one core back.
     Remove,
 }
 
@@ -42,7 +39,6 @@ impl fmt::Display for Advice {
 }
 
 impl Advice {
-    /// Returns the word that is printed for this advice.
     fn word(&self) -> &'static str
         ensures { result.now ≡ advice_text self.now }
     {
@@ -54,16 +50,15 @@ impl Advice {
     }
 }
 
-/// The error of a sample with values that no measurement can have.
+/// The error of a sample that cannot have been measured.
 ///
-/// Such a sample has no core or too many cores, a period of length 0, more busy time than its cores could have, or a
-/// count greater than `MAX_COUNT`.
+/// Such a sample has no core, too many cores, no elapsed time, too much busy time, or a number above `MAX_COUNT`.
 #[derive(Clone, Copy, Debug, PartialEq, Eq, Error)]
 #[error("the sample cannot have been measured")]
 pub struct BadSample;
 
 impl Sample {
-    /// Returns whether an estimator for at most `max` cores can judge the sample: its values can have been measured.
+    /// Returns whether an estimator for at most `max` cores can judge the sample.
     pub(crate) fn is_good(&self, max: u8) -> bool
         ensures { result ≡ is_good max self.now }
     {

@@ -6,7 +6,6 @@ use denote.Ref.{NamedLft}
 use denote.Param.Send.{IsSend, IsSync, AllSend, AllSync, sendable, recorded_send, recorded_sync, shr_sync, struct_send, struct_sync}
 use Rattle.std.proofs.Crossing as std
 use Rattle.rand_xoshiro.proofs.xoshiro256.Xoshiro256PlusPlus.TheSendSync as chooser
-use Rattle.arachne_pool.proofs.orders.PoolOrders.TheSendSync as orders
 use Rattle.arachne_contexts.specs.declared.seats.Seats as seats
 use Rattle.arachne_contexts.specs.declared.tagged.Tagged as tagged
 use Rattle.arachne_join.proofs.Crossing.{sender_send, receiver_send, unused_send}
@@ -29,6 +28,7 @@ use Rattle.arachne_pool.specs.contracts.stack.JobFrame as frame
 use Rattle.arachne_pool.specs.contracts.stack.JobFrame.TheInside as frame_inside
 use Rattle.arachne_pool.specs.contracts.stack.Stack as stack
 use Rattle.arachne_pool.specs.contracts.stack.Stack.TheInside as stack_inside
+use Rattle.arachne_arbiter.proofs.arbiter.Arbiter.TheSendSync as arbiter
 use Rattle.arachne_arbiter.proofs.pace.Pace.TheSendSync as pace
 use Rattle.arachne_join.specs.contracts.ends.Receiver as receiver
 use Rattle.arachne_pool.specs.contracts.worker.Worker as worker
@@ -102,7 +102,7 @@ module _ (J O : RattleType) (P : pool_job.Ghosts J.Denot O.Denot) (G : tagged.Gh
 
   bench_send : IsSend (bench.the_field J O P G).row
   bench_send = struct_send (struct.shape (bench.the_type J O P G))
-      (search (sendable, std.crosses) depth 10, (std.Deque-send (spawned.the_row J O P G) spawned_send, (cells_send, (chooser.the_send, search (sendable, std.crosses, orders.the_send) depth 40))))
+      (search (sendable, std.crosses) depth 10, (std.Deque-send (spawned.the_row J O P G) spawned_send, (cells_send, (chooser.the_send, search (sendable, std.crosses, arbiter.the_send) depth 40))))
 
   module _ (S : RattleType) (seat : IsSend S) where
     worker_in_send : IsSend (worker_inside.the_row S J O P G)

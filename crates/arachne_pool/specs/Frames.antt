@@ -1,20 +1,21 @@
--- A job and those that run in its place.
+-- The jobs that run inside one slot, as a stack.
 use Rattle.std.specs.Prelude.{◌≡◌, ℕ, ◌+◌, ◌-◌, ◌^◌, ◌<◌, ◌≤◌, Bool, false, List, [], ◌∷◌, Option, None, Some, IfSome, drop, take}
 use Rattle.arachne_pool.specs.Jobs.{KeepsResults, children_of}
 use Rattle.arachne_pool.specs.declared.stack.JobStop.{JobStop}
 use Rattle.arachne_pool.specs.declared.stack.JobStop.TheVariants.{Goes}
 use Rattle.arachne_pool.specs.declared.tally.Tally.{Tally}
 
--- one of these: as it was forked, as it is now, and how many children it has forked and not joined, beside one that runs
--- in its place
+-- a job of the stack: as it was forked, as it is now, and the number of its unjoined children, not counting the child
+-- above it in the stack
 pub record Framed (Job : Type 0) : Type 0 where
   pub asked : Job
   pub job : Job
   pub awaited : ℕ
 
--- all of them together: the first as it was spawned; how many there are that have not ended, with those that wait in
--- the place to begin, and these as they are now; a child that the topmost has forked just now; what it has ended with;
--- and whether it has asked for the result of its newest child, which it has not got
+-- the whole stack: `asked` is the first job as it was spawned; `many` is the number of unfinished jobs, with the
+-- children that wait in the slot to begin, and `jobs` are these jobs as they are now; `child` was just forked by the
+-- topmost job; `ended` is the topmost job's result, if it has ended; `waits` is true if it waits for its newest child's
+-- result
 pub record Stacked (Job Output : Type 0) : Type 0 where
   pub asked : Job
   pub many : ℕ
@@ -23,40 +24,41 @@ pub record Stacked (Job Output : Type 0) : Type 0 where
   pub ended : Option Output
   pub waits : Bool
 
--- it is the same first job as it was spawned, and as many jobs are there
+-- true if the first job and the number of unfinished jobs are the same
 abbrev pub KeepsMany : {Job Output : Type 0} → Stacked Job Output → Stacked Job Output → Type 0
 KeepsMany old new = (new.asked ≡ old.asked) × (new.many ≡ old.many)
 
--- where it goes on it has got what it has asked for, and is to get nothing more
+-- true unless the topmost job goes on while it still waits for a result
 abbrev pub IsServed : {Job Output : Type 0} → JobStop → Stacked Job Output → Type 0
 IsServed stop new = stop ≡ Goes → new.waits ≡ false
 
--- the job, unless it has ended
+-- the job, or `None` if it has ended
 abbrev pub unless_ended : {Job Output : Type 0} → Option Output → Job → Option Job
 unless_ended None job = Some job
 unless_ended (Some output) job = None
 
--- one, if there is one
+-- 1 if there is a value, otherwise 0
 abbrev pub count_one : {A : Type 0} → Option A → ℕ
 count_one None = 0
 count_one (Some value) = 1
 
--- one, if there is none
+-- 1 if there is no value, otherwise 0
 abbrev pub count_none : {A : Type 0} → Option A → ℕ
 count_none None = 1
 count_none (Some value) = 0
 
 module _ {Job Output : Type 0} (is_result : Job → Output → Type 0) (awaits : Job → List Job → Type 0) where
-  -- each of these jobs, the newest first, awaits the one above it as its newest child, and behind that the next of the
-  -- children; the first was spawned so
+  -- true if each job of the stack, the topmost first, awaits the job above it as its newest child, and behind that its
+  -- own of `children`, and the lowest job was spawned as `first`
   abbrev pub Hangs : Job → List (Framed Job) → List Job → Job → Type 0
   Hangs above [] children first = above ≡ first
   Hangs above (frame ∷ rest) children first =
       awaits frame.job (above ∷ take frame.awaited children) × KeepsResults is_result frame.asked frame.job
       × Hangs frame.asked rest (drop frame.awaited children) first
 
-  -- the topmost keeps its results, and the others hang below it; it awaits its own children while it has not ended, and
-  -- what it has ended with is a result of its own; the child that it has forked just now awaits none
+  -- the invariant of a stack: a result of the topmost job, as it is now, is one of it as it was forked; the other jobs
+  -- wait below it (`Hangs`); unless it has ended, it awaits its own children; if it has ended, `ended` is a result of
+  -- it; a child that was just forked awaits no child
   pub record RunTogether (top : Framed Job) (below : List (Framed Job)) (children : List Job) (child : Option Job) (ended : Option Output) (first : Job) : Type 0 where
     pub keeps : KeepsResults is_result top.asked top.job
     pub hangs : Hangs top.asked below (drop top.awaited children) first
@@ -64,8 +66,8 @@ module _ {Job Output : Type 0} (is_result : Job → Output → Type 0) (awaits :
     pub fresh : IfSome child (λ c. awaits c [])
     pub result : IfSome ended (λ output. is_result top.asked output × (child ≡ None))
 
--- each job that is there more was counted as it began, and each that is there no longer as it ended, as long as the
--- counts are exact
+-- true if the counts of spawned and ended jobs have changed as the number of unfinished jobs has, from `before` to
+-- `after`, unless a count has saturated at 2^64 - 1
 pub record CountsEach (old new : Tally) (before after : ℕ) : Type 0 where
   pub spawned : old.spawned ≤ new.spawned
   pub ended : old.ended ≤ new.ended

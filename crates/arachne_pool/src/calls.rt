@@ -1,4 +1,4 @@
-//! The calls by which a worker works on a core, one round or until all jobs have ended, and wakes jobs that sleep.
+//! The calls by which a worker runs the jobs of its core and wakes sleeping jobs.
 ghost use Rattle.std.specs.Prelude.{◌≡◌, ◌<◌, ◌↔◌, IfSome, IsNone, IsSome, IsTrue, MatchOption, None, max};
 ghost use Rattle.arachne_pool.specs.Calls.{HasSeatAfter};
 ghost use Rattle.arachne_pool.specs.Grounds.{ground_at};
@@ -20,12 +20,12 @@ use std::sync::atomic::Ordering;
 use std::time::Clock;
 
 impl<C: Seats> Pool<C> {
-    /// Makes one round (a pass of the worker's loop) on a core. Returns whether there was anything to do.
+    /// Makes one pass of the worker's loop on `core`. Returns true if there was anything to do.
     ///
-    /// The round carries out the orders that are due to open or close cores, runs each ready job of the core for a
-    /// slice, and gives a slot to one of the worker's waiting jobs. If no job is ready, it moves a ready job here from
-    /// another core for which some kernel thread has called `work`, and whose worker is awake but has not reached the
-    /// job yet. If the round has only moved a job to this core, makes a second round, in which that job runs.
+    /// The pass carries out due orders, which close or open cores. It runs each ready job of `core` for a slice (at
+    /// most `PoolJob::bound` steps), and moves a job from the worker's queue of jobs without a slot into a free slot.
+    /// If no job of `core` is ready, the pass moves a ready job here from a core whose worker has not reached it yet,
+    /// and runs that job.
     pub fn turn<'a, H: Wait + Clock, J: PoolJob>(
         &'a self,
         rt: &'a H,
@@ -61,11 +61,11 @@ impl<C: Seats> Pool<C> {
         found
     }
 
-    /// Makes rounds (passes of the worker's loop) on a core until the pool is stopped, or until all its jobs have ended
-    /// and it is not kept open. If this worker fails, stops the other workers too.
+    /// Runs the jobs of a core until the pool is stopped, or until all jobs have ended and the pool is not kept open
+    /// (`keep_open`). If this call fails, it stops all other workers too.
     ///
-    /// Between two times at which the worker reads whether the pool is stopped, and between two at which it carries out
-    /// orders that are due, its jobs make no more steps than `PoolJob::most_steps` says.
+    /// The worker checks for a stop, and for due orders to close or open cores. Between two such checks its jobs make
+    /// at most `PoolJob::most_steps` steps.
     pub fn work<'a, H: Wait + Clock, J: PoolJob>(
         &'a self,
         rt: &'a H,
@@ -99,12 +99,12 @@ impl<C: Seats> Pool<C> {
         ended
     }
 
-    /// Wakes the job of this id, and returns the answer of the table, or `None` if the worker has no seat. A kernel
-    /// thread that is no worker, such as a timer, may have a worker for its wakes (`split`).
+    /// Wakes the job with this id. Returns `None` if the worker has lost the right to use the table. A kernel thread
+    /// that runs no jobs, such as a timer, can get a worker for its wakes from `split`.
     ///
-    /// `Woken`: either the job was blocked, and its core's worker is signalled; or a worker has the job in hand, and
-    /// the job won't rest then. `Already`: the job was woken before, or goes on without a wake. `Gone`: the job of the
-    /// id has ended. No other job ever gets the id, except for jobs that ran in the same place at the same time.
+    /// `Woken` means that the job was blocked, or that a worker is running the job and will put it back as ready.
+    /// `Already` means that the job was woken before, or goes on without a wake. `Gone` means that the job has ended.
+    /// Jobs that run inside one slot share an id; apart from that, no id is used twice.
     pub fn wake<H: Wait, J: PoolJob>(
         &self,
         rt: &H,
@@ -128,7 +128,7 @@ impl<C: Seats> Pool<C> {
                     if id.context < u32::from(self.cores) * u32::from(self.slots) {
                         let word = self.table.look_mark(rt, seat, id.context);
                         if let Some(mark) = MarkWord::from_word(word) {
-                            // If the job is moved meanwhile, the arbiter signals its new core's worker.
+                            // If the job is moved before this signal, the arbiter signals its new core's worker.
                             self.shared.hint(mark.place());
                         }
                     }
@@ -143,8 +143,9 @@ impl<C: Seats> Pool<C> {
         unreachable!()
     }
 
-    /// Begins a call of `worker` on a core. Returns the loop that makes the call's rounds, or `None` if the worker has
-    /// no seat (right to use the table). The loop has the worker's seat and data until `leave` moves them back.
+    /// Moves the worker's data into a `CoreWorker`, which runs the loop for `core`; `leave` moves it back.
+    ///
+    /// `works` is true in `Pool::work`. Returns `None` if the worker has lost the right to use the table.
     fn enter<'a, H: Wait + Clock, J: PoolJob>(
         &'a self,
         rt: &'a H,
@@ -198,10 +199,10 @@ impl<C: Seats> Pool<C> {
         })
     }
 
-    /// Ends a call: moves the seat (right to use the table) and the data from the loop back into `worker`. Returns
-    /// whether the worker still has a seat; it loses the seat if the seat still owns a job or a slot.
+    /// Moves the loop's data back into `worker`. If the table has rejected a slot or a job, or a job was not put back,
+    /// returns false, and `worker` loses the right to use the table.
     ///
-    /// `kernel` is borrowed, since the prover supports no call that takes it by value.
+    /// `kernel` is borrowed, since the prover can't check a call that takes it by value.
     fn leave<'a, H: Wait + Clock, J: PoolJob>(
         &'a self,
         worker: &mut Worker<C::Seat, J>,
@@ -249,8 +250,7 @@ impl<C: Seats> Pool<C> {
     }
 }
 
-/// Makes one round, and a second one if the first only moved a job to this core. Returns whether the last round found
-/// anything to do.
+/// Makes a pass of the worker's loop, and a second one if the first found something to do but ran no job.
 fn run_once<H: Wait + Clock, D: Desk>(kernel: &mut CoreWorker<'_, H, D>) -> Result<bool, PoolFault>
     ensures desk { kernel.new.desk ≡ kernel.old.desk }
     ensures heeds { LooksWithin (D.largest_quantum kernel.old.desk) kernel.old.agenda kernel.new.agenda }
@@ -267,7 +267,6 @@ fn run_once<H: Wait + Clock, D: Desk>(kernel: &mut CoreWorker<'_, H, D>) -> Resu
     Ok(found?)
 }
 
-/// Makes rounds until the pool has finished or its workers are stopped.
 fn run<'a, H: Wait + Clock, J: PoolJob, C: Contexts<Spawned<J>>>(
     kernel: &mut CoreWorker<'a, H, Seat<'a, H, J, C>>,
 ) -> Result<(), PoolFault>

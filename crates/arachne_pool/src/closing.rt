@@ -1,15 +1,15 @@
-//! Replaces a pool's orders, and closes the pool, which returns the jobs that are left.
+//! Closes a pool, and replaces the orders that close and open its cores.
 ghost use Rattle.std.specs.Prelude.{◌≡◌, ◌+◌, ◌<◌, ◌≤◌, ◌↔◌, IfErr, IfOk, IfSome, IsSome, IsTrue, MatchOption, OnErr, OnOk};
 ghost use Rattle.arachne_policy.specs.Orders.{AreInOrder};
 ghost use Rattle.arachne_pool.specs.Leftover.{IsWhole, count_of};
 ghost use Rattle.arachne_pool.specs.Workers.{ComeLast, IsWorkerOf};
 
 use crate::job::PoolJob;
-use crate::orders::PoolOrders;
 use crate::pool::Pool;
 use crate::spawned::Spawned;
 use crate::tally::Tally;
 use crate::worker::{Bench, Worker};
+use arachne_arbiter::Arbiter;
 use arachne_contexts::{Contexts, Seats};
 use arachne_core::ThreadId;
 use arachne_policy::{CoreOrder, OrderKind};
@@ -17,25 +17,24 @@ use std::alloc::{AllocError, Global};
 use std::collections::VecDeque;
 use std::sync::Wait;
 
-/// The jobs of a closed pool that have not ended. Each has with it the children that run or wait inside its slot.
+/// The unfinished jobs of a closed pool, each with the children that run or wait inside its slot.
 #[derive(Drop)]
 pub struct Left<J: PoolJob> {
-    /// The jobs that had a slot, each with its id. They are in the order of the contexts in their ids.
+    /// The jobs that had a slot, each with its id, sorted by the number of the job's context.
     pub placed: Vec<(ThreadId, Spawned<J>)>,
-    /// The jobs that waited for a slot in the worker's own queue, the oldest first.
+    /// The jobs that waited for a slot in the worker's queue, the oldest first.
     pub near: VecDeque<Spawned<J>>,
 }
 
 impl<J: PoolJob> Left<J> {
-    /// Returns whether the list has no job.
+    /// Returns true if there are no unfinished jobs.
     pub fn is_empty(&self) -> bool
         ensures { IsTrue result → count_of self.now ≡ 0 }
     {
         self.placed.is_empty() && self.near.is_empty()
     }
 
-    /// Returns `count` minus the number of jobs that have not ended, including those inside the slots of others.
-    /// Returns `None` if that number is more than `count`.
+    /// Returns `count` minus the number of unfinished jobs, or `None` if there are more than `count` such jobs.
     #[tactic(auto, using(crate::proofs::Counts::placed_counts))]
     fn taken_from(&self, count: u64) -> Option<u64>
         ensures { MatchOption result (count < count_of self.now) (λ rest. rest + count_of self.now ≡ count) }
@@ -52,26 +51,24 @@ impl<J: PoolJob> Left<J> {
     }
 }
 
-/// The reason why a call of `close` has failed, with the values that the call returns to the caller.
+/// The error of `Pool::close`, with the values that the call returns to the caller.
 #[derive(Drop)]
 pub enum NotClosed<C: Seats, J: PoolJob> {
-    /// Another worker has a part of the seat, or this worker has no seat. Fields: the pool and the worker, unchanged.
+    /// Another worker can still use the table, or this worker can't. Fields: the unchanged pool and worker.
     NotWhole(Pool<C>, Worker<C::Seat, J>),
-    /// Memory was refused. Fields: the table, its seat (the right to use it), and the jobs that had no slot.
+    /// Memory was refused. Fields: the table, the right to use the table, and the jobs that had no slot.
     Memory(C, C::Seat, VecDeque<Spawned<J>>),
-    /// The number of spawned jobs is not the number of ended jobs plus the number of jobs that are left. The field has
-    /// the jobs that are left.
+    /// The unfinished jobs are not as many as the counts of spawned and ended jobs say. Field: the unfinished jobs.
     Lost(Left<J>),
 }
 
 impl<C: Seats> Pool<C> {
     ghost use Rattle.arachne_pool.specs.NotClosed.{ComesBack};
 
-    /// Replaces the orders by which `worker` opens and closes cores. The caller must give all orders of a pool to the
-    /// same worker.
+    /// Replaces the orders by which `worker` closes and opens cores. Give all orders of a pool to one worker.
     ///
-    /// Old orders that the worker has not carried out yet are dropped. A core that old orders have closed stays closed
-    /// until a new order opens it. If memory is refused, returns an error, and the worker keeps its old orders.
+    /// Drops the old orders that were not carried out yet. A core that an old order has closed stays closed until a new
+    /// order opens it. If memory is refused, returns an error, and the worker keeps its old orders.
     pub fn order<H: Wait, J: PoolJob>(
         &self,
         rt: &H,
@@ -99,16 +96,14 @@ impl<C: Seats> Pool<C> {
                 orders.insert(0, closes)?;
             }
         }
-        let orders = PoolOrders::new(worker.bench.alloc, orders, self.cores)?;
+        let orders = Arbiter::new(worker.bench.alloc, orders, self.cores)?;
         worker.bench.orders = Some(orders);
         Ok(())
     }
 
-    /// Closes the pool. Returns the jobs that have not ended; their number and the number of ended jobs add up to the
-    /// number of spawned jobs.
+    /// Closes the pool, and returns all jobs that were spawned and have not ended.
     ///
-    /// The handle of an ended job still gives its result. Returns `NotClosed::NotWhole` if `worker` is not the only
-    /// worker that is left.
+    /// A `Handle` of an ended job still gives the result. Returns `NotWhole` if another worker wasn't joined.
     pub fn close<H: Wait, J: PoolJob>(
         self,
         rt: &H,
@@ -141,7 +136,6 @@ impl<C: Seats> Pool<C> {
         }
     }
 
-    /// Returns whether `worker` has the whole seat (right to use the table), so that no other worker has a part of it.
     fn is_whole<J: PoolJob>(&self, worker: &Worker<C::Seat, J>) -> bool
         ensures { IsTrue result ↔ IsWhole C.weight worker.now.seat }
     {
@@ -153,7 +147,6 @@ impl<C: Seats> Pool<C> {
 }
 
 impl Tally {
-    /// Returns whether the number of spawned jobs is the number of ended jobs plus the number of jobs in `left`.
     fn is_over<J: PoolJob>(self, left: &Left<J>) -> bool
         ensures { IsTrue result ↔ (self.spawned ≡ self.ended + count_of left.now) }
     {

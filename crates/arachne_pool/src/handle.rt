@@ -1,4 +1,4 @@
-//! The handle by which the caller that spawned a job gets the job's result, once, and the cell that the result passes.
+//! The handle by which a caller gets the result of a job that it has spawned.
 ghost use Rattle.std.specs.Prelude.{◌≡◌, IfErr, IfOk, IfSome};
 
 use crate::job::PoolJob;
@@ -12,7 +12,8 @@ pub struct JobOutcome<J: PoolJob> {
     pub output: J::Output,
 }
 
-/// The key of a cell: it is for a result of this job, as the job was spawned. The key has no bytes.
+/// The key of a cell into which a job's result is put: the job as it was spawned. A result fits the cell only if it is
+/// one of that job, which only proofs check. The key takes no memory.
 #[derive(Drop)]
 pub struct WantedResult<J> {
     pub job: Snapshot<J>,
@@ -22,16 +23,13 @@ impl<J: PoolJob> Fits<WantedResult<J>> for JobOutcome<J> {
     ghost fits = { λ wanted outcome. J.is_result wanted.job.value outcome.output };
 }
 
-/// The end of a cell at which a job leaves its result.
 pub(crate) type ResultSender<J> = Sender<JobOutcome<J>, WantedResult<J>>;
 
-/// The end of a cell at which the job's handle or parent gets the job's result.
 pub(crate) type ResultReceiver<J> = Receiver<JobOutcome<J>, WantedResult<J>>;
 
-/// Cells that a worker keeps for the next jobs.
+/// Empty cells that a worker reuses for the results of later jobs.
 pub(crate) type Cells<J> = SpareCells<JobOutcome<J>, WantedResult<J>>;
 
-/// Leaves a result at the sending end of a cell, if there is one.
 #[inline(always)]
 pub(crate) fn leave_at<J: PoolJob>(sender: Option<ResultSender<J>>, output: J::Output)
     requires { IfSome sender (λ sender. J.is_result sender.key.job.value output) }
@@ -41,10 +39,7 @@ pub(crate) fn leave_at<J: PoolJob>(sender: Option<ResultSender<J>>, output: J::O
     }
 }
 
-/// The handle by which the caller that spawned a job gets the job's result. It gives the result once, is consumed by
-/// that, and can't be copied.
-///
-/// The model, which contracts see, is the job as it was spawned.
+/// A handle, which gives the result of one spawned job, once. In contracts, a handle is the job as it was spawned.
 #[derive(Drop)]
 pub struct Handle<J: PoolJob> {
     pub(crate) receiver: ResultReceiver<J>,
@@ -57,8 +52,7 @@ impl<J: PoolJob> Model for Handle<J> {
 }
 
 impl<J: PoolJob> Handle<J> {
-    /// Returns the job's result if the job has ended, and the handle itself otherwise. The call allocates no memory and
-    /// never blocks.
+    /// Returns the job's result if the job has ended, and the handle otherwise. Never blocks, and allocates no memory.
     pub fn poll(self) -> Result<J::Output, Handle<J>>
         ensures output { IfOk result (J.is_result self) }
         ensures same { IfErr result (λ back. back ≡ self) }

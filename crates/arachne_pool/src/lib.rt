@@ -1,11 +1,10 @@
-//! A pool, which runs the caller's jobs on the caller's kernel threads; a context table of any kind holds the jobs.
+//! A pool runs its user's jobs on the user's kernel threads, one for each core.
 //!
-//! A *job* is a value with a method `step`. A *worker*, one for each core, runs the jobs in its core's slots (at most
-//! 56, called *places*), one after another, each for a *slice* of some steps; *the current job* is the one that it runs
-//! now. A job forks children, waits for their results, and ends with a result, which the job's handle gives to the
-//! caller that spawned the job. A child for which no slot is free waits *in its parent's place*: it is stored in the
-//! parent's value, and runs there, as a function call would, when the parent awaits it. A *round* is one pass of a
-//! worker's loop. An *order* closes a core, which then takes no more jobs, or opens it again.
+//! A *job* is a value with a method `step`. A job can fork child jobs, can wait for their results, and ends with a
+//! result. A *worker* is the value by which a kernel thread runs the jobs in the slots (places) of its core, at most
+//! 56. The jobs of a core take turns, each for a few steps at a time (a *slice*). If no slot is free for a child, the
+//! child waits inside its parent's slot, and runs there when the parent awaits it. An *order* closes a core, so that
+//! the core takes no more jobs, or opens the core again.
 #![tactic(auto)]
 
 mod calls;
@@ -13,7 +12,6 @@ mod closing;
 mod handle;
 mod job;
 mod links;
-mod orders;
 mod place;
 mod pool;
 mod running;

@@ -10,10 +10,9 @@ use std::collections::VecDeque;
 use std::marker::Model;
 use std::snapshot::Snapshot;
 
-/// The children that the jobs in one slot have forked and not joined. For a child that was moved to a slot of its own,
-/// the list has the receiver of its result. The children that have not begun are stored here themselves, and are newer
-/// than the others. Contracts see all of them as they were forked, the newest first, and the number of those that have
-/// not begun.
+/// The children of the jobs in one slot whose results were not fetched yet. `aside` has the children that have not
+/// begun, and `begun` the receivers of the results of those that were moved to slots of their own. All children in
+/// `aside` are newer than those in `begun`.
 #[derive(Drop)]
 pub(crate) struct Links<J: PoolJob> {
     begun: Vec<ResultReceiver<J>>,
@@ -33,7 +32,6 @@ impl<J: PoolJob> Model for Links<J> {
 }
 
 impl<J: PoolJob> Links<J> {
-    /// Returns a list of children without any. Allocates no memory.
     pub(crate) fn new(alloc: Global) -> Links<J>
         ensures { result ≡ record { all = []; aside = 0 } }
     {
@@ -43,14 +41,13 @@ impl<J: PoolJob> Links<J> {
         }
     }
 
-    /// Returns the number of the children in this list that have not begun.
     pub(crate) fn aside(&self) -> usize
         ensures { result ≡ self.now.aside }
     {
         self.aside.len()
     }
 
-    /// Adds a child that has not begun as the newest one. If memory is refused, returns the child as the error.
+    /// Returns the child as the error if memory is refused.
     pub(crate) fn put_aside(&mut self, child: J) -> Result<(), J>
         requires fresh { J.awaits child [] }
         ensures put { OnOk result (self.new ≡ with_aside child self.old) }
@@ -63,7 +60,6 @@ impl<J: PoolJob> Links<J> {
         }
     }
 
-    /// Removes the newest child and returns it, if it has not begun. Otherwise changes nothing.
     pub(crate) fn take_newest(&mut self) -> Option<J>
         ensures taken { MatchOption result ((self.new ≡ self.old) × (self.old.aside ≡ 0)) (λ child. LosesAside child self.old self.new) }
         ensures fresh { IfSome result (λ child. J.awaits child []) }
@@ -71,8 +67,7 @@ impl<J: PoolJob> Links<J> {
         self.aside.pop_back()
     }
 
-    /// Takes the result of the newest child, if the child has ended and its result is in its cell. Then removes the
-    /// child from the list, and keeps its cell in `cells` for a later child.
+    /// Removes the newest child and returns its result, if it has ended, and puts its cell into `cells` for later jobs.
     pub(crate) fn fetch_newest(&mut self, cells: &mut Cells<J>) -> Option<J::Output>
         requires { self.old.aside ≡ 0 }
         ensures { MatchOption result (self.new ≡ self.old) (λ output. (child : J) × (self.old.all ≡ child ∷ self.new.all) × (self.new.aside ≡ 0) × J.is_result child output) }
@@ -90,8 +85,8 @@ impl<J: PoolJob> Links<J> {
         }
     }
 
-    /// Removes and returns the oldest child that has not begun, so that it can run in a slot of its own. Also returns
-    /// the sender of a cell for the child's result. Returns `None` if there is no such child or memory is refused.
+    /// Returns the oldest child that has not begun, so that it can run in a slot of its own, and a sender for its
+    /// result. Returns `None` if every child has begun or memory is refused.
     pub(crate) fn part_oldest(
         &mut self,
         alloc: Global,
@@ -114,7 +109,7 @@ impl<J: PoolJob> Links<J> {
         Some((child, sender))
     }
 
-    /// Removes the newest child, which its parent will never join. Returns that child if it had not begun.
+    /// Removes the newest child, which its parent will never join, and returns it if it had not begun.
     pub(crate) fn forget_newest(&mut self) -> Option<J>
         ensures forgotten { MatchOption result (LosesBegun self.old self.new) (λ child. LosesAside child self.old self.new) }
         ensures fresh { IfSome result (λ child. J.awaits child []) }
@@ -126,8 +121,7 @@ impl<J: PoolJob> Links<J> {
         None
     }
 
-    /// Takes the list apart. Returns the children that have not begun, the oldest first, and drops the results of the
-    /// others.
+    /// Returns the children that have not begun, the oldest first, and drops the results of all others.
     pub(crate) fn into_aside(self) -> VecDeque<J>
         ensures { (reverse result.items ≡ take self.aside self.all) × (deque_len result ≡ self.aside) }
     {
@@ -135,7 +129,6 @@ impl<J: PoolJob> Links<J> {
         aside
     }
 
-    /// Returns whether the oldest child that has not begun wants a core for itself.
     pub(crate) fn is_oldest_exclusive(&self) -> bool {
         match self.aside.front() {
             Some(child) => child.is_exclusive(),

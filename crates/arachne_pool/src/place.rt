@@ -1,4 +1,4 @@
-//! Finds slots for new jobs, and frees the slot of a job that has ended.
+//! Finds free slots for jobs, and puts jobs into them.
 ghost use Rattle.std.specs.Prelude.{◌≡◌, ◌∷◌, [], IfErr, IfOk, IfSome, MatchOption, OnErr, OnOk};
 ghost use Rattle.arachne_arbiter.specs.Placed.{GetsPlace};
 ghost use Rattle.arachne_contexts.specs.Out.{Claim, HasOut, KeepsOut};
@@ -17,17 +17,16 @@ use std::snapshot::Snapshot;
 use std::sync::Wait;
 use std::sync::atomic::Ordering;
 
-/// A job that was put at a place, with that place. Only `post` returns a value of this type, for a job that it has
-/// given to the table. The type is not `Drop`, so that the caller must signal the worker of the job's core.
+/// A job that was just put into a slot.
+///
+/// Not `Drop`, so that no caller forgets to signal the core's worker.
 pub(crate) struct Posted<J: PoolJob> {
     at: PostedThread,
-    /// The job. The field has no bytes.
     job: Snapshot<Spawned<J>>,
 }
 
 impl<J: PoolJob> Posted<J> {
-    /// Signals the worker of the job's core. If that core is `core`, whose worker has posted the job and makes the next
-    /// round, returns the job's id and place instead.
+    /// Signals the worker of the job's core, or returns the job's id and slot if that core is `core`.
     #[inline(always)]
     pub(crate) fn tell_unless_on(self, core: u8, shared: &SharedWords) -> Option<PostedThread>
         ensures { IfSome result (λ post. post.place.core ≡ core) }
@@ -41,7 +40,7 @@ impl<J: PoolJob> Posted<J> {
     }
 }
 
-/// Posts a job: puts it at a claimed place, ready to run. The caller must have counted the job as spawned before.
+/// The caller must have counted the job as spawned before it puts the job into a claimed slot.
 #[inline(always)]
 pub(crate) fn post<H: Wait, J: PoolJob, C: Contexts<Spawned<J>>>(
     rt: &H,
@@ -67,9 +66,10 @@ pub(crate) fn post<H: Wait, J: PoolJob, C: Contexts<Spawned<J>>>(
     }
 }
 
-/// Claims a free slot for a job: on the less loaded of two random cores, or else on the first other core that has one
-/// (`claim_normal` of `arachne_arbiter`); for an exclusive job on an empty core, if there is one. If no core had a free
-/// place, notes this in the pool. The error is a refusal of memory.
+/// Claims a free slot for a job, on the less loaded of two random cores, or else on any core with a free slot.
+///
+/// An exclusive job (one that wants a core for itself) needs an empty core. If no slot is free, returns `None`, and
+/// sets `pool.room` to 0 until a worker sees a free slot.
 pub(crate) fn claim<H: Wait, J: PoolJob, C: Contexts<Spawned<J>>>(
     rt: &H,
     pool: &Pool<C>,
@@ -98,7 +98,6 @@ pub(crate) fn claim<H: Wait, J: PoolJob, C: Contexts<Spawned<J>>>(
     place
 }
 
-/// Moves the oldest job that waits in the worker's own queue into a free slot, if there is one.
 pub(crate) fn place_oldest<H: Wait, J: PoolJob, C: Contexts<Spawned<J>>>(
     rt: &H,
     pool: &Pool<C>,
@@ -127,8 +126,7 @@ pub(crate) fn place_oldest<H: Wait, J: PoolJob, C: Contexts<Spawned<J>>>(
     Ok(Some(post))
 }
 
-/// Moves the oldest child that waits inside `held`, the current job, into a slot of its own, if a core has a free one.
-/// If memory is refused, sets `is_short`, and the child continues to wait.
+/// Puts the oldest child that waits inside `held` into a free slot, or sets `is_short` if memory is refused.
 #[inline(always)]
 pub(crate) fn post_oldest<H: Wait, J: PoolJob, C: Contexts<Spawned<J>>>(
     rt: &H,

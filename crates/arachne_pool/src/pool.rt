@@ -5,11 +5,10 @@ ghost use Rattle.arachne_policy.specs.Orders.{AreInOrder};
 ghost use Rattle.arachne_pool.specs.Leftover.{IsWhole};
 
 use crate::job::PoolJob;
-use crate::orders::PoolOrders;
 use crate::spawned::Spawned;
 use crate::tally::Live;
 use crate::worker::Worker;
-use arachne_arbiter::Cores;
+use arachne_arbiter::{Arbiter, Cores};
 use arachne_contexts::{Contexts, Seats};
 use arachne_core::{CORES, OccWord, Place, SLOTS};
 use arachne_policy::CoreOrder;
@@ -20,26 +19,23 @@ use std::marker::PhantomData;
 use std::sync::Wait;
 use std::sync::atomic::{AtomicU64, Ordering};
 
-/// A pool: the table of jobs, the counts of jobs, and the words that stop the workers. All its workers share it.
+/// A pool of jobs, which its workers share.
 #[derive(Drop)]
 pub struct Pool<C: Seats> {
-    /// The context table: it has the jobs' slots, and says in which of them each job is.
+    /// The context table, which has the slots and the jobs in them.
     pub table: C,
     /// The number of cores, 1 to 64.
     pub cores: u8,
-    /// The number of slots of each core, 1 to 56.
+    /// The number of slots (places for one job each) of each core, 1 to 56.
     pub slots: u8,
     pub(crate) shared: SharedWords,
     pub(crate) live: Live,
-    /// 1 if some core may have a free slot.
+    /// 1 if a slot may be free, and 0 after a search has found none.
     pub(crate) room: CachePadded<AtomicU64>,
-    /// 1 after any job has asked for a core for itself.
     pub(crate) exclusive: AtomicU64,
-    /// 1 from a call of `keep_open` until a call of `finish`; otherwise 0.
     open: AtomicU64,
-    /// A bit for each core for which a kernel thread has called `work`.
+    /// The cores for which a kernel thread has called `work`, one bit each.
     pub(crate) worked: AtomicU64,
-    /// The number of sleeps that timed out although there was something to do.
     pub(crate) overslept: AtomicU64,
     ghost counted: { C.core_count table ≡ cores },
     ghost few: { cores ≤ CORES },
@@ -51,8 +47,8 @@ pub struct Pool<C: Seats> {
 impl<C: Seats + Drop> Pool<C> {
     ghost use Rattle.arachne_pool.specs.Workers.{HasMadeNoStep, HasNoCore, IsWorkerOf};
 
-    /// Returns a pool without jobs, and its one worker, which has worked for no core. `orders` take cores back and
-    /// grant them again while the pool works.
+    /// Creates a pool without jobs, and its first worker. `orders` says which cores are closed and opened while the
+    /// pool works, and when. Returns an error if memory is refused.
     pub fn new<J: PoolJob>(
         alloc: Global,
         cores: u8,
@@ -74,7 +70,7 @@ impl<C: Seats + Drop> Pool<C> {
         ensures core { IfOk result (λ made. HasNoCore made.0.cores made.1) }
         ensures lag { IfOk result (λ made. HasMadeNoStep made.1) }
     {
-        let orders = PoolOrders::new(alloc, orders, cores)?;
+        let orders = Arbiter::new(alloc, orders, cores)?;
         let live = Live::new(alloc, cores)?;
         let shared = SharedWords::new(alloc, cores)?;
         let (table, seat) = C::new(alloc, cores, slots, 0)?;
@@ -97,58 +93,54 @@ impl<C: Seats + Drop> Pool<C> {
 }
 
 impl<C: Seats> Pool<C> {
-    /// Returns the number of jobs that were spawned or forked and have not ended, as far as the workers have reported
-    /// them.
+    /// Returns the number of unfinished jobs, as far as the workers have reported their counts.
     ///
-    /// If it is 0, no job makes another step, each result is in its cell, and each job's slot is free.
+    /// If the number is 0, all jobs have ended, each handle has its result, and all slots are free.
     pub fn live(&self) -> u64 {
         self.live.count()
     }
 
-    /// Returns whether the worker of `core` sleeps, or has not searched for work since its sleep timed out. A caller
-    /// that has work for that worker must then wake it. A parked worker doesn't count as asleep.
+    /// Returns true if the worker of `core` sleeps, or has not looked for work since its sleep timed out. A caller that
+    /// has work for such a worker must wake it. A parked worker (one whose core is closed) doesn't count as asleep.
     pub fn is_asleep(&self, core: u8) -> bool {
         self.shared.hints().is_asleep(core)
     }
 
-    /// Returns how often a worker's sleep timed out although there was something to do that nobody had signalled, or
-    /// all jobs had ended. Workers with jobs for which no core has a free place cause a few such sleeps, since a place
-    /// that becomes free is not signalled. Many of them show that a signal is missing.
+    /// Returns how often a worker slept until its timeout although there was work that nobody had signalled, or all
+    /// jobs had ended. A high number shows that a signal is missing. A few such sleeps are normal while jobs wait for a
+    /// slot, since nobody signals a slot that becomes free.
     pub fn overslept(&self) -> u64 {
         self.overslept.load(Ordering::SeqCst)
     }
 
-    /// Makes each worker return after its current slice, and wakes the workers that sleep or are parked.
+    /// Makes each worker return after its slice (a few steps of a job), and wakes workers that sleep or are parked.
     pub fn stop(&self) {
         self.shared.stop();
     }
 
-    /// Returns whether the pool was stopped, by a call or a fault.
+    /// Returns true if the pool was stopped, by `stop` or by a fault.
     pub fn is_stopped(&self) -> bool {
         self.shared.is_stopped()
     }
 
-    /// Keeps the pool open for later jobs: until a call of `finish`, `work` doesn't return when all jobs have ended.
+    /// Keeps the pool open, so that `work` doesn't return when all jobs have ended. A call of `finish` ends the effect.
     pub fn keep_open(&self) {
         self.open.store(1, Ordering::SeqCst);
     }
 
-    /// Ends the effect of `keep_open`: from now on, `work` returns when all jobs have ended. The caller must have
-    /// spawned the last job.
+    /// Ends the effect of `keep_open`, so that `work` returns when all jobs have ended. Don't call `spawn` later.
     pub fn finish(&self) {
         self.open.store(0, Ordering::SeqCst);
-        // The last job may have ended long ago, and then nobody else wakes the workers.
+        // The last job may have ended before this call, and then nobody else wakes the workers.
         self.wake_if_over();
     }
 
-    /// Returns whether the workers may return: all jobs have ended, and the host does not keep the pool open for more.
     pub(crate) fn is_over(&self) -> bool {
         // Reads `open` first, so that a job that was spawned before a call of `finish` is counted.
         self.open.load(Ordering::SeqCst) == 0 && self.live.count() == 0
     }
 
-    /// If all jobs have ended and the pool is not kept open, wakes all workers, sleeping and parked, so that they can
-    /// return.
+    /// Wakes all workers, so that they return, if all jobs have ended and the pool is not kept open.
     pub(crate) fn wake_if_over(&self) {
         if self.is_over() {
             for core in 0..self.cores {
@@ -158,13 +150,11 @@ impl<C: Seats> Pool<C> {
         }
     }
 
-    /// Returns whether a core may have a free slot, as far as the workers have seen.
     #[inline(always)]
     pub(crate) fn has_room(&self) -> bool {
         self.room.load(Ordering::SeqCst) != 0
     }
 
-    /// Records that a slot is free, or was free a moment ago.
     #[inline(always)]
     pub(crate) fn room_was_seen(&self) {
         if !self.has_room() {
@@ -172,12 +162,10 @@ impl<C: Seats> Pool<C> {
         }
     }
 
-    /// Returns whether any job has asked for a core for itself.
     pub(crate) fn has_exclusive(&self) -> bool {
         self.exclusive.load(Ordering::SeqCst) != 0
     }
 
-    /// Returns which places of a core are occupied at this moment, and whether the core is closed or exclusive.
     pub(crate) fn glance<H: Wait, J: PoolJob>(&self, rt: &H, core: u8) -> OccWord
     where
         C: Contexts<Spawned<J>>,
@@ -186,7 +174,6 @@ impl<C: Seats> Pool<C> {
         OccWord::from_word(self.table.glance(rt, core)).unwrap_or(OccWord::empty())
     }
 
-    /// Returns the table's cores, together with the host `rt`, in the form that calls of `arachne_arbiter` need.
     pub(crate) fn cores<'a, H, T>(&'a self, rt: &'a H) -> Cores<'a, H, T, C>
         ensures table { result.table.now ≡ self.now.table }
         ensures count { result.count ≡ self.now.cores }

@@ -1,5 +1,4 @@
-//! `Pool::run`: runs a job, with all jobs that it forks, on one kernel thread for each core, and returns the job's
-//! result.
+//! `Pool::run` runs a job, and all jobs that it forks, with one kernel thread for each core.
 ghost use Rattle.std.specs.Prelude.{◌≡◌, ◌≤◌, [], IfErr, IfOk, IfSome};
 ghost use Rattle.arachne_core.specs.declared.layout.TheConstants.{CORES};
 ghost use Rattle.arachne_pool.specs.Running.{HandsBackRun, fault_of, of_team};
@@ -23,12 +22,12 @@ use std::sync::{Mutex, Wait};
 use std::thread::{Threads, available_parallelism};
 use std::time::Clock;
 
-/// The result of `Pool::run` if the job and all jobs that it has forked have ended.
+/// The result of `Pool::run` after the job and all jobs that it has forked have ended.
 #[derive(Drop)]
 pub struct Finished<O> {
-    /// The result that the job returned when it ended.
+    /// The job's result.
     pub output: O,
-    /// The number of jobs that were spawned, including this one, and the number of jobs that have ended.
+    /// The number of jobs that were spawned (with this one), and the number of jobs that have ended.
     pub tally: Tally,
 }
 
@@ -43,16 +42,15 @@ impl From<TeamFault> for PoolFault {
     }
 }
 
-/// The error of `Pool::run` if the job has not ended: the fault that was recorded first, and the jobs that are left.
+/// The error of `Pool::run`, with the first fault and the unfinished jobs.
 #[derive(Drop)]
 pub enum Unfinished<J: PoolJob> {
     /// Memory or a kernel thread was refused before the job was spawned. The variant holds the job.
     NotSpawned(PoolFault, J),
-    /// A fault has stopped all kernel threads. The variant holds the jobs that have not ended; their number and that of
-    /// the ended jobs (in the `Tally`) add up to the number of spawned jobs.
+    /// A fault has stopped all kernel threads. The variant holds the counts of jobs, and the jobs that have not ended.
     Stopped(PoolFault, Tally, Left<J>),
-    /// A fault has stopped all kernel threads, and the jobs that have not ended are dropped: memory was refused again
-    /// while they were collected, or the table rejected a slot or a job that it had given to a worker.
+    /// A fault has stopped all kernel threads, and the unfinished jobs are dropped. Either memory was refused while the
+    /// jobs were collected, or the table rejected a slot or a job that it had given to a worker.
     Lost(PoolFault),
 }
 
@@ -72,11 +70,11 @@ impl<J: PoolJob + Send> Pool<WordContexts<Spawned<J>>>
 where
     J::Output: Send,
 {
-    /// Runs a job and all jobs that it forks, on one kernel thread for each processor, including the calling one.
-    /// Returns the job's result after all of them have ended.
+    /// Runs a job and all jobs that it forks, on one kernel thread for each processor, including the caller's. Returns
+    /// the job's result after all these jobs have ended.
     ///
     /// If memory or a kernel thread is refused before the job is spawned, returns the job. If a worker fails, all
-    /// workers stop after their current slices, and the call returns the jobs that have not ended.
+    /// workers stop after their current slices (a few steps), and the call returns the jobs that have not ended.
     pub fn run<R: Threads + Wait + Clock + Sync>(
         rt: &R,
         alloc: Global,
@@ -90,7 +88,7 @@ where
         Pool::<WordContexts<Spawned<J>>>::run_on(rt, alloc, processors(rt), job)
     }
 
-    /// Runs a job as `run` does, on this number of cores, each with a kernel thread.
+    /// Runs a job as `run` does, on `cores` kernel threads.
     pub fn run_on<R: Threads + Wait + Clock + Sync>(
         rt: &R,
         alloc: Global,
@@ -127,7 +125,7 @@ where
     }
 }
 
-/// Returns the number of processors that this process may use, at most 64, or 1 if the system doesn't report it.
+/// Returns the number of processors that this process may use, at most 64, or 1 if that isn't known.
 fn processors<R: Threads>(rt: &R) -> u8
     ensures { (1 ≤ result) × (result ≤ CORES) }
 {
@@ -137,18 +135,14 @@ fn processors<R: Threads>(rt: &R) -> u8
     }
 }
 
-/// The kernel threads of a pool that run a job, one for each core.
 #[derive(Drop)]
 struct Crew<'p, C: Seats, J> {
     pool: &'p Pool<C>,
-    /// The job before its first step. It has no bytes.
     asked: Snapshot<J>,
     first_fault: Mutex<Option<PoolFault>>,
 }
 
-/// The share of one kernel thread: its worker, and for the first kernel thread also the job, or once that is spawned
-/// its
-/// handle.
+/// Only the first kernel thread has the job, and later its handle.
 #[derive(Drop)]
 struct Share<S, J: PoolJob> {
     worker: Worker<S, J>,
@@ -157,7 +151,7 @@ struct Share<S, J: PoolJob> {
 }
 
 impl<'p, C: Seats, J: PoolJob> Crew<'p, C, J> {
-    /// Stops all kernel threads for a fault, and records it if it is the first.
+    /// Stops all kernel threads, and records the fault if it is the first.
     fn stop_for<R: Wait>(&self, rt: &R, fault: PoolFault) {
         let mut first = self.first_fault.lock(rt);
         if first.is_none() {
@@ -166,14 +160,12 @@ impl<'p, C: Seats, J: PoolJob> Crew<'p, C, J> {
         self.pool.stop();
     }
 
-    /// Returns the fault that was recorded first.
     fn into_first_fault(self) -> Option<PoolFault> {
         let Crew { first_fault, .. } = self;
         first_fault.into_inner()
     }
 
-    /// Spawns the job, if this kernel thread has it, after which no more come, and returns its handle. Returns the job
-    /// instead if memory is refused, or if the pool was stopped since the system refused to start a kernel thread.
+    /// Returns the handle of `job`, or `job` if it can't be spawned. Only the first worker has a job.
     fn spawn<R: Wait>(
         &self,
         rt: &R,
@@ -289,7 +281,6 @@ impl<'p, J: PoolJob, C: Contexts<Spawned<J>>> Team<Share<C::Seat, J>> for Crew<'
     }
 }
 
-/// Closes a pool after its kernel threads have ended. Returns the result of the job that was run, or the error.
 fn end<C: Contexts<Spawned<J>> + Drop, R: Wait, J: PoolJob>(
     rt: &R,
     alloc: Global,

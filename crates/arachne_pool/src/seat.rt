@@ -1,7 +1,6 @@
 //! A worker's access to the pool's table, by which it takes, runs and puts back jobs. Between two calls, the seat (the
 //! right to use the table) holds the current job, if there is one, and nothing else.
 ghost use Rattle.std.specs.Prelude.{◌≡◌, ◌<◌, ◌≤◌, IfSome, false, max};
-ghost use Rattle.arachne_pool.specs.Stops.{rests_as};
 
 use crate::job::PoolJob;
 use crate::place::{place_oldest, post_oldest};
@@ -10,7 +9,7 @@ use crate::spawned::{Ended, Spawned};
 use crate::stack::JobStop;
 use crate::worker::{Bench, disowned};
 use arachne_arbiter::Pace;
-use arachne_contexts::{Contexts, Held, Moved, Rested, Taken, Woken};
+use arachne_contexts::{Contexts, Held, Moved, Taken, Woken};
 use arachne_core::{MarkWord, OccWord, Place, Rest, ThreadId};
 use arachne_workers::{Desk, Grip, Halt, ThreadStop, TicketResult, WorkerEvent, is_drained};
 use std::marker::Model;
@@ -18,24 +17,22 @@ use std::mem::replace;
 use std::sync::Wait;
 use std::sync::atomic::Ordering;
 
-/// A worker's access to the pool's table. The model, which contracts see, has the pool; the invariant says which job
-/// the seat (the right to use the table) holds.
+/// A worker's access to the pool's table. Unless `is_broken` is true, the only job that the worker has taken out of the
+/// table is the current one, in `held`.
 #[derive(Drop)]
 pub(crate) struct Seat<'a, H, J: PoolJob, C: Contexts<Spawned<J>>> {
     pub(crate) rt: &'a H,
     pub(crate) pool: &'a Pool<C>,
     pub(crate) core: u8,
-    /// True in `work`, in which the worker parks if its core is closed. In `turn` each job has one slice, and the
-    /// worker doesn't wait.
+    /// True in `Pool::work`, which may wait; `Pool::turn` never does.
     pub(crate) works: bool,
-    /// True if the table has rejected a slot or a job that it had given to this worker. Then the seat perhaps still
-    /// owns a slot or a job, and the worker must stop.
+    /// True if the table has rejected a slot or a job that it had given to this worker, which must then stop.
     pub(crate) is_broken: bool,
     pub(crate) seat: C::Seat,
     pub(crate) held: Option<Held<Spawned<J>, C::Hold>>,
-    /// The state in which the worker must put the current job, in `held`, back.
+    /// The state, ready or blocked, in which the current job goes back to the table.
     pub(crate) asked: Rest,
-    /// True if the worker has taken a job since it last tried to move one here from another core.
+    /// True if the worker has begun to run a job since it last looked for jobs of other cores.
     pub(crate) has_taken: bool,
     pub(crate) bench: Bench<J>,
 }
@@ -126,7 +123,7 @@ impl<'a, H: Wait, J: PoolJob, C: Contexts<Spawned<J>>> Desk for Seat<'a, H, J, C
         let asked = self.asked;
         let table = &self.pool.table;
         match table.put_back(self.rt, &mut self.seat, held, asked) {
-            Ok(rested) => Ok(rests_so(rested, asked)),
+            Ok(rested) => Ok(rested.or(asked)),
             Err(held) => {
                 self.held = Some(held);
                 Err(disowned())
@@ -239,8 +236,9 @@ impl<'a, H: Wait, J: PoolJob, C: Contexts<Spawned<J>>> Desk for Seat<'a, H, J, C
     fn tend(&mut self) -> (Option<usize>, u64) {
         let pool = self.pool;
         let cores = pool.cores::<H, Spawned<J>>(self.rt);
+        let (parking, slices) = (pool.shared.parking(), pool.shared.slices());
         match &mut self.bench.orders {
-            Some(orders) => orders.tend(&cores, &mut self.seat, &pool.shared),
+            Some(orders) => orders.tend(&cores, &mut self.seat, parking, slices),
             None => (None, 0),
         }
     }
@@ -258,7 +256,7 @@ impl<'a, H: Wait, J: PoolJob, C: Contexts<Spawned<J>>> Desk for Seat<'a, H, J, C
             return true;
         }
         match &self.bench.orders {
-            Some(orders) => orders.has_more(),
+            Some(orders) => !orders.are_over(),
             None => false,
         }
     }
@@ -266,8 +264,6 @@ impl<'a, H: Wait, J: PoolJob, C: Contexts<Spawned<J>>> Desk for Seat<'a, H, J, C
     fn is_drained(&mut self) -> bool {
         is_drained(self.look())
     }
-
-    fn begins(&self, _nth: u64) {}
 
     #[inline(always)]
     fn told(&self, event: WorkerEvent) {
@@ -278,8 +274,7 @@ impl<'a, H: Wait, J: PoolJob, C: Contexts<Spawned<J>>> Desk for Seat<'a, H, J, C
 }
 
 impl<'a, H: Wait, J: PoolJob, C: Contexts<Spawned<J>>> Seat<'a, H, J, C> {
-    /// Runs the job in hand for at most `left` steps. If a job ends without joining all of its children, releases these
-    /// first. Returns `Waits` if no job is in hand.
+    /// Runs the current job for at most `left` steps, and detaches the children that an ended job never joined.
     #[inline(always)]
     fn go_on(&mut self, left: &mut u32) -> JobStop
         ensures desk { self.new ≡ self.old }
@@ -299,8 +294,7 @@ impl<'a, H: Wait, J: PoolJob, C: Contexts<Spawned<J>>> Seat<'a, H, J, C> {
         stack.slice(&mut bench.cells, &mut bench.tally, left, may_post)
     }
 
-    /// Reports to the pool how many jobs were forked and have ended since the last report. Returns the id of the ended
-    /// job's parent, if the caller must wake the parent.
+    /// Returns the ended job's parent, if it must be woken.
     #[inline(always)]
     fn count_end(&mut self, ended: Ended<J>) -> Option<ThreadId>
         ensures desk { self.new ≡ self.old }
@@ -310,8 +304,6 @@ impl<'a, H: Wait, J: PoolJob, C: Contexts<Spawned<J>>> Seat<'a, H, J, C> {
         ended.parent
     }
 
-    /// Moves the oldest child that waits inside the current job, in `held`, into a free slot, if there is one and
-    /// memory is not refused.
     #[inline(always)]
     fn post_oldest(&mut self) -> Result<ThreadStop, Halt>
         ensures { self.new ≡ self.old }
@@ -335,10 +327,10 @@ impl<'a, H: Wait, J: PoolJob, C: Contexts<Spawned<J>>> Seat<'a, H, J, C> {
         }
     }
 
-    /// Prepares the current job, in `held`, to sleep, and gives it the id by which a call can wake it.
+    /// Gives the current job, which is about to sleep, the id by which `Pool::wake` wakes it.
     ///
-    /// While a child waits inside the job's slot, the job makes one step in each slice instead of sleeping, so that the
-    /// child gets the next free slot.
+    /// If a child waits inside the job's slot, the job goes on instead, so that its worker can try again to give the
+    /// child a slot.
     fn fall_asleep(&self, left: &mut u32) -> JobStop
         ensures { left.new ≤ left.old }
     {
@@ -353,7 +345,6 @@ impl<'a, H: Wait, J: PoolJob, C: Contexts<Spawned<J>>> Seat<'a, H, J, C> {
         JobStop::Sleeps
     }
 
-    /// Returns whether another core has a job that this worker may move to its own core (see `waiting_on`).
     fn is_any_waiting(&self) -> bool {
         for core in 0..self.pool.cores {
             if self.waiting_on(core).is_some() {
@@ -363,7 +354,7 @@ impl<'a, H: Wait, J: PoolJob, C: Contexts<Spawned<J>>> Seat<'a, H, J, C> {
         false
     }
 
-    /// Moves a job that waits for another core's worker to the worker's own core. Returns whether a job was moved.
+    /// Returns true if it has moved a job here from another core whose worker has not reached the job yet.
     fn fetch(&mut self) -> bool
         ensures { self.new ≡ self.old }
     {
@@ -382,8 +373,7 @@ impl<'a, H: Wait, J: PoolJob, C: Contexts<Spawned<J>>> Seat<'a, H, J, C> {
         false
     }
 
-    /// Moves the job in slot `place` of another core to the worker's own core, unless the job runs or has its core for
-    /// itself. Returns whether the job was moved.
+    /// Moves the job in slot `place` here, and returns true, unless it runs or has its core for itself.
     fn move_here(&mut self, place: Place) -> bool
         ensures { self.new ≡ self.old }
     {
@@ -398,9 +388,10 @@ impl<'a, H: Wait, J: PoolJob, C: Contexts<Spawned<J>>> Seat<'a, H, J, C> {
         matches!(moved, Moved::Moved)
     }
 
-    /// Returns a slot of another core in which a job may be ready, if that core's worker is awake and has not reached
-    /// it yet. In a `turn` only cores for which a kernel thread has called `work` count: this worker may make the
-    /// rounds of the others itself.
+    /// Returns a slot of `core` in which a job may be ready, if that core's worker is awake and has not reached it yet.
+    ///
+    /// In `Pool::turn`, returns `None` if no kernel thread has called `work` for `core`, since the caller may run that
+    /// core's jobs itself.
     fn waiting_on(&self, core: u8) -> Option<Place>
         requires { core < self.now.cores }
     {
@@ -417,16 +408,5 @@ impl<'a, H: Wait, J: PoolJob, C: Contexts<Spawned<J>>> Seat<'a, H, J, C> {
         }
         let index = u8::try_from(waiting.trailing_zeros()).ok()?;
         Some(Place { core, index })
-    }
-}
-
-/// Returns the state of a job that was put back as `asked`: a job that was woken before is ready.
-#[inline(always)]
-fn rests_so(rested: Rested, asked: Rest) -> Rest
-    ensures { result ≡ rests_as rested asked }
-{
-    match rested {
-        Rested::AsAsked => asked,
-        Rested::WokenMeanwhile => Rest::Ready,
     }
 }

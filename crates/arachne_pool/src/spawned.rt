@@ -10,12 +10,11 @@ use std::alloc::Global;
 use std::marker::Model;
 use std::snapshot::Snapshot;
 
-/// A job that was spawned and has not ended. A job is moved and never copied, and only its owner makes its steps. A
-/// child that was forked while no slot was free waits inside this value, and runs in the job's slot when the job awaits
-/// it.
+/// A job that was spawned and has not ended, with the children that run or wait inside its slot. A child that was
+/// forked while no slot was free waits there, and runs when the job awaits it.
 ///
-/// Contracts see the job's tag, the job as it was spawned, the id under which its parent runs, if the parent has to be
-/// woken, and the jobs that have not ended and run or wait in the job's place, as they are now, with their number.
+/// Contracts see the job's tag, the job as it was spawned, and its parent's id, if the job's end must wake the parent.
+/// Contracts also see the unfinished jobs inside its slot, as they are now, and their number.
 #[derive(Drop)]
 pub struct Spawned<J: PoolJob> {
     tag: u64,
@@ -46,7 +45,6 @@ impl<J: PoolJob> Tagged for Spawned<J> {
 impl<J: PoolJob> Spawned<J> {
     ghost use Rattle.arachne_pool.specs.Jobs.{one};
 
-    /// Creates a job that has made no step. Its result will go to `sender`, if there is one.
     pub(crate) fn begin(
         alloc: Global,
         job: J,
@@ -65,16 +63,15 @@ impl<J: PoolJob> Spawned<J> {
         }
     }
 
-    /// Returns `count` minus the number of jobs in this value that have not ended. Returns `None` if that number is
-    /// more than `count`.
+    /// Returns `count` minus the number of unfinished jobs in this slot, or `None` if they are more.
     pub(crate) fn taken_from(&self, count: u64) -> Option<u64>
         ensures { MatchOption result (count < self.now.many) (λ rest. rest + self.now.many ≡ count) }
     {
         self.stack.taken_from(count)
     }
 
-    /// Releases one child as `Stack::let_go` does. If that child had not begun, returns it as a job of its own, whose
-    /// result will be dropped.
+    /// Detaches one child from an ended job that has not joined it, and returns a child that had not begun. If
+    /// `has_room` is false, keeps a child that had not begun, and returns `None`.
     pub(crate) fn let_go(&mut self, alloc: Global, has_room: bool) -> Option<Spawned<J>>
         ensures room { IsSome result → has_room ≡ true }
         ensures same { self.new ≡ record self.old { many = self.new.many; jobs = self.new.jobs } }
@@ -84,11 +81,10 @@ impl<J: PoolJob> Spawned<J> {
         Some(Spawned::begin(alloc, job, None, None))
     }
 
-    /// Removes the oldest child that waits inside this job, and returns it as a job of its own, whose parent has the id
+    /// Removes and returns the oldest child that waits inside this slot, as a job of its own, whose parent has the id
     /// `me`.
     ///
-    /// Returns `None` if no child waits or memory is refused; then nothing has changed, not even the order of the
-    /// waiting children.
+    /// Returns `None`, and changes nothing, if no child waits or memory is refused.
     pub(crate) fn part_oldest(
         &mut self,
         alloc: Global,
@@ -103,8 +99,7 @@ impl<J: PoolJob> Spawned<J> {
         Some(Spawned::begin(alloc, job, Some(sender), Some(me)))
     }
 
-    /// Ends this job and passes on its result; all jobs inside its slot must have ended. Its handle or its parent gets
-    /// the result.
+    /// All jobs inside this slot must have ended.
     pub(crate) fn leave(self) -> Ended<J>
         requires { self.many ≡ 0 }
         ensures { result.job.value ≡ self }
@@ -123,8 +118,7 @@ impl<J: PoolJob> Spawned<J> {
         Ended { job, parent }
     }
 
-    /// Returns the jobs in this value that have not ended, in their present state: this job, and its descendants that
-    /// run or wait inside its slot. If this job has ended, sends its result.
+    /// Returns the unfinished jobs in this value, as they are now. If the spawned job has ended, sends its result.
     pub fn into_jobs(self) -> Jobs<J>
         ensures { (result ≡ self.jobs) × (length result ≡ self.many) }
     {
@@ -137,13 +131,10 @@ impl<J: PoolJob> Spawned<J> {
     }
 }
 
-/// A job that has ended, and whose result was put into its cell, or dropped if nobody wants it. Only `Spawned::leave`
-/// returns a value of this type.
 #[derive(Drop)]
 pub(crate) struct Ended<J: PoolJob> {
-    /// The job in its last state. The field is zero-sized.
     job: Snapshot<Spawned<J>>,
-    /// The id under which the parent runs, if the parent has to be woken.
+    /// The parent's id, if the job's end must wake the parent.
     pub(crate) parent: Option<ThreadId>,
     ghost own: { parent ≡ job.value.parent },
 }

@@ -1,4 +1,4 @@
-//! Spawns of jobs by a worker. A job for which no core has a free place waits with the worker, or is returned.
+//! Spawning jobs. A job for which no slot is free waits in the worker's queue, or is returned to the caller.
 ghost use Rattle.std.specs.Prelude.{◌≡◌, [], ◌∷◌, ◌++◌, IfErr, IfOk, None, OnOk};
 ghost use Rattle.arachne_contexts.specs.Out.{Claim};
 ghost use Rattle.arachne_pool.specs.Jobs.{one};
@@ -23,12 +23,12 @@ pub enum Refusal {
     NoPlace,
     #[error("out of memory")]
     Memory,
-    /// The worker has no seat (right to use the table) any more, since the table had rejected one of its slots or jobs.
+    /// The worker has lost the right to use the table, since the table had rejected one of its slots or jobs.
     #[error("the worker has no seat")]
     NoSeat,
 }
 
-/// A job that could not be spawned, with the reason. The job is returned to the caller.
+/// A job that could not be spawned, with the reason.
 #[derive(Drop)]
 pub struct Refused<J: PoolJob> {
     pub job: J,
@@ -36,11 +36,10 @@ pub struct Refused<J: PoolJob> {
 }
 
 impl<C: Seats> Pool<C> {
-    /// Spawns a job and returns its handle. The job gets a place if a core has a free one, and waits with the worker
-    /// otherwise.
+    /// Spawns a job and returns its handle. The job gets a free slot, or else waits in the worker's queue.
     ///
-    /// The job is returned if memory is refused or the worker has no seat. The job is also returned if no core has a
-    /// free place and the worker has worked for no core: such a worker keeps no job, since it may never make a round.
+    /// Returns the job if memory is refused, or if the worker has lost the right to use the table. Also returns the job
+    /// if no slot is free and the worker has not worked for a core yet, since such a worker might never run its queue.
     pub fn spawn<H: Wait, J: PoolJob>(
         &self,
         rt: &H,
@@ -72,9 +71,7 @@ impl<C: Seats> Pool<C> {
         }
     }
 
-    /// Spawns a job as `spawn` does, and returns its handle. If no core has a free slot, returns the job, and changes
-    /// nothing. So this call never makes more jobs than slots, not counting children that run or wait inside their
-    /// parents' slots.
+    /// Spawns a job as `spawn` does, but returns the job, and changes nothing, if no slot is free.
     pub fn try_spawn<H: Wait, J: PoolJob>(
         &self,
         rt: &H,
@@ -110,7 +107,6 @@ impl<C: Seats> Pool<C> {
         }
     }
 
-    /// Begins a job, which waits with the worker for a place.
     fn keep<J: PoolJob>(
         &self,
         worker: &mut Worker<C::Seat, J>,
@@ -135,8 +131,7 @@ impl<C: Seats> Pool<C> {
         }
     }
 
-    /// Spawns a job into the slot that was claimed as `claim` by `seat`, which was the worker's. If memory is refused,
-    /// frees the slot and returns the job.
+    /// Spawns a job into a claimed slot, or frees the slot and returns the job if memory is refused.
     fn begin_at<H: Wait, J: PoolJob>(
         &self,
         rt: &H,

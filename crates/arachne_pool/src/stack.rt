@@ -16,27 +16,21 @@ use std::marker::Model;
 use std::mem::replace;
 use std::snapshot::Snapshot;
 
-/// The reason why a slice of a job stops.
 #[derive(Clone, Copy, Debug, PartialEq, Eq)]
 pub(crate) enum JobStop {
-    /// The job goes on.
     Goes,
-    /// The job awaits a child that has begun elsewhere and has not ended.
     Waits,
-    /// The job rests until it is woken.
     Sleeps,
-    /// The job goes on, and has forked a child while a place may be free.
+    /// The job has forked a child, and the caller must try to claim a slot for it.
     Forks,
-    /// A job has ended without joining all of its children, which must be released.
+    /// A job has ended without joining all of its children, so the caller must detach those children by `let_go`.
     LetsGo,
-    /// The job has ended.
     Ends,
-    /// Memory was refused. Nothing has changed.
+    /// Memory was refused, and the job's next slice tries the same again.
     Short,
 }
 
 impl JobStop {
-    /// Returns the state in which the job is put back: blocked if it waits or sleeps, otherwise ready.
     #[inline(always)]
     pub(crate) fn rest(self) -> Rest
         ensures { result ≡ rest_after self }
@@ -49,13 +43,9 @@ impl JobStop {
     }
 }
 
-/// One job of a stack.
-///
-/// The frame has the job when it was forked, the job now, and how many children it has forked and not joined, not
-/// counting a child that runs above it in the stack.
+/// `awaited` is the number of the job's unjoined children, without the child above it in the stack.
 #[derive(Drop)]
 struct JobFrame<J: PoolJob> {
-    /// A ghost copy (of zero bytes) of the job as it was forked.
     asked: Snapshot<J>,
     job: J,
     awaited: usize,
@@ -70,7 +60,6 @@ impl<J: PoolJob> Model for JobFrame<J> {
 }
 
 impl<J: PoolJob> JobFrame<J> {
-    /// Returns the stack frame of a job that has made no step.
     fn begin(job: J) -> JobFrame<J>
         ensures { result ≡ record { asked = job; job = job; awaited = 0 } }
     {
@@ -82,26 +71,17 @@ impl<J: PoolJob> JobFrame<J> {
     }
 }
 
-/// A stack: a job, and the descendants that run inside its slot. Each job above the first was forked by the job below
-/// it, which waits for it; no slot was free for it. Only the topmost job makes steps.
-///
-/// Contracts see the first job, as it was spawned, and the jobs that have not ended, as they are now, with their
-/// number. They also see what the topmost job has forked just now, or has ended with, and whether it has asked for the
-/// result of its newest child.
+/// The jobs that run inside one slot, as a stack. Each job waits for the child above it.
 #[derive(Drop)]
 pub(crate) struct Stack<J: PoolJob> {
-    /// A ghost copy (of zero bytes) of the first job as it was spawned.
     asked: Snapshot<J>,
     top: JobFrame<J>,
-    /// The frames of the jobs below the topmost one, the first job's first.
     below: Vec<JobFrame<J>>,
-    /// The unjoined children of all jobs in this stack, except for those that are in the stack themselves.
+    /// The unjoined children of all jobs in this stack, except for children in the stack.
     pub(crate) links: Links<J>,
-    /// A child that the topmost job has just forked, and that was not added to `links` yet.
+    /// A child that was just forked, and is not in `links` yet.
     child: Option<J>,
-    /// The result of the topmost job, if that job has ended.
     ended: Option<J::Output>,
-    /// True if the topmost job waits for the result of its newest child, which it must get before its next step.
     waits: bool,
 }
 
@@ -126,7 +106,6 @@ impl<J: PoolJob> Model for Stack<J> {
 }
 
 impl<J: PoolJob> Stack<J> {
-    /// Creates a stack that has only `job`, which has made no step.
     pub(crate) fn begin(alloc: Global, job: J) -> Stack<J>
         requires { J.awaits job [] }
         ensures { result ≡ record { asked = job; many = 1; jobs = job ∷ []; child = None; ended = None; waits = false } }
@@ -142,13 +121,11 @@ impl<J: PoolJob> Stack<J> {
         }
     }
 
-    /// Returns the topmost job.
     pub(crate) fn job(&self) -> &J {
         &self.top.job
     }
 
-    /// Returns `count` minus the number of jobs in this stack that have not ended. Returns `None` if that number is
-    /// more than `count`.
+    /// Returns `count` minus the number of unfinished jobs in this stack, or `None` if they are more.
     pub(crate) fn taken_from(&self, count: u64) -> Option<u64>
         ensures { MatchOption result (count < self.now.many) (λ rest. rest + self.now.many ≡ count) }
     {
@@ -159,10 +136,10 @@ impl<J: PoolJob> Stack<J> {
             .checked_sub(u64::from(self.child.is_some()))
     }
 
-    /// Runs the jobs for at most `left` steps.
+    /// Runs the jobs of the stack for at most `left` steps.
     ///
-    /// Stops earlier if a child is forked that may get a slot of its own (`may_post`), if the topmost job must wait, or
-    /// if the first job has ended. Counts in `tally` each child that is forked and each job that ends.
+    /// Stops earlier if the topmost job waits or sleeps, if the first job has ended, or at a fork if `may_post` is
+    /// true.
     #[tactic(auto, using(crate::proofs::Together::counting))]
     pub(crate) fn slice(
         &mut self,
@@ -188,7 +165,7 @@ impl<J: PoolJob> Stack<J> {
         JobStop::Goes
     }
 
-    /// Lets the topmost job make a step, or first does what must be done before that step.
+    /// Carries out what the topmost job's last step has asked for (fork, wait or end), or else makes a step of it.
     fn go_on(
         &mut self,
         cells: &mut Cells<J>,
@@ -213,7 +190,6 @@ impl<J: PoolJob> Stack<J> {
         self.step(tally, may_post)
     }
 
-    /// Lets the topmost job make one step.
     fn step(&mut self, tally: &mut Tally, may_post: bool) -> JobStop
         requires running { (self.old.ended ≡ None) × (self.old.child ≡ None) × (self.old.waits ≡ false) }
         ensures asked { self.new.asked ≡ self.old.asked }
@@ -239,7 +215,8 @@ impl<J: PoolJob> Stack<J> {
         }
     }
 
-    /// Adds the child that was just forked to the children that wait to begin.
+    /// If `may_post` is true (a slot may be free), returns `Forks`, so that the caller tries to claim one for the
+    /// child.
     fn put_aside(&mut self, may_post: bool) -> JobStop
         requires { self.old.ended ≡ None }
         ensures { KeepsMany self.old self.new }
@@ -266,7 +243,7 @@ impl<J: PoolJob> Stack<J> {
         }
     }
 
-    /// Gives the topmost job the result of its newest child, if it has ended, or begins that child in this place.
+    /// Gives the topmost job the result of its newest child, or begins that child inside this slot.
     fn receive(&mut self, cells: &mut Cells<J>) -> JobStop
         requires running { (self.old.ended ≡ None) × (self.old.child ≡ None) × (self.old.waits ≡ true) }
         ensures same { KeepsMany self.old self.new }
@@ -290,7 +267,6 @@ impl<J: PoolJob> Stack<J> {
         }
     }
 
-    /// Pushes the newest child onto the stack, above the job that waits for it, so that the child makes the next steps.
     fn enter(&mut self) -> JobStop
         requires running { (self.old.ended ≡ None) × (self.old.child ≡ None) × (self.old.waits ≡ true) }
         ensures same { KeepsMany self.old self.new }
@@ -312,7 +288,7 @@ impl<J: PoolJob> Stack<J> {
         JobStop::Goes
     }
 
-    /// Gives the result of the topmost job to the job below it. If it is the first job, its result stays in `ended`.
+    /// Removes the topmost job, which has ended, and gives its result to the job below it, if there is one.
     fn pass_on(&mut self) -> JobStop
         requires { IsSome self.old.ended }
         ensures same { KeepsMany self.old self.new }
@@ -334,7 +310,6 @@ impl<J: PoolJob> Stack<J> {
         JobStop::Goes
     }
 
-    /// Returns how many of its children the topmost job never joined, if it has ended.
     pub(crate) fn orphans(&self) -> usize {
         if self.ended.is_some() {
             self.top.awaited
@@ -343,9 +318,9 @@ impl<J: PoolJob> Stack<J> {
         }
     }
 
-    /// Removes one child that the topmost job, which has ended, never joined. Returns the child if it had not begun.
+    /// Removes one child that the topmost job, which has ended, never joined, and returns it if it had not begun.
     ///
-    /// If `has_room` is false and a child that has not begun is left, changes nothing.
+    /// If `has_room` is false and a child that has not begun is left, changes nothing and returns `None`.
     pub(crate) fn let_go(&mut self, has_room: bool) -> Option<J>
         ensures room { IsSome result → has_room ≡ true }
         ensures asked { self.new.asked ≡ self.old.asked }
@@ -359,8 +334,6 @@ impl<J: PoolJob> Stack<J> {
         self.links.forget_newest()
     }
 
-    /// Takes the stack apart. Returns the result of the first job, if it has ended; then all jobs in the stack have
-    /// ended.
     pub(crate) fn into_output(self) -> Option<J::Output>
         ensures result { IfSome result (J.is_result self.asked) }
         ensures over { self.many ≡ 0 → IsSome result }
@@ -369,7 +342,7 @@ impl<J: PoolJob> Stack<J> {
         if below.is_empty() { ended } else { None }
     }
 
-    /// Takes the stack apart. Returns all jobs that have not ended, and the result of the first job, if it has ended.
+    /// Returns all unfinished jobs, and the result of the first job if that job has ended.
     pub(crate) fn into_jobs(self) -> (Jobs<J>, Option<J::Output>)
         ensures jobs { result.0 ≡ self.jobs }
         ensures many { length result.0 ≡ self.many }
@@ -395,7 +368,6 @@ impl<J: PoolJob> Stack<J> {
     }
 }
 
-/// Returns `job`, or `None` if `ended` has the job's result.
 fn unless_ended<J: PoolJob>(ended: &Option<J::Output>, job: J) -> Option<J>
     ensures job { result ≡ unless_ended ended.now job }
     ensures count { (others : List J) → length (children_of result others) ≡ count_none ended.now + length others }
@@ -406,10 +378,9 @@ fn unless_ended<J: PoolJob>(ended: &Option<J::Output>, job: J) -> Option<J>
     }
 }
 
-/// The unfinished jobs of a stack (a job and those that ran inside its slot) that was taken apart.
+/// The unfinished jobs inside one slot of a closed pool. The caller may spawn again those that had not begun.
 ///
-/// The pool makes no more steps of these jobs; the caller may spawn those that had not begun again. The model, which
-/// contracts see, has the jobs that are left, in the order in which `take` returns them.
+/// In contracts, the value is the list of the jobs in the order in which `take` returns them.
 #[derive(Drop)]
 pub struct Jobs<J: PoolJob> {
     child: Option<J>,
@@ -428,8 +399,8 @@ impl<J: PoolJob> Model for Jobs<J> {
 }
 
 impl<J: PoolJob> Jobs<J> {
-    /// Removes and returns the next job: first those that had not begun, then the others; in both groups the newest
-    /// first.
+    /// Removes and returns a job, if one is left. Jobs that had not begun come before the others. In both groups the
+    /// newest job comes first.
     pub fn take(&mut self) -> Option<J>
         ensures { MatchOption result ((self.old ≡ []) × (self.new ≡ [])) (λ job. self.old ≡ job ∷ self.new) }
     {

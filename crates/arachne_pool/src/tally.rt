@@ -1,33 +1,29 @@
 //! Counts of jobs that were spawned and that have ended: a worker's own, and those that all workers have reported.
-
 use crossbeam_utils::CachePadded;
 use std::alloc::{AllocError, Global};
 use std::sync::atomic::{AtomicU64, Ordering};
 
-/// The number of jobs that a worker has spawned, and the number of jobs that have ended on its core. Each count
-/// saturates at 2^64 - 1.
+/// The number of jobs that were spawned, and of jobs that have ended. Each count saturates at 2^64 - 1.
 #[derive(Clone, Copy, Debug, PartialEq, Eq)]
 pub struct Tally {
     pub spawned: u64,
     pub ended: u64,
 }
 
-/// The counts that the workers of one core have reported.
 #[derive(Drop)]
 struct CoreCounts {
     spawned: AtomicU64,
     ended: AtomicU64,
 }
 
-/// The counts of all workers. The counts of each core are on a cache line of their own. Behind these are the counts of
-/// workers that work for no core.
+/// The numbers of jobs that all workers have spawned and ended. Each core has an entry, on a cache line of its own, and
+/// the last entry is for workers without a core.
 #[derive(Drop)]
 pub(crate) struct Live {
     told: Vec<CachePadded<CoreCounts>>,
 }
 
 impl Live {
-    /// Returns counts of 0 for this number of cores.
     pub(crate) fn new(alloc: Global, cores: u8) -> Result<Live, AllocError> {
         let mut told = Vec::new(alloc);
         for _ in 0..=cores {
@@ -39,8 +35,7 @@ impl Live {
         Ok(Live { told })
     }
 
-    /// Adds the jobs that a worker of `core` has spawned and ended. If there is no such core, the worker works for
-    /// none. A job must be added before another worker can run it.
+    /// A spawn must be added before another worker can run the job.
     pub(crate) fn add(&self, core: u8, news: Tally) {
         if let Some(told) = self.told.get(usize::from(core)).or(self.told.last()) {
             // Spawns are added first: `count` must not see the end of a job whose spawn it misses.
@@ -53,7 +48,6 @@ impl Live {
         }
     }
 
-    /// Returns how many jobs were spawned and have not ended.
     pub(crate) fn count(&self) -> u64 {
         // Ends are read first: a job that is spawned or ends between the two reads counts as living, so 0 is never too
         // early.

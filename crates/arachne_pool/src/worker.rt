@@ -9,11 +9,10 @@ ghost use Rattle.arachne_pool.specs.Workers.{HasMadeNoStep, HasNoCore, IsIdleAt,
 
 use crate::handle::{Cells, Handle, WantedResult};
 use crate::job::PoolJob;
-use crate::orders::PoolOrders;
 use crate::pool::Pool;
 use crate::spawned::Spawned;
 use crate::tally::Tally;
-use arachne_arbiter::Pace;
+use arachne_arbiter::{Arbiter, Pace};
 use arachne_contexts::Seats;
 use arachne_workers::{Agenda, Halt};
 use rand_core::{Rng, SeedableRng};
@@ -25,17 +24,15 @@ use std::snapshot::Snapshot;
 use std::sync::Wait;
 use thiserror::Error;
 
-/// The reason why a worker's call on the pool has failed.
+/// The reason why a call with a worker has failed.
 #[derive(Clone, Copy, Debug, PartialEq, Eq, Error)]
 pub enum PoolFault {
-    /// Memory was refused. No job was changed, and the worker can be used again.
+    /// Memory was refused. No job is lost, and the worker can be used again.
     #[error("out of memory")]
     Memory,
-    /// The table has rejected a slot or a job that it had given to the worker. The worker has lost its seat (the right
-    /// to use the table) and must stop.
+    /// The table has rejected a slot or a job that it had given to the worker. The worker can't use the table any more.
     #[error("the table knows no such token")]
     Token,
-    /// The pool was stopped, so the worker must return.
     #[error("the pool was stopped")]
     Stopped,
     /// The system started no kernel thread for a core. Only `Pool::run` reports this.
@@ -43,12 +40,11 @@ pub enum PoolFault {
     KernelThread,
 }
 
-/// Returns the error of a worker's loop whose table didn't know a place or a job that it had given to the worker.
 pub(crate) fn disowned() -> Halt {
     Halt { why: 0 }
 }
 
-/// A worker's loop ends early only if the table didn't know a place or a job.
+/// A worker's loop fails only if the table rejects a slot or a job, so each `Halt` becomes `Token`.
 impl From<Halt> for PoolFault {
     ghost use Rattle.std.specs.Prelude.{◌≡◌};
     ghost use Rattle.arachne_pool.specs.declared.worker.PoolFault.TheVariants.{Token};
@@ -60,28 +56,27 @@ impl From<Halt> for PoolFault {
     }
 }
 
-/// A worker's jobs that wait for a place, its counts, its random choices and its unused cells.
+/// The data of a worker that its loop and its calls share.
 #[derive(Drop)]
 pub(crate) struct Bench<J: PoolJob> {
     pub(crate) alloc: Global,
-    /// Jobs that wait for a place, the oldest first. Such a job makes no step before it has a place.
+    /// The jobs that wait for a slot before their first step, the oldest first.
     pub(crate) near: VecDeque<Spawned<J>>,
     pub(crate) cells: Cells<J>,
     pub(crate) chooser: Xoshiro256PlusPlus,
     pub(crate) tally: Tally,
     /// The part of `tally` that was reported to the pool.
     pub(crate) told: Tally,
-    /// The orders by which cores are closed and opened, if the worker has them.
-    pub(crate) orders: Option<PoolOrders>,
-    /// True if memory was refused, and no call has reported this yet.
+    pub(crate) orders: Option<Arbiter>,
+    /// True if memory was refused, and no call has returned this as an error yet.
     pub(crate) is_short: bool,
     /// True if a job has ended since this field was last read.
     pub(crate) has_ended: bool,
 }
 
 impl<J: PoolJob> Bench<J> {
-    /// Begins a job, and makes room for it among the jobs that wait for a place. Returns the job's handle, and the job.
-    /// If memory is refused, the job is returned as an error.
+    /// Counts `job` as spawned, and returns it with its handle; reserves memory for it in the queue `near`. If memory
+    /// is refused, returns the job.
     pub(crate) fn begin(&mut self, job: J) -> Result<(Handle<J>, Spawned<J>), J>
         requires fresh { J.awaits job [] }
         ensures handle { IfOk result (λ begun. begun.0 ≡ job) }
@@ -108,9 +103,8 @@ impl<J: PoolJob> Bench<J> {
         Ok((Handle { receiver }, begun))
     }
 
-    /// Releases the children that were not joined before their parent (this job or a job in its place) ended. Children
-    /// that have not begun then wait for places of their own, and none is lost. Returns false, and notes this, if
-    /// memory was refused; then a child that has not begun is left.
+    /// Detaches the children that an ended job has not joined, and moves those that have not begun to the queue `near`.
+    /// If memory for such a child is refused, sets `is_short` and returns false.
     #[tactic(auto, using(crate::proofs::Counts::count_near_push))]
     pub(crate) fn let_go(&mut self, job: &mut Spawned<J>) -> bool
         ensures same { self.new ≡ record self.old { near = self.new.near; is_short = if result then self.old.is_short else true } }
@@ -136,8 +130,6 @@ impl<J: PoolJob> Bench<J> {
         true
     }
 
-    /// Returns how many jobs the worker has spawned, and how many have ended on its core, since the last call of
-    /// `news`.
     pub(crate) fn news(&mut self) -> Tally
         ensures same { self.new ≡ record self.old { told = self.new.tally } }
         ensures spawned { self.old.told.spawned ≤ self.old.tally.spawned → self.old.told.spawned + result.spawned ≡ self.old.tally.spawned }
@@ -152,16 +144,15 @@ impl<J: PoolJob> Bench<J> {
     }
 }
 
-/// A worker: a kernel thread's access to a pool. A worker is used by one kernel thread at a time, for one core.
+/// A worker, by which a kernel thread uses a pool: it runs the jobs of one core. One kernel thread at a time uses it.
 ///
-/// Contracts see the worker's seat; the orders by which cores are closed and opened, if the worker has them; its jobs
-/// that have no place; its counts, and what it has reported of them; the core for which it was last called; and its
-/// agenda, which has what it runs next, and the steps of its jobs since it last read the stop word and its orders.
+/// Contracts see the worker's right to use the table (`seat`), its orders to open or close cores, its waiting jobs, its
+/// counts of jobs and its core. Contracts also see the agenda, which counts steps since the worker last checked for a
+/// stop and for orders.
 #[derive(Drop)]
 pub struct Worker<S, J: PoolJob> {
     pub(crate) seat: Option<S>,
     pub(crate) bench: Bench<J>,
-    /// The core on which the worker works, or last worked. It is 255, which is no core, until the first call.
     pub(crate) core: u8,
     pub(crate) agenda: Agenda,
     pub(crate) pace: Pace,
@@ -184,16 +175,14 @@ impl<S, J: PoolJob> Model for Worker<S, J> {
 }
 
 impl<S, J: PoolJob> Worker<S, J> {
-    /// Returns how many jobs the worker has spawned, including those forked by jobs on its core, and how many jobs have
-    /// ended on its core.
+    /// Returns how many jobs the worker has spawned, including forks on its core, and how many have ended on its core.
     pub fn tally(&self) -> Tally
         ensures { result ≡ self.now.tally }
     {
         self.bench.tally
     }
 
-    /// Creates a worker that has `seat` (the right to use the table), but no jobs and no orders, and that belongs to no
-    /// core yet. `seed` seeds its random generator.
+    /// Returns a worker whose random generator begins with `seed`.
     pub(crate) fn new(alloc: Global, seat: Option<S>, seed: u64) -> Worker<S, J>
         ensures seat { result.seat ≡ seat }
         ensures nothing { (result.tally.spawned ≡ 0) × (result.tally.ended ≡ 0) }
@@ -228,11 +217,11 @@ impl<S, J: PoolJob> Worker<S, J> {
 }
 
 impl<C: Seats> Pool<C> {
-    /// Splits a worker in two.
+    /// Splits a worker in two, so that another kernel thread can use the pool.
     ///
-    /// The first worker keeps the jobs, the counts, the orders and the core of `worker`. The second worker gets half of
-    /// the seat (right to use the table) of `worker`, if `worker` has one, and belongs to no core yet. The caller must
-    /// join all workers again before `close`.
+    /// The first worker keeps the waiting jobs, the counts of jobs, the orders and the core. The second worker has no
+    /// core yet, and gets half of the right to use the table, if `worker` has that right. Before `close`, all workers
+    /// must be joined.
     pub fn split<H: Wait, J: PoolJob>(
         &self,
         rt: &H,
@@ -260,11 +249,11 @@ impl<C: Seats> Pool<C> {
         (worker, Worker::new(alloc, Some(theirs), seed))
     }
 
-    /// Joins two workers into one.
+    /// Joins two workers into one, which has the core of `worker`.
     ///
-    /// It has the core of the first, and the orders of the first or, if that has none, of the second. It has a seat
-    /// (the right to use the table) if both workers have one. If memory for the waiting jobs of both is refused,
-    /// returns both workers; this can't happen if the second one has no such jobs.
+    /// The new worker has the orders (to open or close cores) of `worker`, or those of `other` if `worker` has none.
+    /// The new worker can use the table if both workers could. If memory for the waiting jobs is refused, returns both
+    /// workers. If `other` has no waiting jobs, the workers are always joined.
     pub fn join_workers<H: Wait, J: PoolJob>(
         &self,
         rt: &H,
@@ -302,7 +291,6 @@ impl<C: Seats> Pool<C> {
         Ok(worker)
     }
 
-    /// Joins two seats into one, if both are there.
     pub(crate) fn join_seats<H: Wait>(
         &self,
         rt: &H,

@@ -1,7 +1,6 @@
 //! Tests of `Pool::run`, which runs a job to its end, over the table on atomic words.
 use crate::board::Board;
-use crate::rows::{ALONE_PARENT, TREE};
-use crate::tasks::{PARENT, Sort, Task};
+use crate::tasks::Task;
 use arachne_pool::{Pool, PoolFault, Tally, Unfinished};
 use arachne_shortage::Hoard;
 use std::alloc::Global;
@@ -10,25 +9,20 @@ use std::test::Fail;
 use std::thread::Threads;
 use std::time::Clock;
 
-/// The way in which a run must end: with the job's result, with the job returned to the caller, or with a fault.
 #[derive(Clone, Copy, PartialEq)]
 enum Comes {
-    /// The job ends, and has counted this many jobs.
+    /// The job's result, which is a number of jobs.
     Ends(u64),
-    /// The job was not spawned, and is returned.
     NotSpawned(PoolFault),
-    /// All workers are stopped, and this number of jobs that have a slot are returned.
     Stopped(PoolFault, usize),
-    /// All workers were stopped because of this fault, and the jobs were dropped.
     Lost(PoolFault),
 }
 
-/// A test case of `Pool::run`: a job, the number of cores, and the number of bytes of free memory, if that is limited.
 #[derive(Clone, Copy)]
 struct Row {
     shows: &'static str,
     cores: u8,
-    sort: Sort,
+    sort: &'static str,
     free: Option<usize>,
     comes: Comes,
 }
@@ -36,7 +30,7 @@ struct Row {
 const TREE_ON_TWO: Row = Row {
     shows: "a tree ends on two kernel threads",
     cores: 2,
-    sort: TREE,
+    sort: "tree",
     free: None,
     comes: Comes::Ends(121),
 };
@@ -44,7 +38,7 @@ const TREE_ON_TWO: Row = Row {
 const ROWS: &[Row] = &[
     Row {
         shows: "a job is returned if a kernel thread is refused",
-        sort: PARENT,
+        sort: "parent",
         free: Some(700_000),
         comes: Comes::NotSpawned(PoolFault::KernelThread),
         ..TREE_ON_TWO
@@ -62,22 +56,16 @@ const ROWS: &[Row] = &[
     },
     Row {
         shows: "a child that wants a core for itself ends on the second kernel thread",
-        sort: ALONE_PARENT,
+        sort: "alone parent",
         comes: Comes::Ends(2),
         ..TREE_ON_TWO
     },
 ];
 
-/// A job that has its core for itself, and forks more children on that core than memory has room for.
-const PROLIFIC: Sort = Sort {
-    forks: u32::MAX,
-    ..ALONE_PARENT
-};
-
-/// Runs the job of a test case. Returns how the run ended, or `None` if there is no memory for the test itself.
+/// Returns how the test case's run ended, or `None` if there is no memory for the test itself.
 fn run<R: Threads + Wait + Clock + Sync>(rt: &R, alloc: Global, row: &Row) -> Option<Comes> {
     let board = Board::new(alloc)?;
-    let task = Task::new(row.sort, &board)?;
+    let task = Task::of(row.sort, &board)?;
     if row.cores < 1 || row.cores > 64 {
         return None;
     }
@@ -119,7 +107,7 @@ fn a_job_is_returned_wherever_memory_ends(rt: HostRuntime) -> Result<(), Fail> {
         let row = Row {
             shows: "memory ends before the job is spawned, as it forks, or as the jobs are collected",
             cores: 1,
-            sort: PROLIFIC,
+            sort: "alone parent forks=4294967295",
             free: Some(step * 20_000),
             comes: Comes::Stopped(PoolFault::Memory, 1),
         };

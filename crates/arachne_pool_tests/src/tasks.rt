@@ -1,5 +1,4 @@
-//! The jobs of all tests. Each job's result counts the job itself and all jobs that it has joined, directly or through
-//! others.
+//! The jobs of all tests. A job's result counts the job and all jobs that it has joined, directly or through others.
 use crate::board::Board;
 use arachne_contexts::Tagged;
 use arachne_core::ThreadId;
@@ -8,44 +7,33 @@ use std::alloc::Global;
 use std::mem::replace;
 use std::sync::Arc;
 
-/// A kind of job: it forks children, joins them, sleeps until some answers (events for which jobs sleep) were counted,
-/// makes some more steps and ends.
 #[derive(Clone, Copy)]
-pub(crate) struct Sort {
-    /// The number of generations of descendants that the job has.
-    pub(crate) depth: u32,
-    /// The number of children that the job forks.
-    pub(crate) forks: u32,
-    /// The number of answers (events) for which the job sleeps, after it has forked and joined its children. A child
-    /// sleeps for one answer fewer than its parent.
-    pub(crate) answers: u64,
+struct Sort {
+    depth: u32,
+    forks: u32,
+    /// The number of answers (events) for which the job sleeps after it has joined its children; each child sleeps for
+    /// one fewer.
+    answers: u64,
     /// The number of steps that the job makes before each fork, and again before it ends.
-    pub(crate) steps: u32,
-    /// The greatest number of steps that the job makes in one slice.
-    pub(crate) bound: u32,
-    /// The number of values that the job has only because they take time to be dropped.
-    pub(crate) luggage: usize,
-    pub(crate) joins: Joins,
-    pub(crate) is_exclusive: bool,
-    /// True if the job's first child wants a core for itself, even if the job doesn't.
-    pub(crate) is_first_exclusive: bool,
-    /// True if the job's first step lasts until an answer was counted.
-    pub(crate) is_held: bool,
+    steps: u32,
+    bound: u32,
+    /// The number of values that the job has only so that it takes time to drop it.
+    luggage: usize,
+    joins: Joins,
+    is_exclusive: bool,
+    is_first_exclusive: bool,
+    /// True if the job's first step lasts until an answer (an event of the test) was counted.
+    is_held: bool,
 }
 
-/// Which of its children a job joins, and when.
 #[derive(Clone, Copy)]
-pub(crate) enum Joins {
-    /// The job joins each child before it forks the next one.
+enum Joins {
     InTurn,
-    /// The job joins all children after it has forked the last one.
     AtLast,
-    /// The job joins none of its children.
     Never,
 }
 
-/// A job that forks no child and ends in its first step.
-pub(crate) const LEAF: Sort = Sort {
+const LEAF: Sort = Sort {
     depth: 0,
     forks: 0,
     answers: 0,
@@ -58,15 +46,43 @@ pub(crate) const LEAF: Sort = Sort {
     is_held: false,
 };
 
-/// A job that forks one child, a `LEAF`, and joins it.
-pub(crate) const PARENT: Sort = Sort {
-    depth: 1,
-    forks: 1,
-    ..LEAF
-};
+impl Sort {
+    /// Parses a sort of job, which `text` describes by how it differs from a leaf (a job of one step), for example
+    /// `alone forks=2 never`.
+    ///
+    /// A `parent` forks one child, a leaf, and joins it. A `tree` forks three children, each of which does the same,
+    /// four generations deep: 121 jobs. A job that is `endless` runs longer than any test. Returns `None` if the text
+    /// has another word.
+    fn of(text: &str) -> Option<Sort> {
+        let mut sort = LEAF;
+        for word in text.split_whitespace() {
+            let (name, number) = word.split_once('=').unwrap_or((word, "0"));
+            let number = number.parse::<u32>().ok()?;
+            match name {
+                "leaf" => {}
+                "parent" => (sort.depth, sort.forks) = (1, 1),
+                "tree" => (sort.depth, sort.forks) = (4, 3),
+                "endless" => sort.steps = u32::MAX,
+                "depth" => sort.depth = number,
+                "forks" => sort.forks = number,
+                "answers" => sort.answers = u64::from(number),
+                "steps" => sort.steps = number,
+                "bound" => sort.bound = number,
+                "luggage" => sort.luggage = number as usize,
+                "in-turn" => sort.joins = Joins::InTurn,
+                "never" => sort.joins = Joins::Never,
+                "alone" => sort.is_exclusive = true,
+                "first-alone" => sort.is_first_exclusive = true,
+                "held" => sort.is_held = true,
+                _ => return None,
+            }
+        }
+        Some(sort)
+    }
+}
 
-/// A job in a pool. It counts the children that it has forked and not joined, the further steps that it has made, and
-/// itself with the jobs that it has joined.
+/// Counts the children that it has forked and not joined, the steps since its last fork, and the jobs that it has
+/// joined, itself included.
 #[derive(Drop)]
 pub(crate) struct Task {
     board: Arc<Board>,
@@ -80,9 +96,12 @@ pub(crate) struct Task {
 }
 
 impl Task {
-    /// Returns a job of this sort that counts on `board`. Returns `None` if memory is refused, or the board has too
-    /// many owners.
-    pub(crate) fn new(sort: Sort, board: &Arc<Board>) -> Option<Task> {
+    /// Returns `None` if memory is refused, the board has too many owners, or `sort` isn't the text of one.
+    pub(crate) fn of(sort: &str, board: &Arc<Board>) -> Option<Task> {
+        Task::new(Sort::of(sort)?, board)
+    }
+
+    fn new(sort: Sort, board: &Arc<Board>) -> Option<Task> {
         Some(Task {
             board: board.clone().ok()?,
             luggage: luggage(board.alloc, sort.luggage)?,
@@ -95,7 +114,6 @@ impl Task {
         })
     }
 
-    /// Returns the child that the job forks next, if there is one.
     fn child(&mut self) -> Option<Task> {
         if self.sort.depth == 0 || self.forked >= self.sort.forks {
             return None;
@@ -114,7 +132,6 @@ impl Task {
         Some(child)
     }
 
-    /// Returns whether the job must join a child before it makes further steps.
     fn is_to_join(&self) -> bool {
         match self.sort.joins {
             Joins::InTurn => self.awaited > 0,
@@ -124,7 +141,6 @@ impl Task {
     }
 }
 
-/// Returns `count` values, each of which has an allocation of its own.
 fn luggage(alloc: Global, count: usize) -> Option<Vec<Vec<u64>>> {
     let mut luggage = Vec::new(alloc);
     for _ in 0..count {

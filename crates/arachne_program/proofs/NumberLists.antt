@@ -1,8 +1,7 @@
 -- Lists of numbers are compared by their last number and those before it.
-use Rattle.std.proofs.Common.{◌≡◌, ℕ, List, [], ◌∷◌, ◌++◌, ap, sym, ◌∙◌, Bool, true, false, rules, reverse}
+use Rattle.std.proofs.Common.{◌≡◌, ℕ, List, [], ◌∷◌, ◌++◌, ap, sym, ◌∙◌, Bool, true, false, rules, reverse, IsTrue, nat_eq}
 use Rattle.std.proofs.lemmas.List.{reverse-append, reverse-reverse}
 use lib.Pointwise.{pointwise}
-use Rattle.std.specs.Prelude.{IsTrue, nat_eq}
 use Rattle.std.specs.Cmp.Lexicographic.{same_text, other_text}
 
 -- two lists with a last number each are the same only if their parts are

@@ -1,10 +1,7 @@
 -- Programs are the same if their parts are.
-use Rattle.std.proofs.Common.{◌≡◌, ℕ, Bool, List, [], ◌∷◌, refl, subst, ap, Vec, Global}
-use Rattle.std.specs.Prelude.{◌&&◌, nat_eq, map}
+use Rattle.std.proofs.Common.{◌≡◌, ℕ, Bool, List, [], ◌∷◌, refl, subst, ap, Vec, Global, ◌&&◌, nat_eq, map}
 use Rattle.std.specs.Bool.{Decides}
 use lib.Pointwise.{pointwise}
-use Rattle.arachne_program.specs.declared.program.Program.{Program}
-use Rattle.arachne_program.specs.Program.{tree_of, source_of}
 use Rattle.arachne_program.specs.SameDecides.{same_arrays-Decides}
 
 pointwise-map : (E : List ℕ → List ℕ → Bool) (xs ys : List (Vec ℕ Global))
@@ -19,7 +16,3 @@ pub arrays-Decides : (xs ys : List (Vec ℕ Global))
 arrays-Decides xs ys =
     subst (λ (b : Bool). Decides b (map (λ array. array.items) xs ≡ map (λ array. array.items) ys)) (pointwise-map (pointwise nat_eq) xs ys)
     (same_arrays-Decides (map (λ array. array.items) xs) (map (λ array. array.items) ys))
-
-pub source_of-same : (a b : Program) → a.ledgers ≡ b.ledgers → a.locks ≡ b.locks
-    → map (λ array. array.items) a.arrays.items ≡ map (λ array. array.items) b.arrays.items → tree_of a.root ≡ tree_of b.root → source_of a ≡ source_of b
-source_of-same a b ledgers locks arrays root = λ i. record { arrays = arrays i; ledgers = ledgers i; locks = locks i; root = root i }

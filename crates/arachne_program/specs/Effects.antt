@@ -1,8 +1,6 @@
 -- The effects of evaluating an expression, beside its value: sums for the ledgers, holds of locks, and threads.
 use Rattle.std.specs.Prelude.{ℕ, zero, suc, ◌+◌, ◌-◌, ◌/◌, ◌==◌, if◌then◌else◌, List, [], ◌∷◌, ◌++◌, length, Option, Some, option_and_then, slice_get}
-use Rattle.arachne_program.specs.declared.meaning.Line.{Line}
-use Rattle.arachne_program.specs.declared.program.Class.{Class}
-use Rattle.arachne_program.specs.declared.program.Class.TheVariants.{Normal}
+use Rattle.arachne_program.specs.declared.{meaning.Line.Line, program.Class.Class, program.Class.TheVariants.Normal}
 use Rattle.arachne_program.specs.declared.program.Reduction.{Reduction}
 use Rattle.arachne_program.specs.Tree.{Tree, Number, Variable, Length, Item, Binary, Choose, Bind, Tally, Hold, Fork, Fold, Sweep}
 use Rattle.arachne_program.specs.Parts.{by_halves}
@@ -42,7 +40,7 @@ line_of locks name effects = record { name = name; holds = tabulated locks effec
 abbrev pub nothing : Effects
 nothing = record { sums = λ ledger. 0; holds = λ lock. 0; children = []; lines = λ name next. [] }
 
--- The effects of one after the other. The forks of the second are numbered after those of the first.
+-- The effects of two evaluations, one after the other. The forks of the second are numbered after those of the first.
 infixl 10 ◌⨾◌
 abbrev pub ◌⨾◌ : Effects → Effects → Effects
 a ⨾ b = record {

@@ -1,8 +1,6 @@
 -- The meaning of a program on one thread.
 use Rattle.std.specs.Prelude.{ℕ, List, [], ◌∷◌, Option, option_and_then, slice_get}
-use Rattle.arachne_program.specs.declared.meaning.Meaning.{Meaning}
-use Rattle.arachne_program.specs.Tree.{Source}
-use Rattle.arachne_program.specs.Value.{value_of}
+use Rattle.arachne_program.specs.{declared.meaning.Meaning.Meaning, Tree.Source, Value.value_of}
 use Rattle.arachne_program.specs.Effects.{Task, Evaluate, Child, effects_of, task_effects, task_below, line_of, tabulated}
 
 -- the meaning of a program: the value of its root, for each ledger its total, and the lines of its threads, the root's

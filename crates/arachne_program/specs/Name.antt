@@ -1,8 +1,6 @@
 -- The form in which the numbers of a thread's name are stored.
-use Rattle.std.specs.Prelude.{ℕ, ◌<◌, ◌≤◌, ◌^◌, ◌⊎◌, List, length}
-use Rattle.std.specs.List.{All}
-use Rattle.arachne_program.specs.declared.name.Forks.{Forks}
-use Rattle.arachne_program.specs.declared.name.Forks.TheVariants.{Bytes, Words, Heap}
+use Rattle.std.specs.{Prelude.{ℕ, ◌<◌, ◌≤◌, ◌^◌, ◌⊎◌, List, length}, List.All}
+use Rattle.arachne_program.specs.declared.name.Forks.{Forks, TheVariants.{Bytes, Words, Heap}}
 
 -- the name has at most 30 numbers, each below 256
 abbrev pub FitsBytes : List ℕ → Type 0

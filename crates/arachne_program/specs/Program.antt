@@ -1,4 +1,4 @@
--- The plain tree of a program of the code.
+-- The plain tree of a `Program`.
 use Rattle.std.specs.Prelude.{map}
 use Rattle.arachne_program.specs.declared.program.Expr.{Expr, Num, Var, Len, Item', Binary', If', Let', Tally', Hold', Fork', Fold', Sweep'}
 use Rattle.arachne_program.specs.declared.program.Program.{Program}

@@ -1,8 +1,7 @@
 -- Tests whether two programs are the same, part by part.
 use Rattle.std.specs.Prelude.{Bool, true, false, ◌&&◌, ◌==◌, nat_eq}
 use lib.Pointwise.{pointwise}
-use Rattle.arachne_program.specs.declared.program.Class.{Class}
-use Rattle.arachne_program.specs.declared.program.Class.TheVariants.{Normal, Exclusive}
+use Rattle.arachne_program.specs.declared.program.Class.{Class, TheVariants.{Normal, Exclusive}}
 use Rattle.arachne_program.specs.declared.program.Operation.{Operation}
 use Rattle.arachne_program.specs.declared.program.Operation.TheVariants.{Add, Sub, Mul, Min, Max, Xor, Lt, Eq}
 use Rattle.arachne_program.specs.declared.program.Reduction.{Reduction}

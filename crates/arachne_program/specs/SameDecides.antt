@@ -1,12 +1,8 @@
 -- The tests of `Same` are true exactly if both are the same.
-use Rattle.std.proofs.Common.{◌≡◌, ℕ, Bool, true, false, List, refl, subst, ap}
-use Rattle.std.specs.Prelude.{◌&&◌, ◌==◌, nat_eq}
-use Rattle.std.specs.Bool.{Decides}
-use Rattle.std.specs.Cmp.{unsigned_Decides}
-use Rattle.std.proofs.lemmas.Slice.Eq.{slice_eq-Decides}
+use Rattle.std.proofs.{Common.{◌≡◌, ℕ, Bool, true, false, List, refl, subst, ap}, lemmas.Slice.Eq.slice_eq-Decides}
+use Rattle.std.specs.{Prelude.{◌&&◌, ◌==◌, nat_eq}, Bool.Decides, Cmp.unsigned_Decides}
 use lib.Pointwise.{pointwise}
-use Rattle.arachne_program.specs.declared.program.Class.{Class}
-use Rattle.arachne_program.specs.declared.program.Class.TheVariants.{Normal, Exclusive}
+use Rattle.arachne_program.specs.declared.program.Class.{Class, TheVariants.{Normal, Exclusive}}
 use Rattle.arachne_program.specs.declared.program.Operation.{Operation}
 use Rattle.arachne_program.specs.declared.program.Operation.TheVariants.{Add, Sub, Mul, Min, Max, Xor, Lt, Eq}
 use Rattle.arachne_program.specs.declared.program.Reduction.{Reduction}

@@ -1,8 +1,6 @@
 -- Programs as plain trees. Two programs of the code that differ only in their addresses have the same tree.
 use Rattle.std.specs.Prelude.{ℕ, List}
-use Rattle.arachne_program.specs.declared.program.Class.{Class}
-use Rattle.arachne_program.specs.declared.program.Operation.{Operation}
-use Rattle.arachne_program.specs.declared.program.Reduction.{Reduction}
+use Rattle.arachne_program.specs.declared.program.{Class.Class, Operation.Operation, Reduction.Reduction}
 
 -- an expression; its numbers, and the places that it names, may be of any size
 pub data Tree : Type 0 where

@@ -4,7 +4,6 @@ ghost use Rattle.std.specs.Prelude.{◌≡◌, ◌<◌, [], ◌∷◌, ◌++◌,
 use std::alloc::{AllocError, Global};
 use std::marker::Model;
 
-/// The greatest length of a `ByteList`.
 const ROOM: usize = 30;
 
 /// A list of at most 30 numbers below 256, stored in its own 31 bytes without an allocation.
@@ -25,7 +24,6 @@ impl Model for ByteList {
 }
 
 impl ByteList {
-    /// Returns the empty list.
     pub fn empty() -> ByteList
         ensures { result ≡ [] }
     {
@@ -35,7 +33,6 @@ impl ByteList {
         }
     }
 
-    /// Returns the numbers as a slice.
     pub fn as_slice(&self) -> &[u8]
         ensures { result.now ≡ self.now }
     {
@@ -67,7 +64,7 @@ impl ByteList {
         }
     }
 
-    /// Returns a `Vec` of this list's numbers followed by `number`, which may be 256 or more.
+    /// Returns a `Vec` of this list's numbers and of `number`, which may be 256 or more.
     pub fn widened(&self, alloc: Global, number: u64) -> Result<Vec<u64>, AllocError>
         ensures { IfOk result (λ longer. longer.items ≡ self.now ++ number ∷ []) }
     {

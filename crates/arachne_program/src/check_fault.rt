@@ -3,11 +3,9 @@ use thiserror::Error;
 
 /// The reason why the checker refused a program.
 ///
-/// Most faults carry the number of the faulty node. Nodes are numbered in the order of the program's text, with 0 for
-/// the root.
+/// Most faults carry the number of the faulty node, counted from 0 in the order of the program's text.
 #[derive(Clone, Copy, Debug, PartialEq, Eq, Error)]
 pub enum CheckFault {
-    /// The expressions are nested more than 64 levels deep.
     #[error("the nesting is too deep")]
     Nesting,
     /// The program has more than 4,096 nodes, 64 arrays, 1,000,000 items in all arrays, 16 ledgers or 16 locks.
@@ -28,8 +26,7 @@ pub enum CheckFault {
     /// The node of this number forks, sweeps or takes a lock inside an expression that is evaluated under a lock.
     #[error("node {0}: a fork, a sweep or a hold within a hold")]
     WithinHold(u64),
-    /// The node of this number is a sweep (a parallel reduction) whose grain (the greatest length that is not halved)
-    /// is 0.
+    /// The node of this number is a sweep (parallel reduction) with the grain (greatest length that is not halved) 0.
     #[error("node {0}: the grain is 0")]
     NoGrain(u64),
 }

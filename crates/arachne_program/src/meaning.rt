@@ -2,8 +2,7 @@
 use crate::name::Name;
 use crate::sequence::Sequence;
 
-/// A thread's line in the report of a run: its name and, for each lock, the number of times that the thread held the
-/// lock, modulo 2^64.
+/// A thread's line in the report of a run: its name, and how often it held each lock, modulo 2^64.
 #[derive(Debug, PartialEq, Eq, Drop)]
 pub struct Line {
     pub name: Name,
@@ -13,10 +12,9 @@ pub struct Line {
 /// The result of evaluating a program.
 #[derive(Debug, PartialEq, Eq, Drop)]
 pub struct Meaning {
-    /// The value of the program's expression.
     pub value: u64,
     /// For each ledger (a shared sum), the total that was added to it, modulo 2^64.
     pub totals: Sequence<u64>,
-    /// One line for each of the program's threads, the root's first.
+    /// A line for each of the program's threads, the root's first.
     pub threads: Sequence<Line>,
 }

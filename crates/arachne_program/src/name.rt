@@ -9,11 +9,9 @@ use crate::word_list::WordList;
 use std::alloc::{AllocError, Global};
 use std::marker::Model;
 
-/// The name of a thread: the path of forks from the root to it. Each fork is given by its number, counted from 0, among
-/// the forks of the thread that made it. The root's name is empty.
+/// The name of a thread: the path of forks from the root to it. Each thread's forks are numbered from 0.
 ///
-/// A name of up to 30 numbers below 256, or up to 6 below 2^32, fits its own 32 bytes. Any other name is stored in a
-/// `Vec`.
+/// A name of up to 30 numbers below 256, or up to 6 below 2^32, is stored without an allocation.
 #[derive(Debug, Drop)]
 pub struct Name {
     forks: Forks,
@@ -25,7 +23,7 @@ const _: () = prove!(size_of::<Name>() == 32);
 #[derive(Debug, Drop)]
 enum Forks {
     Bytes(ByteList),
-    /// A list of numbers of which at least one is 256 or more.
+    /// At most 6 numbers below 2^32, of which at least one is 256 or more, so that it isn't a byte.
     Words(WordList),
     Heap(Vec<u64>),
 }
@@ -43,7 +41,7 @@ impl Model for Name {
 }
 
 impl Name {
-    /// Returns the name of the root thread. Allocates no memory.
+    /// Returns the name of the root thread, which is empty. Allocates no memory.
     pub fn root(_alloc: Global) -> Name
         ensures { result ≡ [] }
     {
@@ -54,7 +52,7 @@ impl Name {
 
     /// Returns the name of this thread's child of number `number`, counted from 0.
     ///
-    /// Allocates only if that name doesn't fit the 32 bytes of a `Name`. Returns `Err` if memory is refused.
+    /// Allocates only if that name doesn't fit the 32 bytes of a `Name`.
     pub fn child(&self, alloc: Global, number: u64) -> Result<Name, AllocError>
         ensures named { IfOk result (λ name. name ≡ self.now ++ number ∷ []) }
         ensures inline { FitsInline (self.now ++ number ∷ []) → IsOk result }
@@ -74,8 +72,7 @@ impl Name {
         }
     }
 
-    /// Returns the numbers in the name of this thread's child of number `number`, or `None` if they don't fit a
-    /// `WordList`.
+    /// Returns the numbers in the name of child `number`, or `None` if they don't fit a `WordList`.
     fn words_with(&self, number: u64) -> Option<WordList>
         ensures { SomeIff result (FitsWords (self.now ++ number ∷ [])) (self.now ++ number ∷ []) }
     {
@@ -86,8 +83,7 @@ impl Name {
         }
     }
 
-    /// Allocates the name of this thread's child of number `number`. That name must fit neither a `ByteList` nor a
-    /// `WordList`.
+    /// Allocates the name of child `number`, which must fit neither a `ByteList` nor a `WordList`.
     #[inline(never)]
     fn long_child(&self, alloc: Global, number: u64) -> Result<Name, AllocError>
         requires bytes { ¬ FitsBytes (self.now ++ number ∷ []) }
@@ -104,7 +100,7 @@ impl Name {
         })
     }
 
-    /// Returns the length of the name, which is the number of forks between the root and the thread.
+    /// Returns the number of forks between the root and the thread.
     pub fn len(&self) -> usize
         ensures { result ≡ length self.now }
     {
@@ -127,8 +123,7 @@ impl Name {
         }
     }
 
-    /// Returns whether this is the name of the child of number `number`, counted from 0, of the thread with the name
-    /// `parent`.
+    /// Returns whether this is the name of child `number`, counted from 0, of the thread with the name `parent`.
     pub fn is_child_of(&self, parent: &Name, number: u64) -> bool
         ensures { IsTrue result ↔ (self.now ≡ parent.now ++ number ∷ []) }
     {
@@ -148,7 +143,6 @@ impl Name {
         }
     }
 
-    /// Returns whether the numbers in the name equal `numbers`.
     fn has_numbers(&self, numbers: &[u64]) -> bool
         ensures { IsTrue result ↔ (self.now ≡ numbers.now) }
     {
@@ -186,7 +180,6 @@ impl Eq for Name {
     ghost laws = { nat_list_eq_equiv };
 }
 
-/// Allocates a list of `numbers` followed by `number`.
 fn with_number(alloc: Global, numbers: &[u64], number: u64) -> Result<Vec<u64>, AllocError>
     ensures { IfOk result (λ longer. longer.items ≡ numbers.now ++ number ∷ []) }
 {

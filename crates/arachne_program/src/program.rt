@@ -26,14 +26,14 @@ pub enum Operation {
     Min,
     Max,
     Xor,
-    /// Yields 1 if the first number is less than the second, else 0.
+    /// Yields 1 if the first number is less than the second, otherwise 0.
     Lt,
-    /// Yields 1 if both numbers are equal, else 0.
+    /// Yields 1 if both numbers are equal, otherwise 0.
     Eq,
 }
 
 impl Operation {
-    /// Returns the result of this operation for the operands `x` and `y`.
+    /// Returns the result for the operands `x` and `y`.
     #[inline(always)]
     pub fn apply(self, x: u64, y: u64) -> u64
         ensures { result ≡ apply self x y }
@@ -54,20 +54,20 @@ impl Operation {
 /// The way in which a sweep (a parallel reduction) combines its values into one.
 #[derive(Clone, Copy, Debug, PartialEq, Eq)]
 pub enum Reduction {
-    /// The sum of the values, modulo 2^64; 0 if there are none.
+    /// The sum of the values, modulo 2^64, or 0 if there are no values.
     Sum,
-    /// The product of the values, modulo 2^64; 1 if there are none.
+    /// The product of the values, modulo 2^64, or 1 if there are no values.
     Product,
-    /// The bitwise exclusive or of the values; 0 if there are none.
+    /// The bitwise exclusive or of the values, or 0 if there are no values.
     Parity,
-    /// The least of the values; 2^64 - 1 if there are none.
+    /// The least of the values, or 2^64 - 1 if there are no values.
     Least,
-    /// The greatest of the values; 0 if there are none.
+    /// The greatest of the values, or 0 if there are no values.
     Greatest,
 }
 
 impl Reduction {
-    /// Returns the operation that combines two values of the sweep.
+    /// Returns the operation that combines two values.
     #[inline(always)]
     pub fn operation(self) -> Operation
         ensures { result ≡ operation_of self }
@@ -81,7 +81,7 @@ impl Reduction {
         }
     }
 
-    /// Returns the neutral element of the operation, which is the value of a sweep over no numbers.
+    /// Returns the result of reducing no values.
     #[inline(always)]
     pub fn unit(self) -> u64
         ensures { result ≡ unit_of self }
@@ -94,46 +94,37 @@ impl Reduction {
     }
 }
 
-/// An expression of the task language.
 #[derive(Debug, Drop)]
 pub enum Expr {
-    /// A constant.
     Num(u64),
     /// A variable. The number is its index among the bound variables, with the oldest at 0.
     Var(u64),
-    /// The number of items of an array. The field is the number of the array.
+    /// The number of items of the array of this number.
     Len(u64),
-    /// An item of an array. Fields: the number of the array, and the expression of the index, counted from 0. The value
-    /// is 0 if there is no such item.
+    /// The item at the index that the expression yields, in the array of this number, or 0 if there is no such item.
     Item(u64, Box<Expr>),
-    /// A binary operation on the values of two expressions.
     Binary(Operation, Box<Expr>, Box<Expr>),
-    /// A conditional: the second expression if the first yields a value other than 0, else the third. The other of the
-    /// two is not evaluated.
+    /// A conditional: the second expression if the first yields a value other than 0, otherwise the third.
     If(Box<Expr>, Box<Expr>, Box<Expr>),
-    /// A binding: the value of the first expression becomes the newest variable in the second, whose value is the
-    /// result.
+    /// The value of the second expression, in which the newest variable has the value of the first.
     Let(Box<Expr>, Box<Expr>),
-    /// Adds the value of the first expression to the ledger (a shared sum) of this number. The value is that of the
-    /// second expression.
+    /// Adds the first expression's value to the ledger (shared sum) of this number. The result is the second's value.
     Tally(u64, Box<Expr>, Box<Expr>),
     /// Evaluates the expression while the thread holds the lock of this number.
     Hold(u64, Box<Expr>),
-    /// A fork. The child thread evaluates the first expression, while this thread evaluates the second. After the join,
-    /// this thread evaluates the third, in which the two newest variables are the child's value and then the second
-    /// expression's.
+    /// A fork. The child thread evaluates the first expression, while the parent evaluates the second. After the join,
+    /// the parent evaluates the third, in which the two newest variables are the values of the first two.
     Fork(Class, Box<Expr>, Box<Expr>, Box<Expr>),
-    /// A sequential loop. The first two expressions yield the range: the lower end, and the upper end, which is
-    /// excluded. The third yields the initial value. The fourth is the body, in which the two newest variables are the
-    /// current number and then the value so far, at first the initial value.
+    /// A sequential loop over the range from the first value to the second, which is excluded. The third expression is
+    /// the initial value. In the body, the fourth, the newest variables are the current number and the value so far.
     Fold(Box<Expr>, Box<Expr>, Box<Expr>, Box<Expr>),
-    /// A reduction over a range. The number is the grain; the expressions are the lower end, the upper end, which is
-    /// excluded, and the body, in which the newest variable is the current number. A range that is longer than the
-    /// grain is halved, and a child thread reduces the left half.
+    /// A reduction over the range from the first value to the second, which is excluded. The last expression is the
+    /// body, in which the newest variable is the current number. A range longer than the second field, the *grain*, is
+    /// halved, and a child thread reduces the left half.
     Sweep(Reduction, u64, Box<Expr>, Box<Expr>, Box<Expr>),
 }
 
-/// A program: its read-only arrays, how many ledgers and locks it has, and its main expression.
+/// A program: its read-only arrays, its numbers of ledgers (shared sums) and locks, and its main expression.
 #[derive(Debug, Drop)]
 pub struct Program {
     pub arrays: Vec<Vec<u64>>,
@@ -143,7 +134,6 @@ pub struct Program {
 }
 
 impl Expr {
-    /// Returns whether `self` and `other` are equal expressions. Stops at the first difference.
     fn is_same(&self, other: &Expr) -> bool
         ensures { IsTrue result ↔ (tree_of self.now ≡ tree_of other.now) }
     {
@@ -198,7 +188,6 @@ fn are_same_arrays(some: &[Vec<u64>], others: &[Vec<u64>]) -> bool
 }
 
 impl Program {
-    /// Returns whether `self` and `other` are equal programs. Stops at the first difference.
     fn is_same(&self, other: &Program) -> bool
         ensures { IsTrue result ↔ (source_of self.now ≡ source_of other.now) }
     {

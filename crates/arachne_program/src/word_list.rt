@@ -4,10 +4,9 @@ ghost use Rattle.std.specs.Prelude.{◌≡◌, ◌<◌, ◌≤◌, ◌^◌, [], 
 use std::alloc::{AllocError, Global};
 use std::marker::Model;
 
-/// The greatest length of a `WordList`.
 const ROOM: usize = 6;
 
-/// The least number that is too large for a `WordList`.
+/// 2^32, the least number that a `WordList` can't store.
 const TOO_LARGE: u64 = 1 << 32;
 
 /// A list of at most 6 numbers below 2^32, stored in its own 28 bytes without an allocation.
@@ -28,7 +27,6 @@ impl Model for WordList {
 }
 
 impl WordList {
-    /// Returns the empty list.
     pub fn empty() -> WordList
         ensures { result ≡ [] }
     {
@@ -49,7 +47,6 @@ impl WordList {
         Some(list)
     }
 
-    /// Returns the numbers as a slice.
     pub fn as_slice(&self) -> &[u32]
         ensures { result.now ≡ self.now }
     {
@@ -82,7 +79,7 @@ impl WordList {
         }
     }
 
-    /// Returns a `Vec` of this list's numbers followed by `number`, which may be 2^32 or more.
+    /// Returns a `Vec` of this list's numbers and of `number`, which may be 2^32 or more.
     pub fn widened(&self, alloc: Global, number: u64) -> Result<Vec<u64>, AllocError>
         ensures { IfOk result (λ longer. longer.items ≡ self.now ++ number ∷ []) }
     {

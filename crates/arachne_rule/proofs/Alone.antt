@@ -1,34 +1,21 @@
 -- A claim of a whole core, whose word is 0.
-use Rattle.std.proofs.Common.{◌≡◌, ℕ, ◌+◌, ◌<◌, ◌^◌, Bool, true, false, ◌&&◌, List, ◌∷◌, refl, sym, ap, ◌∙◌, subst, arith, inl, inr, set, get_or, get_or-set_other, []}
-use Rattle.std.proofs.lemmas.List.{get_or-set_same}
+use Rattle.std.proofs.Common.{◌≡◌, ℕ, ◌+◌, ◌<◌, ◌^◌, Bool, true, false, ◌&&◌, List, ◌∷◌, refl, sym, ap, ◌∙◌, subst, arith, inl, inr, set, get_or, get_or-set_other, [], get_or-set_same}
 use Rattle.std.proofs.lemmas.Bool.{true≢false, cases_eq}
 use mathlib.Core.Option as opt
 use lib.ListN.{get_elem?}
-use Rattle.arachne_core.specs.declared.layout.TheConstants.{MASK_BITS}
-use Rattle.arachne_core.specs.declared.place.Place.{Place}
-use Rattle.arachne_core.specs.declared.state.State.{State}
-use Rattle.arachne_core.specs.declared.state.State.TheVariants.{Free, Claimed}
-use Rattle.arachne_core.specs.declared.event.Event.TheVariants as event
-use Rattle.arachne_core.specs.Occupancy.{Occupancy, occupancy_of, HasOneMore}
-use Rattle.arachne_core.specs.Marked.{Marked, mark_word}
-use Rattle.arachne_core.specs.World.{World, IsContext, core_of, with_at, with_place, Allowed, after}
-use Rattle.arachne_core.specs.ContextTable.{mark_of, is_live_state, marked}
+use Rattle.arachne_core.specs.declared.{layout.TheConstants.MASK_BITS, place.Place.Place, state.State.State}
+use Rattle.arachne_core.specs.{declared.state.State.TheVariants.{Free, Claimed}, Marked.{Marked, mark_word}}
+use Rattle.arachne_core.specs.Occupancy.{Occupancy, occupancy_of, HasOneMore, vacant}
+use Rattle.arachne_core.specs.World.{World, IsContext, core_of, with_at, with_place, Allowed, after, IsEmptyCore}
+use Rattle.arachne_core.{specs.ContextTable.{mark_of, is_live_state, marked}, proofs.KeepsOwnedOnce.keeps_owned_once}
 use Rattle.arachne_core.proofs.Changes.{with_at-same, with_at-other, with_place-same, with_place-other}
-use Rattle.arachne_core.proofs.KeepsOwnedOnce.{keeps_owned_once}
-use Rattle.arachne_core.proofs.OccupancyWords.{length-flags}
+use Rattle.arachne_core.proofs.OccupancyWords.{length-flags, has_one_more, now_exclusive, packs_vacant, vacant-flag, vacant-open}
+use Rattle.arachne_core.specs.declared.event.Event.TheVariants as event
 use Rattle.arachne_weights.specs.Tokens.{held}
-use Rattle.arachne_rule.specs.declared.view.Carried.{Carried}
-use Rattle.arachne_rule.specs.declared.view.Known.{Known}
-use Rattle.arachne_rule.specs.Views.{with_context}
+use Rattle.arachne_rule.specs.{declared.view.{Carried.Carried, Known.Known}, Views.with_context}
 use Rattle.arachne_rule.specs.Rule.{Coherent, carried_if, carried_of, HasValue, Board, Phase, ShowsWord, Shows}
-use Rattle.arachne_rule.specs.Changes.{alone_context}
-use Rattle.arachne_rule.proofs.Carrying.{with-at, with-else}
-use Rattle.arachne_rule.proofs.Marking.{mine-claimed, not-claimed}
-use Rattle.arachne_rule.proofs.Occupying.{occupying}
-use Rattle.arachne_core.specs.Occupancy.{vacant}
-use Rattle.arachne_core.specs.World.{IsEmptyCore}
-use Rattle.arachne_core.proofs.OccupancyWords.{has_one_more, now_exclusive, packs_vacant, vacant-flag, vacant-open}
-use Rattle.arachne_rule.proofs.Claim.{free-if-vacant}
+use Rattle.arachne_rule.{specs.Changes.alone_context, proofs.Carrying.{with-at, with-else}}
+use Rattle.arachne_rule.proofs.{Marking.{mine-claimed, not-claimed}, Occupying.occupying, Claim.free-if-vacant}
 
 module _ {T : Type 0} (tag_in : T → ℕ) (bits : ℕ) (w : World) (d : ℕ → Phase) (b : Board T) (s : Shows tag_in bits w d b)
     (h weight : ℕ) (k : Known) (mine : get_elem? b.views h ≡ opt.some (held weight k)) where

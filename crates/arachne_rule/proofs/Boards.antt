@@ -1,25 +1,16 @@
 -- Words that change, and what the table shows after that.
-use Rattle.std.proofs.Common.{◌≡◌, ℕ, ◌*◌, ◌<◌, ◌≤◌, List, length, refl, sym, ap, ◌∙◌, subst, arith, inl, inr, set, get_or, get_or-set_other, Option}
-use Rattle.std.proofs.lemmas.List.{get_or-set_same}
+use Rattle.std.proofs.Common.{◌≡◌, ℕ, ◌*◌, ◌<◌, ◌≤◌, List, length, refl, sym, ap, ◌∙◌, subst, arith, inl, inr, set, get_or, get_or-set_other, Option, get_or-set_same}
 use Rattle.std.proofs.lemmas.Bool.{cases_eq}
 use mathlib.Core.Option as opt
 use lib.ListN.{get_elem?}
-use Rattle.atomic_table.specs.Table.{Act, keeps, stepped, homes_after}
-use Rattle.atomic_table.proofs.Lists.{set_here, set_else}
-use Rattle.arachne_core.specs.declared.layout.TheConstants.{SLOTS}
-use Rattle.arachne_core.specs.declared.place.Place.{Place}
-use Rattle.arachne_core.specs.World.{World, IsContext, IsPlace, with_at}
-use Rattle.arachne_core.proofs.Changes.{with_at-same, with_at-other, cases_place}
-use Rattle.arachne_weights.specs.declared.token.Token.{Token}
-use Rattle.arachne_weights.specs.Tokens.{IsReachable}
-use Rattle.arachne_rule.specs.declared.view.Known.{Known}
-use Rattle.arachne_rule.specs.declared.view.Shape.{Shape}
-use Rattle.arachne_rule.specs.Views.{blank, known_at, carried_at, given_in, ended_in}
-use Rattle.arachne_rule.specs.Rule.{HasValue, Board, Phase, ShowsWord, Shows}
-use Rattle.arachne_rule.specs.Changes.{with_name}
+use Rattle.atomic_table.{specs.Table.{Act, keeps, stepped, homes_after}, proofs.Lists.{set_here, set_else}}
+use Rattle.arachne_core.{proofs.Changes.{with_at-same, with_at-other, cases_place}, specs.declared.place.Place.Place}
+use Rattle.arachne_core.specs.{World.{World, IsContext, IsPlace, with_at}, declared.layout.TheConstants.SLOTS}
+use Rattle.arachne_weights.specs.{declared.token.Token.Token, Tokens.IsReachable}
+use Rattle.arachne_rule.{proofs.Naming.{with_name-same, with_name-other}, specs.{Changes.with_name, Table.Table}}
 use Rattle.arachne_rule.specs.Layout.{contexts_in, occ_index, name_index, words_in, board_of}
-use Rattle.arachne_rule.specs.Table.{Table}
-use Rattle.arachne_rule.proofs.Naming.{with_name-same, with_name-other}
+use Rattle.arachne_rule.specs.{Rule.{HasValue, Board, Phase, ShowsWord, Shows}, declared.view.Known.Known}
+use Rattle.arachne_rule.specs.{Views.{blank, known_at, carried_at, given_in, ended_in}, declared.view.Shape.Shape}
 
 -- a table of this shape has the place
 abbrev pub IsIn : Shape → Place → Type 0

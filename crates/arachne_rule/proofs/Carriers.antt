@@ -1,18 +1,12 @@
 -- No context and no place belongs to two seats.
-use Rattle.std.proofs.Common.{◌≡◌, ℕ, [], ◌∷◌, sym, ap, ◌∙◌, inl, inr, refl}
-use Rattle.std.proofs.lemmas.Bool.{cases_eq}
+use Rattle.std.proofs.{Common.{◌≡◌, ℕ, [], ◌∷◌, sym, ap, ◌∙◌, inl, inr, refl}, lemmas.Bool.cases_eq}
 use mathlib.Core.Option.{some}
 use lib.ListN.{get_elem?}
 use Rattle.arachne_core.specs.World.{World, IsContext}
 use Rattle.arachne_weights.specs.Tokens.{held}
-use Rattle.arachne_rule.specs.declared.view.Carried.{Carried}
-use Rattle.arachne_rule.specs.declared.view.Known.{Known}
-use Rattle.arachne_rule.specs.Views.{carried_at}
-use Rattle.arachne_rule.specs.Rule.{carried_of, Board, Phase, Shows}
-use Rattle.arachne_rule.specs.Plays.{Carries}
-use Rattle.arachne_rule.proofs.Shares.{my-share}
-use Rattle.arachne_rule.proofs.Marking.{no-carried}
-use Rattle.arachne_rule.proofs.Slots.{carried-says, carried-alone}
+use Rattle.arachne_rule.specs.{declared.view.Carried.Carried, declared.view.Known.Known, Views.carried_at}
+use Rattle.arachne_rule.specs.{Rule.{carried_of, Board, Phase, Shows}, Plays.Carries}
+use Rattle.arachne_rule.proofs.{Shares.my-share, Slots.{carried-says, carried-alone}}
 
 module _ {T : Type 0} (tag_in : T → ℕ) (bits : ℕ) (w : World) (d : ℕ → Phase) (b : Board T) (s : Shows tag_in bits w d b)
     (h weight : ℕ) (k : Known) (mine : get_elem? b.views h ≡ some (held weight k))
@@ -24,7 +18,7 @@ module _ {T : Type 0} (tag_in : T → ℕ) (bits : ℕ) (w : World) (d : ℕ →
         let first = my-share tag_in bits w d b s h weight k mine x c x_in got in
         let second = my-share tag_in bits w d b s j added o theirs x f x_in also in
         let none = carried-alone (w.state x) j h (carried_of w d x) (carried_of w d x) f second n in
-        absurd (no-carried c (sym first ∙ none))
+        cc (sym first ∙ none)
   ]
 
   -- what two seats carry at one place is one context, and they are one seat

@@ -1,12 +1,10 @@
 -- Lists of carried contexts, and views of which one is changed.
 use Rattle.std.proofs.Common.{◌≡◌, ℕ, zero, suc, ◌+◌, cond, eqb, List, ◌∷◌, length, set, get_or, refl, sym, ap, ◌∙◌, arith, inl, inr, []}
-use Rattle.std.proofs.lemmas.Bool.{eq-eqb, ne_eqb, cases_eq, cond-true, cond-false}
+use Rattle.std.proofs.lemmas.{List.get_or-set_other, Bool.{eq-eqb, ne_eqb, cases_eq, cond-true, cond-false}}
 use mathlib.Core.Option.{some, some-injective, some-ne-none}
 use lib.ListN.{get_elem?}
-use Rattle.arachne_weights.specs.declared.token.Token.{Token}
-use Rattle.arachne_weights.specs.Tokens.{spent}
-use Rattle.arachne_rule.specs.declared.view.Carried.{Carried}
-use Rattle.arachne_rule.specs.declared.view.Known.{Known}
+use Rattle.arachne_weights.specs.{declared.token.Token.Token, Tokens.spent}
+use Rattle.arachne_rule.specs.declared.view.{Carried.Carried, Known.Known}
 use Rattle.arachne_rule.specs.Views.{blank, known_at, carried_at, without, with_carried}
 
 pub without-at : (x : ℕ) (gs : List Carried) → carried_at x (without x gs) ≡ []
@@ -55,13 +53,6 @@ get_or-set-there [] h v u d e = absurd (some-ne-none v (sym e))
 get_or-set-there (x ∷ xs) zero v u d e = refl
 get_or-set-there (x ∷ xs) (suc h) v u d e = get_or-set-there xs h v u d e
 
-get_or-set-else : {A : Type 0} (xs : List A) (h k : ℕ) (u d : A) → (k ≡ h → ⊥) → get_or (set xs h u) k d ≡ get_or xs k d
-get_or-set-else [] h k u d n = refl
-get_or-set-else (x ∷ xs) zero zero u d n = absurd (n refl)
-get_or-set-else (x ∷ xs) zero (suc k) u d n = refl
-get_or-set-else (x ∷ xs) (suc h) zero u d n = refl
-get_or-set-else (x ∷ xs) (suc h) (suc k) u d n = get_or-set-else xs h k u d (λ e. n (ap suc e))
-
 pub known-there : (vs : List (Token Known)) (h : ℕ) (v : Token Known) → get_elem? vs h ≡ some v → known_at vs h ≡ v.known
 known-there vs h v e = ap (λ (t : Token Known). t.known) (get_or-there vs h v (spent blank) e)
 
@@ -69,4 +60,4 @@ pub known-set : (vs : List (Token Known)) (h : ℕ) (v u : Token Known) → get_
 known-set vs h v u e = ap (λ (t : Token Known). t.known) (get_or-set-there vs h v u (spent blank) e)
 
 pub known-else : (vs : List (Token Known)) (h k : ℕ) (u : Token Known) → (k ≡ h → ⊥) → known_at (set vs h u) k ≡ known_at vs k
-known-else vs h k u n = ap (λ (t : Token Known). t.known) (get_or-set-else vs h k u (spent blank) n)
+known-else vs h k u n = ap (λ (t : Token Known). t.known) (get_or-set_other vs h k u (spent blank) n)

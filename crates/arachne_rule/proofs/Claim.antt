@@ -1,36 +1,22 @@
 -- A claim.
-use Rattle.std.proofs.Common.{◌≡◌, ℕ, ◌+◌, ◌^◌, true, false, ◌&&◌, ◌∷◌, refl, sym, ap, ◌∙◌, subst, arith, set, get_or, []}
-use Rattle.std.proofs.lemmas.Bool.{true≢false}
+use Rattle.std.proofs.Common.{◌≡◌, ℕ, ◌+◌, ◌^◌, true, false, ◌&&◌, ◌∷◌, refl, sym, ap, ◌∙◌, subst, arith, set, get_or, [], true≢false}
 use mathlib.Core.Option as opt
 use lib.ListN.{get_elem?}
-use Rattle.arachne_core.specs.declared.layout.TheConstants.{MASK_BITS}
-use Rattle.arachne_core.specs.declared.place.Place.{Place}
-use Rattle.arachne_core.specs.declared.state.State.{State}
-use Rattle.arachne_core.specs.declared.state.State.TheVariants.{Free, Claimed, Ready, Blocked, Held, Spent}
-use Rattle.arachne_core.specs.declared.event.Event.TheVariants as event
-use Rattle.arachne_core.specs.Occupancy.{occupancy_of}
-use Rattle.arachne_core.specs.Marked.{Marked, mark_word}
+use Rattle.arachne_core.specs.declared.{layout.TheConstants.MASK_BITS, place.Place.Place, state.State.State}
+use Rattle.arachne_core.specs.{declared.state.State.TheVariants.{Free, Claimed}, Occupancy.occupancy_of}
+use Rattle.arachne_core.specs.{Marked.{Marked, mark_word}, ContextTable.{mark_of, is_live_state, marked}}
 use Rattle.arachne_core.specs.World.{World, IsContext, IsPlace, core_of, with_at, Allowed, after}
-use Rattle.arachne_core.specs.ContextTable.{mark_of, is_live_state, marked}
-use Rattle.arachne_core.proofs.Changes.{with_at-same, with_at-other}
-use Rattle.arachne_core.proofs.KeepsOwnedOnce.{keeps_owned_once}
+use Rattle.arachne_core.proofs.{Changes.{with_at-same, with_at-other}, KeepsOwnedOnce.keeps_owned_once}
+use Rattle.arachne_core.specs.declared.event.Event.TheVariants as event
 use Rattle.arachne_weights.specs.Tokens.{held}
-use Rattle.arachne_rule.specs.declared.view.Carried.{Carried}
-use Rattle.arachne_rule.specs.declared.view.Known.{Known}
-use Rattle.arachne_rule.specs.Views.{with_context}
+use Rattle.arachne_rule.specs.{declared.view.{Carried.Carried, Known.Known}, Views.with_context}
 use Rattle.arachne_rule.specs.Rule.{Coherent, carried_if, carried_of, HasValue, Board, Phase, ShowsWord, Shows}
-use Rattle.arachne_rule.specs.Changes.{claimed_context}
-use Rattle.arachne_rule.proofs.Carrying.{with-at, with-else}
-use Rattle.arachne_rule.proofs.Marking.{mine-claimed, not-claimed}
-use Rattle.arachne_rule.proofs.Occupying.{occupying, one-more-shows}
+use Rattle.arachne_rule.{specs.Changes.claimed_context, proofs.Carrying.{with-at, with-else}}
+use Rattle.arachne_rule.proofs.{Marking.{mine-claimed, not-claimed}, Occupying.{occupying, one-more-shows}}
 
 pub free-if-vacant : (s : State) → ((s ≡ Free → ⊥) → ⊥) → s ≡ Free
 free-if-vacant Free n = refl
-free-if-vacant (Claimed h) n = absurd (n (λ e. cc))
-free-if-vacant (Ready t) n = absurd (n (λ e. cc))
-free-if-vacant (Blocked t) n = absurd (n (λ e. cc))
-free-if-vacant (Held h w t) n = absurd (n (λ e. cc))
-free-if-vacant Spent n = absurd (n (λ e. cc))
+free-if-vacant _ n = absurd (n (λ e. cc))
 
 module _ {T : Type 0} (tag_in : T → ℕ) (bits : ℕ) (w : World) (d : ℕ → Phase) (b : Board T) (s : Shows tag_in bits w d b)
     (h weight : ℕ) (k : Known) (mine : get_elem? b.views h ≡ opt.some (held weight k)) where

@@ -1,38 +1,23 @@
 -- The conditions of the table for a claim, a claim of a whole core, and a release.
-use Rattle.std.proofs.Common.{◌≡◌, ℕ, zero, suc, ◌+◌, ◌-◌, ◌*◌, ◌%◌, ◌<◌, ◌≤◌, ◌^◌, Bool, true, false, if◌then◌else◌, List, length, refl, sym, ap, ◌∙◌, subst, arith, inl, inr, set, get_or, Option, eqb}
-use Rattle.std.proofs.lemmas.Bool.{cases_order}
-use Rattle.std.proofs.lemmas.Nat.{pow_pos}
-use Rattle.std.proofs.Math.Nat.{pow-suc}
+use Rattle.std.proofs.Common.{◌≡◌, ℕ, zero, suc, ◌+◌, ◌-◌, ◌*◌, ◌%◌, ◌<◌, ◌≤◌, ◌^◌, Bool, true, false, if◌then◌else◌, List, length, refl, sym, ap, ◌∙◌, subst, arith, inl, inr, set, get_or, Option, eqb, pow_pos}
+use Rattle.std.proofs.{lemmas.Bool.cases_order, Math.Nat.pow-suc}
 use mathlib.Core.Option.{none}
 use prog.Atomic.{either}
-use Rattle.atomic_table.specs.Table.{Act, keeps, step, stepped, Allows, Valid, carried_after}
-use Rattle.atomic_table.proofs.Lists.{exchanged}
-use Rattle.arachne_core.specs.declared.layout.TheConstants.{MASK_BITS}
-use Rattle.arachne_core.specs.declared.place.Place.{Place}
-use Rattle.arachne_core.specs.declared.event.Event.TheVariants as event
+use Rattle.atomic_table.{specs.Table.{Act, keeps, step, stepped, Allows, Valid, carried_after}, proofs.Lists.exchanged}
+use Rattle.arachne_core.specs.declared.{layout.TheConstants.MASK_BITS, place.Place.Place}
 use Rattle.arachne_core.specs.Occupancy.{Occupancy, occupancy_of, occupancy_word, IsOccupancyWord}
 use Rattle.arachne_core.proofs.OccupancyWords.{one_more, length-flags, occupancy_word-of}
 use Rattle.arachne_core.specs.World.{World, IsContext, IsPlace, with_at, after, core_of}
-use Rattle.arachne_weights.specs.declared.token.Token.{Token}
-use Rattle.arachne_weights.specs.Tokens.{held}
-use Rattle.arachne_rule.specs.declared.view.Carried.{Carried}
-use Rattle.arachne_rule.specs.declared.view.Known.{Known}
-use Rattle.arachne_rule.specs.declared.view.Shape.{Shape}
+use Rattle.arachne_core.specs.declared.event.Event.TheVariants as event
+use Rattle.arachne_weights.specs.{declared.token.Token.Token, Tokens.held}
+use Rattle.arachne_rule.specs.{declared.view.{Carried.Carried, Known.Known, Shape.Shape}, Table.{Mine, Holds}}
+use Rattle.arachne_rule.specs.{Views.{with_context, without_context, noted}, Rule.{carried_of, Board, Shows}}
+use Rattle.arachne_rule.{specs.Changes.{claimed_context, alone_context, index_sum, release_sum}, proofs.Shares.my-share}
+use Rattle.arachne_rule.{specs.Layout.{contexts_in, occ_index, board_of}, proofs.{Marking.claimed-carried, Claim.claim}}
+use Rattle.arachne_rule.{specs.Plays.{Carries, IsLive, Claims, ClaimsAlone, Releases}, proofs.Slots.carried-says}
+use Rattle.arachne_rule.proofs.{Alone.claim_alone, Release.{release, less_by, wraps, holds-index, holds-flag, not-free}}
+use Rattle.arachne_rule.proofs.{Stepping.{sees, core-made, for-seat}, OwnWords.{same-at-place, not-mine, free-nobody}}
 use Rattle.arachne_rule.specs.declared.view.Kind.TheVariants as kind
-use Rattle.arachne_rule.specs.Views.{with_context, without_context, noted}
-use Rattle.arachne_rule.specs.Rule.{carried_of, Board, Shows}
-use Rattle.arachne_rule.specs.Changes.{claimed_context, alone_context, index_sum, release_sum}
-use Rattle.arachne_rule.specs.Layout.{contexts_in, occ_index, board_of}
-use Rattle.arachne_rule.specs.Table.{Mine, Holds}
-use Rattle.arachne_rule.specs.Plays.{Carries, IsLive, Claims, ClaimsAlone, Releases}
-use Rattle.arachne_rule.proofs.Shares.{my-share}
-use Rattle.arachne_rule.proofs.Marking.{claimed-carried}
-use Rattle.arachne_rule.proofs.Slots.{carried-says}
-use Rattle.arachne_rule.proofs.Claim.{claim}
-use Rattle.arachne_rule.proofs.Alone.{claim_alone}
-use Rattle.arachne_rule.proofs.Release.{release, less_by, wraps, holds-index, holds-flag, not-free}
-use Rattle.arachne_rule.proofs.Stepping.{sees, core-made, for-seat}
-use Rattle.arachne_rule.proofs.OwnWords.{same-at-place, not-mine, free-nobody}
 
 pow-lt : (i j : ℕ) → 2 ^ i < 2 ^ (i + suc j)
 pow-lt i zero = let a : 2 ^ (i + 1) ≡ 2 ^ suc i = ap (λ (n : ℕ). 2 ^ n) (omega arith) in omega (arith, a, pow-suc 2 i, pow_pos i)

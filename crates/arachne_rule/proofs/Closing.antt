@@ -2,13 +2,9 @@
 use Rattle.std.proofs.Common.{◌≡◌, ℕ, ◌-◌, ◌<◌, ◌^◌, Bool, true, false, sym, ap, ◌∙◌, subst, inl, inr, get_or, bit_or, bit_and}
 use Rattle.std.proofs.lemmas.Bool.{cases_eq}
 use Rattle.arachne_core.specs.declared.event.Event.TheVariants as event
-use Rattle.arachne_core.specs.ContextTable.{IsVacantFrom}
-use Rattle.arachne_core.specs.Occupancy.{Occupancy, occupancy_of, IsOccupancyWord}
-use Rattle.arachne_core.specs.World.{World, with_at, Allowed, after}
-use Rattle.arachne_core.specs.OwnedOnce.{OwnedOnce}
-use Rattle.arachne_core.specs.Run.{IsDrained}
-use Rattle.arachne_core.proofs.Changes.{with_at-same, with_at-other}
-use Rattle.arachne_core.proofs.KeepsOwnedOnce.{keeps_owned_once}
+use Rattle.arachne_core.specs.{ContextTable.IsVacantFrom, Occupancy.{Occupancy, occupancy_of, IsOccupancyWord}}
+use Rattle.arachne_core.specs.{World.{World, with_at, Allowed, after}, OwnedOnce.OwnedOnce, Run.IsDrained}
+use Rattle.arachne_core.proofs.{Changes.{with_at-same, with_at-other}, KeepsOwnedOnce.keeps_owned_once}
 use Rattle.arachne_core.proofs.OccupancyWords.{closing, opening}
 use Rattle.arachne_rule.specs.Rule.{is_closed, HasNoOccupied, Board, Phase, ShowsWord, Shows}
 

@@ -5,17 +5,10 @@ use Rattle.atomic_table.specs.Table.{keeps, step, Allows}
 use Rattle.arachne_core.specs.declared.event.Event.TheVariants as event
 use Rattle.arachne_core.specs.World.{World, after, with_at}
 use Rattle.arachne_weights.specs.Tokens.{held}
-use Rattle.arachne_rule.specs.declared.view.Known.{Known}
-use Rattle.arachne_rule.specs.declared.view.Shape.{Shape}
+use Rattle.arachne_rule.proofs.{Closing.{close_core, open_core}, Noted.noted_board, Stepping.{core-made, for-seat}}
+use Rattle.arachne_rule.specs.{Layout.{contexts_in, occ_index, board_of}, Plays.{IsLive, Closes, Opens}, Views.noted}
+use Rattle.arachne_rule.specs.{Rule.{Board, Shows}, Table.{Mine, Holds}, declared.view.{Known.Known, Shape.Shape}}
 use Rattle.arachne_rule.specs.declared.view.Kind.TheVariants as kind
-use Rattle.arachne_rule.specs.Views.{noted}
-use Rattle.arachne_rule.specs.Rule.{Board, Shows}
-use Rattle.arachne_rule.specs.Layout.{contexts_in, occ_index, board_of}
-use Rattle.arachne_rule.specs.Table.{Mine, Holds}
-use Rattle.arachne_rule.specs.Plays.{IsLive, Closes, Opens}
-use Rattle.arachne_rule.proofs.Closing.{close_core, open_core}
-use Rattle.arachne_rule.proofs.Noted.{noted_board}
-use Rattle.arachne_rule.proofs.Stepping.{core-made, for-seat}
 
 module _ {T : Type 0} (tag_in : T → ℕ) (bits : ℕ) (shape : Shape) where
   abbrev n : ℕ

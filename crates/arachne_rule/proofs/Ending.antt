@@ -1,32 +1,19 @@
 -- The table at the end: the knowledge of a whole seat that carries nothing.
-use Rattle.std.proofs.Common.{◌≡◌, ℕ, zero, suc, ◌+◌, ◌*◌, ◌<◌, ◌≤◌, Bool, true, false, cond, eqb, List, [], ◌∷◌, length, refl, sym, ap, ◌∙◌, arith, inl, inr, get_or}
-use Rattle.std.specs.Prelude.{count_by}
+use Rattle.std.proofs.Common.{◌≡◌, ℕ, zero, suc, ◌+◌, ◌*◌, ◌<◌, ◌≤◌, Bool, true, false, cond, eqb, List, [], ◌∷◌, length, refl, sym, ap, ◌∙◌, arith, inl, inr, get_or, count_by, Option, None, Some, ◌&&◌}
 use Rattle.std.proofs.lemmas.Bool.{cases_eq, cond-true, cond-false, eq-eqb, ne_eqb, and_left, and_right, lt-ltb, le-ltb, cases_lt}
+use Rattle.std.{proofs.lemmas.List.get_or_past, specs.declared.option.Option.TheVariants.{None, Some}}
 use mathlib.Core.Option as opt
-use Rattle.std.proofs.Common.{Option, None, Some, ◌&&◌}
 use lib.ListN.{get_elem?}
-use Rattle.std.specs.declared.option.Option.TheVariants.{None, Some}
-use Rattle.arachne_core.specs.declared.place.Place.{Place}
-use Rattle.arachne_core.specs.declared.state.State.{State}
-use Rattle.arachne_core.specs.declared.state.State.TheVariants.{Free, Claimed, Ready, Blocked, Held, Spent}
-use Rattle.arachne_core.specs.Marked.{Marked, marked_of}
-use Rattle.arachne_core.specs.World.{World, Thread, IsContext, same_thread}
-use Rattle.arachne_core.specs.OwnedOnce.{is_live, has_thread}
-use Rattle.arachne_weights.specs.declared.token.Token.{Token}
-use Rattle.arachne_weights.specs.Weight.{whole}
-use Rattle.arachne_weights.specs.Tokens.{held, spent}
+use Rattle.arachne_core.specs.{Marked.{Marked, marked_of}, OwnedOnce.{is_live, has_thread}}
+use Rattle.arachne_core.specs.{World.{World, Thread, IsContext, same_thread}, declared.place.Place.Place}
+use Rattle.arachne_core.specs.declared.state.State.{State, TheVariants.{Free, Claimed, Ready, Blocked, Held, Spent}}
+use Rattle.arachne_weights.specs.{declared.token.Token.Token, Weight.whole, Tokens.{held, spent}}
 use Rattle.arachne_weights.proofs.Tokens.{whole-alone, whole-total}
-use Rattle.arachne_rule.specs.declared.view.Carried.{Carried}
-use Rattle.arachne_rule.specs.declared.view.Known.{Known}
-use Rattle.arachne_rule.specs.declared.view.Shape.{Shape}
-use Rattle.arachne_rule.specs.Views.{blank, known_at, carried_at}
+use Rattle.arachne_rule.proofs.{Carrying.known-there, Seen.seen, Views.more-threads}
+use Rattle.arachne_rule.specs.{Ending.{left_from, threads_of, IsSettled}, Layout.{contexts_in, board_of}}
 use Rattle.arachne_rule.specs.Rule.{Coherent, carried_if, carried_of, HasValue, Board, Phase, Shows}
-use Rattle.arachne_rule.specs.Layout.{contexts_in, board_of}
-use Rattle.arachne_rule.specs.Table.{Table, Holds}
-use Rattle.arachne_rule.specs.Ending.{left_from, threads_of, IsSettled}
-use Rattle.arachne_rule.proofs.Carrying.{known-there}
-use Rattle.arachne_rule.proofs.Views.{more-threads}
-use Rattle.arachne_rule.proofs.Seen.{seen}
+use Rattle.arachne_rule.specs.{Table.{Table, Holds}, Views.{blank, known_at, carried_at}, declared.view.Carried.Carried}
+use Rattle.arachne_rule.specs.declared.view.{Known.Known, Shape.Shape}
 
 -- no seat claims or holds the context
 abbrev pub IsLeft : State → Type 0
@@ -37,10 +24,7 @@ IsLeft s = Unit {0}
 left : (s : State) (f : Bool → ℕ → Carried) → ((h : ℕ) → carried_if s h f ≡ []) → IsLeft s
 left (Claimed k) f none = absurd (let e : f false 0 ∷ [] ≡ [] = sym (cond-true (eqb k k) (f false 0 ∷ []) [] (eq-eqb k k refl)) ∙ none k in let bad : ⊥ = cc in bad)
 left (Held k w t) f none = absurd (let e : f true t ∷ [] ≡ [] = sym (cond-true (eqb k k) (f true t ∷ []) [] (eq-eqb k k refl)) ∙ none k in let bad : ⊥ = cc in bad)
-left Free f none = tt
-left (Ready t) f none = tt
-left (Blocked t) f none = tt
-left Spent f none = tt
+left _ f none = tt
 
 -- the tag of the value in a slot
 abbrev has_tag : {T : Type 0} → (T → ℕ) → Option T → ℕ → Bool
@@ -114,17 +98,9 @@ at-home tag_in (Held h w t) z l v = absurd l
 at-home tag_in Spent z l v = (None, v, λ tag. refl)
 
 left-home : (s : State) (p : Place) (f : Phase) → IsLeft s → Coherent s p f → f.away ≡ false
-left-home Free p f l c = c.0
 left-home (Claimed h) p f l c = absurd l
-left-home (Ready t) p f l c = c.0
-left-home (Blocked t) p f l c = c.0
 left-home (Held h w t) p f l c = absurd l
-left-home Spent p f l c = c.0
-
-past : {A : Type 0} (xs : List A) (h : ℕ) (d : A) → length xs ≤ h → get_or xs h d ≡ d
-past [] h d l = refl
-past (x ∷ xs) zero d l = absurd (omega (arith, l))
-past (x ∷ xs) (suc h) d l = past xs h d (omega (arith, l))
+left-home _ p f l c = c.0
 
 there : {A : Type 0} (xs : List A) (h : ℕ) (d : A) → h < length xs → get_elem? xs h ≡ opt.some (get_or xs h d)
 there [] h d l = absurd (omega (arith, l))
@@ -136,7 +112,7 @@ module _ {T : Type 0} (tag_in : T → ℕ) (bits : ℕ) (w : World) (d : ℕ →
   others : (h : ℕ) → (h ≡ i → ⊥) → known_at b.views h ≡ blank
   others h n = elim (cases_lt h (length b.views)) [
     | inl l ↦ ap (λ (t : Token Known). t.known) (whole-alone blank s.seats i h (held whole k) (get_or b.views h (spent blank)) mine refl n (there b.views h (spent blank) l))
-    | inr l ↦ ap (λ (t : Token Known). t.known) (past b.views h (spent blank) l)
+    | inr l ↦ ap (λ (t : Token Known). t.known) (get_or_past b.views h (spent blank) l)
   ]
 
   pub all-left : (x : ℕ) → IsContext w x → IsLeft (w.state x)

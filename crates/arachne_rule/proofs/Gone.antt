@@ -1,10 +1,8 @@
 -- A thread that has ended is gone for good.
 use Rattle.std.proofs.Common.{◌≡◌, ℕ, ◌+◌, ◌<◌, true, false, ◌⊎◌, inl, inr, refl, sym, ap, ◌∙◌, arith}
 use Rattle.std.proofs.lemmas.Bool.{cases_Bool, cond-true, cond-false, and_from, eq-eqb, lt-ltb, true≢false}
-use Rattle.arachne_core.specs.declared.state.State.{State}
-use Rattle.arachne_core.specs.declared.state.State.TheVariants.{Free, Claimed, Ready, Blocked, Held, Spent}
-use Rattle.arachne_core.specs.World.{World, Thread}
-use Rattle.arachne_core.specs.OwnedOnce.{OwnedOnce, is_live, has_thread, HasGivenId}
+use Rattle.arachne_core.specs.declared.state.State.{State, TheVariants.{Free, Claimed, Ready, Blocked, Held, Spent}}
+use Rattle.arachne_core.specs.{World.{World, Thread}, OwnedOnce.{OwnedOnce, is_live, has_thread, HasGivenId}}
 
 -- given once, ended, and so not live
 pub not-live : (w : World) (t : Thread) → OwnedOnce w → 0 < w.ended t → (0 < w.given t) × (is_live w t ≡ false)

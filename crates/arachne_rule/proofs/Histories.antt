@@ -4,34 +4,17 @@ use Rattle.std.proofs.lemmas.Bool.{cases_eq, cond-true, cond-false, eq-eqb, ne_e
 use mathlib.Core.Option.{some, some-injective, some-ne-none}
 use lib.ListN.{get_elem?}
 use Rattle.atomic_table.proofs.Lists.{at_set}
-use Rattle.arachne_core.specs.declared.event.Event.{Event}
+use Rattle.arachne_core.specs.{declared.event.Event.Event, World.{World, Allowed, after}, Run.{IsRun, after_all}}
 use Rattle.arachne_core.specs.declared.event.Event.TheVariants as event
-use Rattle.arachne_core.specs.World.{World, Allowed, after}
-use Rattle.arachne_core.specs.Run.{IsRun, after_all}
-use Rattle.arachne_weights.specs.declared.token.Token.{Token}
-use Rattle.arachne_weights.specs.Tokens.{held}
-use Rattle.arachne_rule.specs.declared.view.Known.{Known}
-use Rattle.arachne_rule.specs.declared.view.Record.{Record}
-use Rattle.arachne_rule.specs.declared.view.Shape.{Shape}
-use Rattle.arachne_rule.specs.declared.view.Kind.{Kind}
-use Rattle.arachne_rule.specs.Views.{noted}
+use Rattle.arachne_weights.specs.{declared.token.Token.Token, Tokens.held}
+use Rattle.arachne_rule.specs.{declared.view.{Known.Known, Record.Record, Shape.Shape, Kind.Kind}, Views.noted}
 use Rattle.arachne_rule.specs.History.{Makes, world_after, events_of, records_of, IsHistory, AreOfSeats, Entry, IsStepOf}
 use Rattle.arachne_rule.specs.Table.{Table, Tells}
 
 -- an event changes no size
 pub same_size : (w : World) (e : Event) → ((after w e).cores ≡ w.cores) × ((after w e).slots ≡ w.slots) × ((after w e).last ≡ w.last)
 same_size w (event.Claim h x) = (refl, refl, refl)
-same_size w (event.Alone h x) = (refl, refl, refl)
-same_size w (event.Post h x t) = (refl, refl, refl)
-same_size w (event.Take h x) = (refl, refl, refl)
-same_size w (event.Rest h x r) = (refl, refl, refl)
-same_size w (event.Wake id) = (refl, refl, refl)
-same_size w (event.Retire h x) = (refl, refl, refl)
-same_size w (event.Release h x) = (refl, refl, refl)
-same_size w (event.CloseCore c) = (refl, refl, refl)
-same_size w (event.OpenCore c) = (refl, refl, refl)
-same_size w (event.Move h x y) = (refl, refl, refl)
-same_size w event.Still = (refl, refl, refl)
+same_size w _ = (refl, refl, refl)
 
 pub there-in : {A : Type 0} (xs : List A) (i : ℕ) (v : A) → get_elem? xs i ≡ some v → i < length xs
 there-in [] i v e = absurd (some-ne-none v (sym e))

@@ -1,21 +1,15 @@
 -- A split and a join of seats, neither of which changes the World. A seat that is joined into another carries nothing.
-use Rattle.std.proofs.Common.{◌≡◌, ◌≢◌, ℕ, zero, suc, ◌+◌, cond, List, ◌∷◌, ◌++◌, length, refl, sym, ap, ◌∙◌, arith, inl, inr, set, get_or, []}
-use Rattle.std.specs.Prelude.{count_by}
-use Rattle.std.specs.List.{sum_by}
-use Rattle.std.proofs.lemmas.List.Sums.{sum_by-append}
-use Rattle.std.proofs.lemmas.Bool.{cases_eq}
+use Rattle.std.proofs.Common.{◌≡◌, ◌≢◌, ℕ, zero, suc, ◌+◌, cond, List, ◌∷◌, ◌++◌, length, refl, sym, ap, ◌∙◌, arith, inl, inr, set, get_or, [], count_by}
+use Rattle.std.proofs.{Math.Seq.get_or-append_seam, lemmas.List.{get_or_past, Sums.sum_by-append}}
+use Rattle.std.{specs.List.sum_by, proofs.lemmas.Bool.cases_eq}
 use mathlib.Core.Option as opt
 use lib.ListN.{get_elem?}
 use Rattle.atomic_table.proofs.Lists.{set_else}
 use Rattle.arachne_core.specs.World.{World, Thread, IsContext, same_thread}
-use Rattle.arachne_weights.specs.declared.token.Token.{Token}
-use Rattle.arachne_weights.specs.Weight.{first_part, second_part, joined}
-use Rattle.arachne_weights.specs.Tokens.{held, spent, splits, joins}
-use Rattle.arachne_weights.proofs.Totals.{total-set, total-snoc}
-use Rattle.arachne_rule.specs.declared.view.Known.{Known}
-use Rattle.arachne_rule.specs.Views.{blank, known_at, carried_at, joined_known}
-use Rattle.arachne_rule.specs.Rule.{share_of, Board, Phase, Shows}
-use Rattle.arachne_rule.proofs.Carrying.{known-there, known-set, known-else}
+use Rattle.arachne_weights.specs.{declared.token.Token.Token, Weight.{first_part, second_part, joined}}
+use Rattle.arachne_weights.{specs.Tokens.{held, spent, splits, joins}, proofs.Totals.{total-set, total-snoc}}
+use Rattle.arachne_rule.{proofs.Carrying.{known-there, known-set, known-else}, specs.declared.view.Known.Known}
+use Rattle.arachne_rule.specs.{Rule.{share_of, Board, Phase, Shows}, Views.{blank, known_at, carried_at, joined_known}}
 
 -- ---- a split
 
@@ -24,19 +18,11 @@ length-set' [] i y = refl
 length-set' (x ∷ xs) zero y = refl
 length-set' (x ∷ xs) (suc i) y = ap suc (length-set' xs i y)
 
-get_or-snoc-last : {A : Type 0} (xs : List A) (y d : A) → get_or (xs ++ y ∷ []) (length xs) d ≡ y
-get_or-snoc-last [] y d = refl
-get_or-snoc-last (x ∷ xs) y d = get_or-snoc-last xs y d
-
 get_or-snoc-else : {A : Type 0} (xs : List A) (y d : A) (k : ℕ) → (k ≡ length xs → ⊥) → get_or (xs ++ y ∷ []) k d ≡ get_or xs k d
 get_or-snoc-else [] y d zero n = absurd (n refl)
 get_or-snoc-else [] y d (suc k) n = refl
 get_or-snoc-else (x ∷ xs) y d zero n = refl
 get_or-snoc-else (x ∷ xs) y d (suc k) n = get_or-snoc-else xs y d k (λ e. n (ap suc e))
-
-get_or-past : {A : Type 0} (xs : List A) (d : A) → get_or xs (length xs) d ≡ d
-get_or-past [] d = refl
-get_or-past (x ∷ xs) d = get_or-past xs d
 
 module _ {T : Type 0} (tag_in : T → ℕ) (bits : ℕ) (w : World) (d : ℕ → Phase) (b : Board T) (s : Shows tag_in bits w d b)
     (h weight : ℕ) (k : Known) (mine : get_elem? b.views h ≡ opt.some (held weight k)) where
@@ -48,8 +34,8 @@ module _ {T : Type 0} (tag_in : T → ℕ) (bits : ℕ) (w : World) (d : ℕ →
       let left : Token Known = held (first_part weight) k in
       let right : Token Known = held (second_part weight) blank in
       elim (cases_eq j (length (set b.views h left))) [
-        | inl e ↦ ap (known_at split_views) e ∙ ap (λ (t : Token Known). t.known) (get_or-snoc-last (set b.views h left) right (spent blank))
-            ∙ sym (ap (known_at b.views) (e ∙ length-set' b.views h left) ∙ ap (λ (t : Token Known). t.known) (get_or-past b.views (spent blank)))
+        | inl e ↦ ap (known_at split_views) e ∙ ap (λ (t : Token Known). t.known) (get_or-append_seam (set b.views h left) right [] (spent blank))
+            ∙ sym (ap (known_at b.views) (e ∙ length-set' b.views h left) ∙ ap (λ (t : Token Known). t.known) (get_or_past b.views (length b.views) (spent blank) (omega arith)))
         | inr n ↦ ap (λ (t : Token Known). t.known) (get_or-snoc-else (set b.views h left) right (spent blank) j n) ∙ elim (cases_eq j h) [
           | inl f ↦ ap (known_at (set b.views h left)) f ∙ known-set b.views h (held weight k) left mine ∙ sym (ap (known_at b.views) f ∙ known-there b.views h (held weight k) mine)
           | inr m ↦ known-else b.views h j left m

@@ -5,13 +5,9 @@ use lib.ListN.{get_elem?}
 use Rattle.atomic_table.specs.Table.{Act, homes_after}
 use Rattle.arachne_core.specs.World.{after}
 use Rattle.arachne_weights.specs.Tokens.{held}
-use Rattle.arachne_rule.specs.declared.view.Known.{Known}
-use Rattle.arachne_rule.specs.declared.view.Shape.{Shape}
-use Rattle.arachne_rule.specs.Rule.{Phase, Shows}
-use Rattle.arachne_rule.specs.Layout.{contexts_in, board_of}
-use Rattle.arachne_rule.specs.History.{Entry, Makes, IsNext}
-use Rattle.arachne_rule.specs.Table.{Table, Holds, HoldsAfter, after_step}
-use Rattle.arachne_rule.proofs.Stepping.{makes-step}
+use Rattle.arachne_rule.specs.{declared.view.{Known.Known, Shape.Shape}, Rule.{Phase, Shows}}
+use Rattle.arachne_rule.specs.{Layout.{contexts_in, board_of}, History.{Entry, Makes, IsNext}}
+use Rattle.arachne_rule.{specs.Table.{Table, Holds, HoldsAfter, after_step}, proofs.Stepping.makes-step}
 
 module _ {T : Type 0} (tag_in : T → ℕ) (bits : ℕ) (shape : Shape) (s : Table T) (rule : Holds tag_in bits shape s) (weight : ℕ) (k known : Known)
     (e : Entry) (slots : List (ℕ × Option T)) (act : Act (Option T)) (d : ℕ → Phase) where

@@ -3,31 +3,19 @@ use Rattle.std.proofs.Common.{None, ◌≡◌, ℕ, ◌*◌, ◌^◌, ◌<◌, �
 use mathlib.Core.Option.{some, none}
 use mathlib.Core.Option as opt
 use Rattle.atomic_table.specs.Table.{Act, State, keeps, takes, step, Allows}
-use Rattle.arachne_core.specs.declared.layout.TheConstants.{MASK_BITS, SLOTS}
-use Rattle.arachne_core.specs.declared.place.Place.{Place}
-use Rattle.arachne_core.specs.declared.event.Event.TheVariants as event
+use Rattle.arachne_core.specs.declared.{layout.TheConstants.{MASK_BITS, SLOTS}, place.Place.Place}
 use Rattle.arachne_core.specs.Marked.{Marked, mark_word, marked_of, IsMarkWord}
-use Rattle.arachne_core.specs.World.{World, IsContext, IsPlace, with_at}
-use Rattle.arachne_core.specs.ContextTable.{marked}
-use Rattle.arachne_core.proofs.MarkWords.{marked_of-mark_word}
-use Rattle.arachne_core.proofs.Changes.{cases_place}
-use Rattle.arachne_weights.specs.declared.token.Token.{Token}
-use Rattle.arachne_weights.specs.Tokens.{held}
-use Rattle.arachne_rule.specs.declared.view.Carried.{Carried}
-use Rattle.arachne_rule.specs.declared.view.Known.{Known}
-use Rattle.arachne_rule.specs.declared.view.Shape.{Shape}
+use Rattle.arachne_core.specs.{World.{World, IsContext, IsPlace, with_at}, ContextTable.marked}
+use Rattle.arachne_core.proofs.{MarkWords.marked_of-mark_word, Changes.cases_place}
+use Rattle.arachne_core.specs.declared.event.Event.TheVariants as event
+use Rattle.arachne_weights.specs.{declared.token.Token.Token, Tokens.held}
+use Rattle.arachne_rule.{specs.Plays.{Carries, IsLive, LooksCore, LooksMark, LearnsName, TakesSlot}, proofs.Slots.learn}
+use Rattle.arachne_rule.{proofs.OwnWords.{says-carried, says-gone, same-at-place, placed-in}, specs.Table.{Mine, Holds}}
+use Rattle.arachne_rule.specs.{Layout.{contexts_in, occ_index, name_index, board_of}, declared.view.Carried.Carried}
+use Rattle.arachne_rule.proofs.{Naming.{with_name-same, with_name-other}, Stepping.{sees, name-made, for-seat}}
+use Rattle.arachne_rule.{proofs.Boards.{IsIn, home-set, name-apart}, specs.declared.view.{Known.Known, Shape.Shape}}
+use Rattle.arachne_rule.specs.{Views.{with_context, noted}, Rule.{Board, Phase, Shows}, Changes.with_name}
 use Rattle.arachne_rule.specs.declared.view.Kind.TheVariants as kind
-use Rattle.arachne_rule.specs.Views.{with_context, noted}
-use Rattle.arachne_rule.specs.Rule.{Board, Phase, Shows}
-use Rattle.arachne_rule.specs.Changes.{with_name}
-use Rattle.arachne_rule.specs.Layout.{contexts_in, occ_index, name_index, board_of}
-use Rattle.arachne_rule.specs.Table.{Mine, Holds}
-use Rattle.arachne_rule.specs.Plays.{Carries, IsLive, LooksCore, LooksMark, LearnsName, TakesSlot}
-use Rattle.arachne_rule.proofs.Slots.{learn}
-use Rattle.arachne_rule.proofs.Naming.{with_name-same, with_name-other}
-use Rattle.arachne_rule.proofs.Boards.{IsIn, home-set, name-apart}
-use Rattle.arachne_rule.proofs.Stepping.{sees, name-made, for-seat}
-use Rattle.arachne_rule.proofs.OwnWords.{says-carried, says-gone, same-at-place, placed-in}
 
 -- a place word that is written with the same number
 same-names : {T : Type 0} (tag_in : T → ℕ) (bits : ℕ) (w : World) (d : ℕ → Phase) (b : Board T) → Shows tag_in bits w d b → (p : Place) → Shows tag_in bits w d (record b { name = with_name b.name p (b.name p) })

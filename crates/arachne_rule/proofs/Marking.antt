@@ -3,19 +3,13 @@ use Rattle.std.proofs.Common.{◌≡◌, ℕ, ◌<◌, Bool, true, false, cond, 
 use Rattle.std.proofs.lemmas.Bool.{eqb-true, eq-eqb, ne_eqb, cond-true, cond-false, true≢false}
 use mathlib.Core.Option.{some}
 use lib.ListN.{get_elem?}
-use Rattle.arachne_core.specs.declared.place.Place.{Place}
-use Rattle.arachne_core.specs.declared.state.State.{State}
-use Rattle.arachne_core.specs.declared.state.State.TheVariants.{Free, Claimed, Ready, Blocked, Held, Spent}
-use Rattle.arachne_core.specs.World.{World, Thread, IsContext, IsPlace}
-use Rattle.arachne_core.specs.OwnedOnce.{OwnedOnce}
-use Rattle.arachne_weights.specs.declared.token.Token.{Token}
-use Rattle.arachne_weights.specs.Tokens.{held, IsReachable, learns}
-use Rattle.arachne_rule.specs.declared.view.Carried.{Carried}
-use Rattle.arachne_rule.specs.declared.view.Known.{Known}
+use Rattle.arachne_core.specs.declared.{place.Place.Place, state.State.State, state.State.TheVariants.{Claimed, Held}}
+use Rattle.arachne_core.specs.{World.{World, Thread, IsContext, IsPlace}, OwnedOnce.OwnedOnce}
+use Rattle.arachne_weights.specs.{declared.token.Token.Token, Tokens.{held, IsReachable, learns}}
+use Rattle.arachne_rule.specs.declared.view.{Carried.Carried, Known.Known}
 use Rattle.arachne_rule.specs.Views.{blank, known_at, carried_at, given_in, ended_in}
 use Rattle.arachne_rule.specs.Rule.{carried_if, share_of, Board, Phase, ShowsWord, ShowsContext, Shows}
-use Rattle.arachne_rule.proofs.OneContext.{Change, changed, one_context}
-use Rattle.arachne_rule.proofs.Views.{learned-else, learned-here}
+use Rattle.arachne_rule.proofs.{OneContext.{Change, changed, one_context}, Views.{learned-else, learned-here}}
 
 -- the parts of the table that a step on a mark word or a place word may change
 pub record Small : Type 0 where
@@ -78,9 +72,6 @@ module _ {T : Type 0} (tag_in : T → ℕ) (bits : ℕ) where
 
 -- ---- the state of a carried context
 
-pub no-carried : (g : Carried) → g ∷ [] ≡ [] → ⊥
-no-carried g e = cc
-
 abbrev head : Carried → List Carried → Carried
 head d [] = d
 head d (g ∷ gs) = g
@@ -90,26 +81,20 @@ one-carried f g e = ap (head f) e
 
 pub carried-of-held : (b : Bool) (f g : Carried) → cond b (f ∷ []) [] ≡ g ∷ [] → (b ≡ true) × (g ≡ f)
 carried-of-held true f g e = (refl, sym (one-carried f g e))
-carried-of-held false f g e = absurd (no-carried g (sym e))
+carried-of-held false f g e = cc
 
 -- a context that is carried and not held is claimed
 pub claimed-carried : (s : State) (h : ℕ) (f : Bool → ℕ → Carried) (g : Carried) → ((b : Bool) (t : ℕ) → (f b t).held ≡ b) → carried_if s h f ≡ g ∷ [] → g.held ≡ false → (s ≡ Claimed h) × (g ≡ f false 0)
 claimed-carried (Claimed k) h f g hs e n = let q = carried-of-held (eqb k h) (f false 0) g e in (ap Claimed (eqb-true k h q.0), q.1)
 claimed-carried (Held k w t) h f g hs e n = let q = carried-of-held (eqb k h) (f true t) g e in absurd (true≢false (sym (hs true t) ∙ ap (λ (r : Carried). r.held) (sym q.1) ∙ n))
-claimed-carried Free h f g hs e n = absurd (no-carried g (sym e))
-claimed-carried (Ready t) h f g hs e n = absurd (no-carried g (sym e))
-claimed-carried (Blocked t) h f g hs e n = absurd (no-carried g (sym e))
-claimed-carried Spent h f g hs e n = absurd (no-carried g (sym e))
+claimed-carried _ h f g hs e n = cc
 
 -- a context that is carried and held is held in the World
 pub held-carried : (s : State) (h : ℕ) (f : Bool → ℕ → Carried) (g : Carried) → ((b : Bool) (t : ℕ) → (f b t).held ≡ b) → carried_if s h f ≡ g ∷ [] → g.held ≡ true
     → (woken : Bool) × (tag : ℕ) × (s ≡ Held h woken tag) × (g ≡ f true tag)
 held-carried (Claimed k) h f g hs e n = let q = carried-of-held (eqb k h) (f false 0) g e in absurd (true≢false (sym n ∙ ap (λ (r : Carried). r.held) q.1 ∙ hs false 0))
 held-carried (Held k w t) h f g hs e n = let q = carried-of-held (eqb k h) (f true t) g e in (w, t, ap (λ (j : ℕ). Held j w t) (eqb-true k h q.0), q.1)
-held-carried Free h f g hs e n = absurd (no-carried g (sym e))
-held-carried (Ready t) h f g hs e n = absurd (no-carried g (sym e))
-held-carried (Blocked t) h f g hs e n = absurd (no-carried g (sym e))
-held-carried Spent h f g hs e n = absurd (no-carried g (sym e))
+held-carried _ h f g hs e n = cc
 
 pub mine-claimed : (h : ℕ) (f : Bool → ℕ → Carried) → carried_if (Claimed h) h f ≡ f false 0 ∷ []
 mine-claimed h f = cond-true (eqb h h) _ _ (eq-eqb h h refl)

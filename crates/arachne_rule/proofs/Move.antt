@@ -3,26 +3,19 @@ use Rattle.std.proofs.Common.{◌≡◌, ◌≢◌, ℕ, Bool, true, false, ◌&
 use Rattle.std.proofs.lemmas.Bool.{true≢false, cases_eq}
 use mathlib.Core.Option as opt
 use lib.ListN.{get_elem?}
-use Rattle.arachne_core.specs.declared.place.Place.{Place}
-use Rattle.arachne_core.specs.declared.state.State.{State}
+use Rattle.arachne_core.proofs.{Changes.{with_at-same, with_at-other}, KeepsOwnedOnce.keeps_owned_once}
+use Rattle.arachne_core.specs.{ContextTable.{mark_of, is_live_state, marked}, Marked.{Marked, mark_word, marked_of}}
+use Rattle.arachne_core.specs.World.{World, IsContext, IsPlace, core_of, with_at, IsAtRest, Allowed, after}
+use Rattle.arachne_core.specs.declared.{place.Place.Place, state.State.State}
 use Rattle.arachne_core.specs.declared.state.State.TheVariants.{Claimed, Ready, Blocked}
 use Rattle.arachne_core.specs.declared.event.Event.TheVariants as event
-use Rattle.arachne_core.specs.Marked.{Marked, mark_word, marked_of}
-use Rattle.arachne_core.specs.World.{World, IsContext, IsPlace, core_of, with_at, IsAtRest, Allowed, after}
-use Rattle.arachne_core.specs.ContextTable.{mark_of, is_live_state, marked}
-use Rattle.arachne_core.proofs.Changes.{with_at-same, with_at-other}
-use Rattle.arachne_core.proofs.KeepsOwnedOnce.{keeps_owned_once}
 use Rattle.arachne_weights.specs.Tokens.{held, learns}
-use Rattle.arachne_rule.specs.declared.view.Carried.{Carried}
-use Rattle.arachne_rule.specs.declared.view.Known.{Known}
-use Rattle.arachne_rule.specs.Views.{known_at, carried_at, with_context}
-use Rattle.arachne_rule.specs.Rule.{Coherent, carried_if, carried_of, share_of, Board, Phase, ShowsContext, Shows}
-use Rattle.arachne_rule.specs.Changes.{left_context, moved_phase}
-use Rattle.arachne_rule.specs.Plays.{IsRestMark}
-use Rattle.arachne_rule.proofs.Carrying.{with-at, with-else, known-there}
-use Rattle.arachne_rule.proofs.Views.{learned-else, learned-here, given-same, ended-same}
-use Rattle.arachne_rule.proofs.Marking.{claimed-carried, mine-claimed, not-claimed}
+use Rattle.arachne_rule.{proofs.Carrying.{with-at, with-else, known-there}, specs.Changes.{left_context, moved_phase}}
+use Rattle.arachne_rule.{proofs.Marking.{claimed-carried, mine-claimed, not-claimed}, specs.Plays.IsRestMark}
 use Rattle.arachne_rule.proofs.Seen.{rest-mark, rest-live, rest-coherent, coherent-rest, seen}
+use Rattle.arachne_rule.proofs.Views.{learned-else, learned-here, given-same, ended-same}
+use Rattle.arachne_rule.specs.Rule.{Coherent, carried_if, carried_of, share_of, Board, Phase, ShowsContext, Shows}
+use Rattle.arachne_rule.specs.{Views.{known_at, carried_at, with_context}, declared.view.{Carried.Carried, Known.Known}}
 
 -- no seat carries a thread at rest
 no-share : (s : State) → IsAtRest s → (h : ℕ) (f : Bool → ℕ → Carried) → carried_if s h f ≡ []

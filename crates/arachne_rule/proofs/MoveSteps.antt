@@ -4,37 +4,20 @@ use Rattle.std.proofs.Common.{◌≡◌, ◌≢◌, ℕ, ◌<◌, true, false, L
 use Rattle.std.proofs.lemmas.Bool.{cond-true, cond-false, eq-eqb, ne_eqb}
 use mathlib.Core.Option.{none}
 use prog.Atomic.{either}
-use Rattle.atomic_table.specs.Table.{Act, keeps, step, stepped, Allows, Valid, carried_after}
-use Rattle.atomic_table.proofs.Lists.{exchanged}
-use Rattle.arachne_core.specs.declared.place.Place.{Place}
-use Rattle.arachne_core.specs.declared.event.Event.{Event}
+use Rattle.atomic_table.{specs.Table.{Act, keeps, step, stepped, Allows, Valid, carried_after}, proofs.Lists.exchanged}
+use Rattle.arachne_core.specs.{declared.{place.Place.Place, event.Event.Event}, Marked.{Marked, mark_word, marked_of}}
+use Rattle.arachne_core.{specs.World.{World, IsContext, IsPlace, with_at, after}, proofs.MarkWords.marked_of-mark_word}
 use Rattle.arachne_core.specs.declared.event.Event.TheVariants as event
-use Rattle.arachne_core.specs.Marked.{Marked, mark_word, marked_of}
-use Rattle.arachne_core.specs.World.{World, IsContext, IsPlace, with_at, after}
-use Rattle.arachne_core.proofs.MarkWords.{marked_of-mark_word}
-use Rattle.arachne_weights.specs.declared.token.Token.{Token}
-use Rattle.arachne_weights.specs.Tokens.{held}
-use Rattle.arachne_rule.specs.declared.view.Carried.{Carried}
-use Rattle.arachne_rule.specs.declared.view.Known.{Known}
-use Rattle.arachne_rule.specs.declared.view.Shape.{Shape}
-use Rattle.arachne_rule.specs.declared.view.Kind.TheVariants as kind
-use Rattle.arachne_rule.specs.Views.{with_context, noted}
-use Rattle.arachne_rule.specs.Rule.{settled, carried_of, Board, Phase, Shows}
-use Rattle.arachne_rule.specs.Changes.{with_name, left_context, marked_free, moved_phase}
-use Rattle.arachne_rule.specs.Layout.{contexts_in, name_index, board_of}
-use Rattle.arachne_rule.specs.History.{IsMarkOf}
-use Rattle.arachne_rule.specs.Table.{Table, Mine, Holds}
+use Rattle.arachne_weights.specs.{declared.token.Token.Token, Tokens.held}
+use Rattle.arachne_rule.proofs.{Boards.IsIn, Move.move, Naming.{name_target, replace, name_source}, Noted.noted_board}
+use Rattle.arachne_rule.proofs.{OwnWords.{same-carried, same-at-place, placed-in}, Shares.my-share, Slots.carried-says}
+use Rattle.arachne_rule.proofs.{Seen.{seen, rest-coherent, is-mark-of}, Stepping.{sees, mark-made, name-made, for-seat}}
+use Rattle.arachne_rule.{proofs.ThreadSteps.is-context, specs.Layout.{contexts_in, name_index, board_of}}
+use Rattle.arachne_rule.specs.{Changes.{with_name, left_context, marked_free, moved_phase}, History.IsMarkOf}
 use Rattle.arachne_rule.specs.Plays.{Carries, IsRestMark, IsLive, Moves, NamesTarget, Replaces, NamesSource}
-use Rattle.arachne_rule.proofs.Shares.{my-share}
-use Rattle.arachne_rule.proofs.Seen.{seen, rest-coherent, is-mark-of}
-use Rattle.arachne_rule.proofs.Slots.{carried-says}
-use Rattle.arachne_rule.proofs.Move.{move}
-use Rattle.arachne_rule.proofs.Naming.{name_target, replace, name_source}
-use Rattle.arachne_rule.proofs.Noted.{noted_board}
-use Rattle.arachne_rule.proofs.Boards.{IsIn}
-use Rattle.arachne_rule.proofs.Stepping.{sees, mark-made, name-made, for-seat}
-use Rattle.arachne_rule.proofs.OwnWords.{same-carried, same-at-place, placed-in}
-use Rattle.arachne_rule.proofs.ThreadSteps.{is-context}
+use Rattle.arachne_rule.specs.{Rule.{settled, carried_of, Board, Phase, Shows}, Table.{Table, Mine, Holds}}
+use Rattle.arachne_rule.specs.{Views.{with_context, noted}, declared.view.{Carried.Carried, Known.Known, Shape.Shape}}
+use Rattle.arachne_rule.specs.declared.view.Kind.TheVariants as kind
 
 module _ {T : Type 0} (tag_in : T → ℕ) (bits : ℕ) (shape : Shape) where
   abbrev n : ℕ

@@ -3,27 +3,20 @@
 -- more word is one more lemma by these, with the field of `Phase` that it ends.
 use Rattle.std.proofs.Common.{◌≡◌, ◌<◌, ℕ, Bool, true, false, ◌&&◌, ◌∷◌, refl, sym, ap, ◌∙◌, subst, inl, inr, set, []}
 use Rattle.std.proofs.lemmas.Bool.{true≢false, cond-true, cond-false, false_from_ne_true}
+use Rattle.std.specs.declared.option.Option.TheVariants.{None}
 use mathlib.Core.Option as opt
 use lib.ListN.{get_elem?}
-use Rattle.std.specs.declared.option.Option.TheVariants.{None}
-use Rattle.arachne_core.specs.declared.place.Place.{Place}
-use Rattle.arachne_core.specs.declared.state.State.{State}
-use Rattle.arachne_core.specs.declared.state.State.TheVariants.{Claimed, Held}
-use Rattle.arachne_core.specs.declared.mark.Mark.TheVariants as mark
-use Rattle.arachne_core.specs.Place.{same_place}
-use Rattle.arachne_core.specs.Marked.{Marked, mark_word}
-use Rattle.arachne_core.specs.World.{World, IsContext, IsPlace, core_of, with_at}
+use Rattle.arachne_core.specs.declared.{place.Place.Place, state.State.State}
+use Rattle.arachne_core.specs.{declared.state.State.TheVariants.{Claimed, Held}, Place.same_place}
+use Rattle.arachne_core.specs.{Marked.{Marked, mark_word}, World.{World, IsContext, IsPlace, core_of, with_at}}
 use Rattle.arachne_core.specs.ContextTable.{mark_of, is_live_state, marked}
 use Rattle.arachne_core.proofs.Changes.{with_at-same, with_at-other, same_place-true, same_place-refl, cases_place}
+use Rattle.arachne_core.specs.declared.mark.Mark.TheVariants as mark
 use Rattle.arachne_weights.specs.Tokens.{held}
-use Rattle.arachne_rule.specs.declared.view.Carried.{Carried}
-use Rattle.arachne_rule.specs.declared.view.Known.{Known}
-use Rattle.arachne_rule.specs.Views.{carried_at, with_context}
+use Rattle.arachne_rule.specs.{declared.view.{Carried.Carried, Known.Known}, Views.{carried_at, with_context}}
 use Rattle.arachne_rule.specs.Rule.{settled, Coherent, carried_if, carried_of, share_of, HasValue, Board, Phase, ShowsContext, Shows}
-use Rattle.arachne_rule.specs.Changes.{with_name}
-use Rattle.arachne_rule.proofs.Shares.{my-share}
-use Rattle.arachne_rule.proofs.Carrying.{with-at, with-else}
-use Rattle.arachne_rule.proofs.Views.{given-same, ended-same}
+use Rattle.arachne_rule.{specs.Changes.with_name, proofs.Shares.my-share}
+use Rattle.arachne_rule.proofs.{Carrying.{with-at, with-else}, Views.{given-same, ended-same}}
 use Rattle.arachne_rule.proofs.Marking.{Small, marking, claimed-carried, held-carried, mine-claimed, not-claimed, mine-held, not-held}
 
 pub with_name-same : (f : Place → ℕ) (p : Place) (x : ℕ) → with_name f p x p ≡ x

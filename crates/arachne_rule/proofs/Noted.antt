@@ -4,9 +4,7 @@ use mathlib.Core.Option as opt
 use lib.ListN.{get_elem?}
 use Rattle.arachne_core.specs.World.{World}
 use Rattle.arachne_weights.specs.Tokens.{held, learns}
-use Rattle.arachne_rule.specs.declared.view.Known.{Known}
-use Rattle.arachne_rule.specs.Views.{carried_at}
-use Rattle.arachne_rule.specs.Rule.{Board, Phase, Shows}
+use Rattle.arachne_rule.specs.{declared.view.Known.Known, Views.carried_at, Rule.{Board, Phase, Shows}}
 use Rattle.arachne_rule.proofs.Views.{learned-else, given-same, ended-same}
 
 module _ {T : Type 0} (tag_in : T → ℕ) (bits : ℕ) (w : World) (d : ℕ → Phase) (b : Board T) (s : Shows tag_in bits w d b)

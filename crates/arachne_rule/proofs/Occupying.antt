@@ -1,22 +1,15 @@
 -- Steps on an occupancy word.
-use Rattle.std.proofs.Common.{◌≡◌, ℕ, ◌+◌, ◌<◌, ◌^◌, Bool, true, false, List, refl, sym, ap, ◌∙◌, subst, arith, inl, inr, set, get_or, get_or-set_other}
-use Rattle.std.proofs.lemmas.List.{get_or-set_same}
+use Rattle.std.proofs.Common.{◌≡◌, ℕ, ◌+◌, ◌<◌, ◌^◌, Bool, true, false, List, refl, sym, ap, ◌∙◌, subst, arith, inl, inr, set, get_or, get_or-set_other, get_or-set_same}
 use Rattle.std.proofs.lemmas.Bool.{cases_eq}
 use mathlib.Core.Option.{some}
 use lib.ListN.{get_elem?}
-use Rattle.arachne_core.specs.declared.layout.TheConstants.{MASK_BITS}
-use Rattle.arachne_core.specs.declared.place.Place.{Place}
-use Rattle.arachne_core.specs.declared.state.State.{State}
-use Rattle.arachne_core.specs.declared.state.State.TheVariants.{Free}
-use Rattle.arachne_core.specs.Occupancy.{occupancy_of, HasOneMore}
-use Rattle.arachne_core.specs.World.{World, IsContext, IsPlace, core_of, with_at, with_place}
-use Rattle.arachne_core.specs.OwnedOnce.{OwnedOnce}
+use Rattle.arachne_core.specs.declared.{layout.TheConstants.MASK_BITS, place.Place.Place, state.State.State}
+use Rattle.arachne_core.specs.{declared.state.State.TheVariants.Free, Occupancy.{occupancy_of, HasOneMore}}
+use Rattle.arachne_core.specs.{World.{World, IsContext, IsPlace, core_of, with_at, with_place}, OwnedOnce.OwnedOnce}
 use Rattle.arachne_core.proofs.Changes.{with_at-other, with_place-same, with_place-other}
 use Rattle.arachne_core.proofs.OccupancyWords.{has_one_more, length-flags}
-use Rattle.arachne_weights.specs.declared.token.Token.{Token}
-use Rattle.arachne_weights.specs.Tokens.{held, IsReachable, learns}
-use Rattle.arachne_rule.specs.declared.view.Known.{Known}
-use Rattle.arachne_rule.specs.Views.{blank, known_at, carried_at, given_in, ended_in}
+use Rattle.arachne_weights.specs.{declared.token.Token.Token, Tokens.{held, IsReachable, learns}}
+use Rattle.arachne_rule.specs.{declared.view.Known.Known, Views.{blank, known_at, carried_at, given_in, ended_in}}
 use Rattle.arachne_rule.specs.Rule.{share_of, Board, Phase, ShowsWord, ShowsContext, Shows}
 use Rattle.arachne_rule.proofs.OneContext.{Change, changed, one_context}
 use Rattle.arachne_rule.proofs.Views.{learned-else, learned-here, given-same, ended-same}

@@ -1,17 +1,12 @@
 -- One context changed: what a step must show there, and nothing else.
 use Rattle.std.proofs.Common.{◌≡◌, ℕ, ◌<◌, Bool, true, false, cond, eqb, ◌&&◌, ◌∷◌, refl, sym, ap, ◌∙◌, subst, inl, inr, [], arith}
 use Rattle.std.proofs.lemmas.Bool.{cases_eq}
-use Rattle.arachne_core.specs.declared.place.Place.{Place}
-use Rattle.arachne_core.specs.declared.state.State.{State}
-use Rattle.arachne_core.specs.declared.state.State.TheVariants.{Free, Claimed, Ready, Blocked, Held, Spent}
-use Rattle.arachne_core.specs.Marked.{mark_word}
-use Rattle.arachne_core.specs.World.{World, Thread, IsContext, IsPlace, core_of}
-use Rattle.arachne_core.specs.OwnedOnce.{OwnedOnce}
-use Rattle.arachne_core.specs.ContextTable.{mark_of, is_live_state}
+use Rattle.arachne_core.specs.declared.{place.Place.Place, state.State.State}
+use Rattle.arachne_core.specs.{declared.state.State.TheVariants.{Free, Claimed, Held, Spent}, Marked.mark_word}
+use Rattle.arachne_core.specs.{World.{World, Thread, IsContext, IsPlace, core_of}, OwnedOnce.OwnedOnce}
+use Rattle.arachne_core.{specs.ContextTable.{mark_of, is_live_state}, proofs.Changes.cases_place}
 use Rattle.arachne_weights.specs.Tokens.{IsReachable}
-use Rattle.arachne_core.proofs.Changes.{cases_place}
-use Rattle.arachne_rule.specs.declared.view.Carried.{Carried}
-use Rattle.arachne_rule.specs.Views.{blank, known_at, carried_at, given_in, ended_in}
+use Rattle.arachne_rule.specs.{declared.view.Carried.Carried, Views.{blank, known_at, carried_at, given_in, ended_in}}
 use Rattle.arachne_rule.specs.Rule.{Coherent, carried_if, carried_of, share_of, HasValue, Board, Phase, ShowsWord, ShowsContext, Shows}
 
 -- the parts of a World that a step at one context may change
@@ -28,20 +23,15 @@ abbrev pub changed : World → Change → World
 changed w c = record w { state = c.state; generation = c.generation; occupied = c.occupied; closed = c.closed; alone = c.alone; given = c.given; ended = c.ended }
 
 alone-same : (s : State) (a b : Bool) → ((s ≡ Free → ⊥) → a ≡ b) → (is_live_state s && a) ≡ (is_live_state s && b)
-alone-same (Ready t) a b e = e (λ f. cc)
-alone-same (Blocked t) a b e = e (λ f. cc)
-alone-same (Held h w t) a b e = e (λ f. cc)
 alone-same Free a b e = refl
 alone-same (Claimed h) a b e = refl
 alone-same Spent a b e = refl
+alone-same _ a b e = e (λ f. cc)
 
 carried-same : (s : State) (h : ℕ) (f g : Bool → ℕ → Carried) → ((s ≡ Free → ⊥) → (held : Bool) (tag : ℕ) → f held tag ≡ g held tag) → carried_if s h f ≡ carried_if s h g
 carried-same (Claimed k) h f g e = ap (λ (r : Carried). cond (eqb k h) (r ∷ []) []) (e (λ q. cc) false 0)
 carried-same (Held k w t) h f g e = ap (λ (r : Carried). cond (eqb k h) (r ∷ []) []) (e (λ q. cc) true t)
-carried-same Free h f g e = refl
-carried-same (Ready t) h f g e = refl
-carried-same (Blocked t) h f g e = refl
-carried-same Spent h f g e = refl
+carried-same _ h f g e = refl
 
 module _ {T : Type 0} (tag_in : T → ℕ) (bits : ℕ) where
   -- nothing has changed except at context x

@@ -1,28 +1,16 @@
 -- The table at first.
-use Rattle.std.proofs.Common.{◌≡◌, ℕ, zero, suc, ◌*◌, ◌<◌, ◌≤◌, false, List, [], ◌∷◌, length, refl, sym, ap, ◌∙◌, subst, arith, get_or, mul-le-mul_right, suc-mul, div-add-mod'}
+use Rattle.std.proofs.Common.{◌≡◌, ℕ, zero, suc, ◌*◌, ◌<◌, ◌≤◌, false, List, [], ◌∷◌, length, refl, sym, ap, ◌∙◌, subst, arith, get_or, mul-le-mul_right, suc-mul, div-add-mod', map, replicate, Option, None}
+use Rattle.std.specs.declared.option.Option.TheVariants.{None}
 use mathlib.Core.Option as opt
 use Rattle.atomic_table.specs.Table.{opening}
-use Rattle.std.proofs.Common.{map, replicate, Option, None}
 use lib.ListN.{get_elem?}
-use Rattle.std.specs.declared.option.Option.TheVariants.{None}
-use Rattle.arachne_core.specs.declared.place.Place.{Place}
-use Rattle.arachne_core.specs.Occupancy.{Occupancy}
-use Rattle.arachne_core.specs.Place.{first_place, number_of}
-use Rattle.arachne_core.specs.World.{World, IsContext}
-use Rattle.arachne_core.specs.OwnedOnce.{OwnedOnce}
-use Rattle.arachne_core.specs.Run.{IsOpening}
-use Rattle.arachne_core.proofs.Runs.{opening_owned_once}
-use Rattle.arachne_core.proofs.OccupancyWords.{packs_vacant, vacant-flag, vacant-open}
-use Rattle.arachne_weights.specs.declared.token.Token.{Token}
-use Rattle.arachne_weights.specs.Weight.{whole}
-use Rattle.arachne_weights.specs.Tokens.{held, begins}
-use Rattle.arachne_rule.specs.declared.view.Known.{Known}
-use Rattle.arachne_rule.specs.declared.view.Shape.{Shape}
-use Rattle.arachne_rule.specs.Views.{blank, known_at, carried_at}
-use Rattle.arachne_rule.specs.Rule.{settled, ShowsWord, Shows}
-use Rattle.arachne_rule.specs.Layout.{contexts_in, board_of, IsShape, AreFirstWords}
-use Rattle.arachne_rule.specs.History.{opening_world}
-use Rattle.arachne_rule.specs.Table.{Table, Holds}
+use Rattle.arachne_core.specs.{declared.place.Place.Place, Occupancy.Occupancy, Place.{first_place, number_of}}
+use Rattle.arachne_core.specs.{World.{World, IsContext}, OwnedOnce.OwnedOnce, Run.IsOpening}
+use Rattle.arachne_core.proofs.{Runs.opening_owned_once, OccupancyWords.{packs_vacant, vacant-flag, vacant-open}}
+use Rattle.arachne_weights.specs.{declared.token.Token.Token, Weight.whole, Tokens.{held, begins}}
+use Rattle.arachne_rule.specs.{declared.view.{Known.Known, Shape.Shape}, Views.{blank, known_at, carried_at}}
+use Rattle.arachne_rule.specs.{Rule.{settled, ShowsWord, Shows}, Layout.{contexts_in, board_of, IsShape, AreFirstWords}}
+use Rattle.arachne_rule.specs.{History.opening_world, Table.{Table, Holds}}
 
 nobody : (h : ℕ) → (known_at (held whole blank ∷ []) h).carried ≡ []
 nobody zero = refl

@@ -1,30 +1,19 @@
 -- The meaning of the words for the seat that carries a context, or that has ended a thread.
 use Rattle.std.proofs.Common.{◌≡◌, ℕ, zero, suc, ◌<◌, ◌≤◌, Bool, true, false, ◌&&◌, List, [], ◌∷◌, refl, sym, ap, ◌∙◌, subst, arith, inl, inr, count_by}
-use Rattle.std.specs.List.{sum_by}
+use Rattle.std.{specs.{List.sum_by, declared.option.Option.TheVariants.None}, proofs.lemmas.List.Sums.sum_by-cons}
 use mathlib.Core.Option as opt
-use Rattle.std.specs.declared.option.Option.TheVariants.{None}
 use lib.ListN.{get_elem?}
-use Rattle.arachne_core.specs.declared.state.State.{State}
-use Rattle.arachne_core.specs.declared.state.State.TheVariants.{Free, Ready, Held, Spent}
+use Rattle.arachne_core.specs.{ContextTable.{mark_of, is_live_state}, Marked.{Marked, marked_of}}
+use Rattle.arachne_core.specs.World.{World, Thread, IsReady, CanBeWoken, Allowed, IsContext, IsPlace, core_of, same_thread}
+use Rattle.arachne_core.specs.declared.state.State.{State, TheVariants.{Free, Ready, Held, Spent}}
 use Rattle.arachne_core.specs.declared.mark.Mark.TheVariants as mark
 use Rattle.arachne_core.specs.declared.event.Event.TheVariants as event
-use Rattle.arachne_core.specs.Marked.{Marked, marked_of}
-use Rattle.arachne_core.specs.World.{World, Thread, IsReady, CanBeWoken, Allowed, IsContext, IsPlace, core_of, same_thread}
-use Rattle.arachne_core.specs.ContextTable.{mark_of, is_live_state}
-use Rattle.arachne_weights.specs.declared.token.Token.{Token}
-use Rattle.arachne_weights.specs.Tokens.{held}
-use Rattle.std.proofs.lemmas.List.Sums.{sum_by-cons}
-use Rattle.arachne_rule.specs.declared.view.Carried.{Carried}
-use Rattle.arachne_rule.specs.declared.view.Known.{Known}
-use Rattle.arachne_rule.specs.Views.{carried_at}
-use Rattle.arachne_rule.specs.Rule.{carried_if, carried_of, share_of, Board, Phase, Shows}
-use Rattle.arachne_rule.specs.Plays.{Carries, IsHeldMark, SaysCarried, IsGone, HasEnded}
-use Rattle.arachne_rule.proofs.Shares.{my-share}
-use Rattle.arachne_rule.proofs.Carrying.{known-there}
-use Rattle.arachne_rule.proofs.Marking.{one-carried, claimed-carried, held-carried}
-use Rattle.arachne_rule.proofs.Slots.{carried-says, carried-empty, one-claim}
-use Rattle.arachne_rule.proofs.Seen.{seen}
-use Rattle.arachne_rule.proofs.Gone.{ended-is-gone, not-live}
+use Rattle.arachne_weights.specs.{declared.token.Token.Token, Tokens.held}
+use Rattle.arachne_rule.specs.{declared.view.{Carried.Carried, Known.Known}, Views.carried_at}
+use Rattle.arachne_rule.{specs.Rule.{carried_if, carried_of, share_of, Board, Phase, Shows}, proofs.Shares.my-share}
+use Rattle.arachne_rule.{specs.Plays.{Carries, IsHeldMark, SaysCarried, IsGone, HasEnded}, proofs.Carrying.known-there}
+use Rattle.arachne_rule.proofs.{Marking.{one-carried, claimed-carried, held-carried}, Seen.seen}
+use Rattle.arachne_rule.proofs.{Slots.{carried-says, carried-empty, one-claim}, Gone.{ended-is-gone, not-live}}
 
 not-woken-spent : (s : State) → s ≡ Spent → CanBeWoken s → ⊥
 not-woken-spent s e c = subst CanBeWoken e c

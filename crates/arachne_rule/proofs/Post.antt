@@ -1,27 +1,19 @@
 -- A post.
 use Rattle.std.proofs.Common.{◌≡◌, ℕ, true, false, ◌&&◌, ◌∷◌, refl, sym, ap, ◌∙◌, subst, set, []}
+use Rattle.std.specs.declared.option.Option.TheVariants.{Some}
 use mathlib.Core.Option as opt
 use lib.ListN.{get_elem?}
-use Rattle.std.specs.declared.option.Option.TheVariants.{Some}
-use Rattle.arachne_core.specs.declared.place.Place.{Place}
-use Rattle.arachne_core.specs.declared.state.State.{State}
-use Rattle.arachne_core.specs.declared.state.State.TheVariants.{Claimed, Ready}
+use Rattle.arachne_core.specs.{declared.{place.Place.Place, state.State.State}, Marked.mark_word}
+use Rattle.arachne_core.specs.{declared.state.State.TheVariants.{Claimed, Ready}, ContextTable.{mark_of, is_live_state}}
+use Rattle.arachne_core.specs.World.{World, IsContext, IsPlace, core_of, id_of, with_at, with_thread, Allowed, after}
+use Rattle.arachne_core.proofs.{Changes.{with_at-same, with_at-other}, KeepsOwnedOnce.keeps_owned_once}
 use Rattle.arachne_core.specs.declared.event.Event.TheVariants as event
 use Rattle.arachne_core.specs.declared.mark.Mark.TheVariants as mark
-use Rattle.arachne_core.specs.Marked.{mark_word}
-use Rattle.arachne_core.specs.World.{World, IsContext, IsPlace, core_of, id_of, with_at, with_thread, Allowed, after}
-use Rattle.arachne_core.specs.ContextTable.{mark_of, is_live_state}
-use Rattle.arachne_core.proofs.Changes.{with_at-same, with_at-other}
-use Rattle.arachne_core.proofs.KeepsOwnedOnce.{keeps_owned_once}
 use Rattle.arachne_weights.specs.Tokens.{held}
-use Rattle.arachne_rule.specs.declared.view.Carried.{Carried}
-use Rattle.arachne_rule.specs.declared.view.Known.{Known}
-use Rattle.arachne_rule.specs.Views.{carried_at, without}
+use Rattle.arachne_rule.proofs.{Carrying.{without-at, without-else, known-there}, Views.{given-more, ended-same}}
+use Rattle.arachne_rule.{proofs.Marking.{Small, small, marking, claimed-carried, not-claimed}, specs.Changes.posted}
 use Rattle.arachne_rule.specs.Rule.{settled, Coherent, carried_if, carried_of, share_of, HasValue, Board, Phase, Shows}
-use Rattle.arachne_rule.specs.Changes.{posted}
-use Rattle.arachne_rule.proofs.Carrying.{without-at, without-else, known-there}
-use Rattle.arachne_rule.proofs.Views.{given-more, ended-same}
-use Rattle.arachne_rule.proofs.Marking.{Small, small, marking, claimed-carried, not-claimed}
+use Rattle.arachne_rule.specs.{Views.{carried_at, without}, declared.view.{Carried.Carried, Known.Known}}
 
 module _ {T : Type 0} (tag_in : T → ℕ) (bits : ℕ) (w : World) (d : ℕ → Phase) (b : Board T) (s : Shows tag_in bits w d b)
     (h weight : ℕ) (k : Known) (mine : get_elem? b.views h ≡ opt.some (held weight k)) where

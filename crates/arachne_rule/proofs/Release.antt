@@ -3,28 +3,19 @@ use Rattle.std.proofs.Common.{◌%◌, ◌≡◌, ℕ, ◌+◌, ◌-◌, ◌<◌
 use Rattle.std.proofs.lemmas.Bool.{cases_eq, false_from_ne_true}
 use mathlib.Core.Option as opt
 use lib.ListN.{get_elem?}
-use Rattle.arachne_core.specs.declared.layout.TheConstants.{MASK_BITS}
-use Rattle.arachne_core.specs.declared.place.Place.{Place}
-use Rattle.arachne_core.specs.declared.state.State.{State}
-use Rattle.arachne_core.specs.declared.state.State.TheVariants.{Free, Claimed}
-use Rattle.arachne_core.specs.declared.event.Event.TheVariants as event
+use Rattle.arachne_core.specs.declared.{layout.TheConstants.MASK_BITS, place.Place.Place, state.State.State}
+use Rattle.arachne_core.specs.{declared.state.State.TheVariants.{Free, Claimed}, Marked.mark_word, OwnedOnce.OwnedOnce}
 use Rattle.arachne_core.specs.Occupancy.{bit, Occupancy, occupancy_of, IsOccupancyWord, HasOneMore}
-use Rattle.arachne_core.specs.Marked.{mark_word}
 use Rattle.arachne_core.specs.World.{World, IsContext, core_of, with_at, with_place, Allowed, after}
-use Rattle.arachne_core.specs.OwnedOnce.{OwnedOnce}
-use Rattle.arachne_core.specs.ContextTable.{mark_of, is_live_state}
+use Rattle.arachne_core.{specs.ContextTable.{mark_of, is_live_state}, proofs.KeepsOwnedOnce.keeps_owned_once}
 use Rattle.arachne_core.proofs.Changes.{with_at-same, with_at-other, with_place-same, with_place-other}
-use Rattle.arachne_core.proofs.KeepsOwnedOnce.{keeps_owned_once}
 use Rattle.arachne_core.proofs.OccupancyWords.{one_less, mask_of-clear, count_of-clear, has_one_less, not_exclusive}
+use Rattle.arachne_core.specs.declared.event.Event.TheVariants as event
 use Rattle.arachne_weights.specs.Tokens.{held}
-use Rattle.arachne_rule.specs.declared.view.Carried.{Carried}
-use Rattle.arachne_rule.specs.declared.view.Known.{Known}
-use Rattle.arachne_rule.specs.Views.{carried_at, without, without_context}
+use Rattle.arachne_rule.specs.{declared.view.{Carried.Carried, Known.Known}, Changes.{index_sum, release_sum}}
+use Rattle.arachne_rule.{specs.Views.{carried_at, without, without_context}, proofs.Shares.my-share}
 use Rattle.arachne_rule.specs.Rule.{Coherent, carried_if, carried_of, HasValue, Board, Phase, ShowsWord, Shows}
-use Rattle.arachne_rule.specs.Changes.{index_sum, release_sum}
-use Rattle.arachne_rule.proofs.Shares.{my-share}
-use Rattle.arachne_rule.proofs.Carrying.{without-at, without-else}
-use Rattle.arachne_rule.proofs.Marking.{claimed-carried, not-claimed}
+use Rattle.arachne_rule.proofs.{Carrying.{without-at, without-else}, Marking.{claimed-carried, not-claimed}}
 use Rattle.arachne_rule.proofs.Occupying.{occupying_world, occupying}
 
 pub not-free : (s : State) (h : ℕ) → s ≡ Claimed h → s ≡ Free → ⊥

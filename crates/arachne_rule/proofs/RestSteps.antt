@@ -12,30 +12,16 @@ use Rattle.arachne_core.specs.declared.state.Rest.TheVariants as put
 use Rattle.arachne_core.specs.declared.event.Event.TheVariants as event
 use Rattle.arachne_core.specs.declared.mark.Mark.TheVariants as mark
 use Rattle.arachne_core.specs.Marked.{Marked, mark_word, marked_of}
-use Rattle.arachne_core.specs.World.{IsContext, IsHeldBy, with_at, after, Allowed}
-use Rattle.arachne_core.specs.declared.event.Event.{Event}
-use Rattle.arachne_weights.specs.declared.token.Token.{Token}
-use Rattle.arachne_weights.specs.Tokens.{held}
-use Rattle.arachne_rule.specs.declared.view.Carried.{Carried}
-use Rattle.arachne_rule.specs.declared.view.Known.{Known}
-use Rattle.arachne_rule.specs.declared.view.Shape.{Shape}
-use Rattle.arachne_rule.specs.declared.view.Kind.{Kind}
+use Rattle.arachne_core.specs.{World.{IsContext, IsHeldBy, with_at, after, Allowed}, declared.event.Event.Event}
+use Rattle.arachne_weights.specs.{declared.token.Token.Token, Tokens.held}
+use Rattle.arachne_rule.specs.declared.view.{Carried.Carried, Known.Known, Shape.Shape, Kind.Kind}
 use Rattle.arachne_rule.specs.declared.view.Kind.TheVariants as kind
-use Rattle.arachne_rule.specs.Views.{without_context, noted}
-use Rattle.arachne_rule.specs.Rule.{Board, Shows}
-use Rattle.arachne_rule.specs.Changes.{marked_as}
-use Rattle.arachne_rule.specs.Layout.{contexts_in, board_of}
-use Rattle.arachne_rule.specs.History.{IsExchange, IsMarkOf, EventOf, Makes}
-use Rattle.arachne_rule.specs.Table.{Table, Mine, Holds}
-use Rattle.arachne_rule.specs.Plays.{Carries, IsLive, RestsReady, RestsBlocked, Wakes}
-use Rattle.arachne_rule.proofs.LookSteps.{mark-packed}
-use Rattle.arachne_rule.proofs.Resting.{rest_ready, rest_blocked}
-use Rattle.arachne_rule.proofs.Waking.{wake_blocked, wake_held}
-use Rattle.arachne_rule.proofs.Seen.{waiting-shown}
-use Rattle.arachne_rule.proofs.Boards.{home-set}
-use Rattle.arachne_rule.proofs.Histories.{entry}
-use Rattle.arachne_rule.proofs.Stepping.{sees, for-seat}
-use Rattle.arachne_rule.proofs.OwnWords.{same-carried, says-carried}
+use Rattle.arachne_rule.specs.{Views.{without_context, noted}, Rule.{Board, Shows}, Changes.marked_as}
+use Rattle.arachne_rule.specs.{Layout.{contexts_in, board_of}, History.{IsExchange, IsMarkOf, EventOf, Makes}}
+use Rattle.arachne_rule.specs.{Table.{Table, Mine, Holds}, Plays.{Carries, IsLive, RestsReady, RestsBlocked, Wakes}}
+use Rattle.arachne_rule.proofs.{LookSteps.mark-packed, Resting.{rest_ready, rest_blocked}}
+use Rattle.arachne_rule.proofs.{Waking.{wake_blocked, wake_held}, Seen.waiting-shown, Boards.home-set, Histories.entry}
+use Rattle.arachne_rule.proofs.{Stepping.{sees, for-seat}, OwnWords.{same-carried, says-carried}}
 use Rattle.arachne_rule.proofs.ThreadSteps.{is-context, mark-event, held-stands}
 
 module _ {T : Type 0} (tag_in : T → ℕ) (bits : ℕ) (shape : Shape) where

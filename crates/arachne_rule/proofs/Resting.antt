@@ -1,31 +1,21 @@
 -- A thread is put back.
 use Rattle.std.proofs.Common.{◌≡◌, ℕ, Bool, true, false, ◌&&◌, ◌∷◌, refl, sym, ap, ◌∙◌, subst, set, []}
+use Rattle.std.specs.declared.option.Option.TheVariants.{Some}
 use mathlib.Core.Option as opt
 use lib.ListN.{get_elem?}
-use Rattle.std.specs.declared.option.Option.TheVariants.{Some}
-use Rattle.arachne_core.specs.declared.place.Place.{Place}
-use Rattle.arachne_core.specs.declared.state.State.{State}
+use Rattle.arachne_core.proofs.{Changes.{with_at-same, with_at-other}, KeepsOwnedOnce.keeps_owned_once}
+use Rattle.arachne_core.specs.{ContextTable.{mark_of, is_live_state}, Marked.{Marked, mark_word, marked_of}}
+use Rattle.arachne_core.specs.World.{World, IsContext, IsPlace, IsHeldBy, core_of, with_at, put_back, Allowed, after}
+use Rattle.arachne_core.specs.declared.{mark.Mark.Mark, place.Place.Place, state.{Rest.Rest, State.State}}
 use Rattle.arachne_core.specs.declared.state.State.TheVariants.{Ready, Blocked, Held}
-use Rattle.arachne_core.specs.declared.state.Rest.{Rest}
 use Rattle.arachne_core.specs.declared.state.Rest.TheVariants as rest
 use Rattle.arachne_core.specs.declared.event.Event.TheVariants as event
-use Rattle.arachne_core.specs.declared.mark.Mark.{Mark}
 use Rattle.arachne_core.specs.declared.mark.Mark.TheVariants as mark
-use Rattle.arachne_core.specs.Marked.{Marked, mark_word, marked_of}
-use Rattle.arachne_core.specs.World.{World, IsContext, IsPlace, IsHeldBy, core_of, with_at, put_back, Allowed, after}
-use Rattle.arachne_core.specs.ContextTable.{mark_of, is_live_state}
-use Rattle.arachne_core.proofs.Changes.{with_at-same, with_at-other}
-use Rattle.arachne_core.proofs.KeepsOwnedOnce.{keeps_owned_once}
 use Rattle.arachne_weights.specs.Tokens.{held}
-use Rattle.arachne_rule.specs.declared.view.Carried.{Carried}
-use Rattle.arachne_rule.specs.declared.view.Known.{Known}
-use Rattle.arachne_rule.specs.Views.{carried_at, without, without_context}
+use Rattle.arachne_rule.{specs.declared.view.{Carried.Carried, Known.Known}, proofs.{Shares.my-share, Seen.seen}}
+use Rattle.arachne_rule.{specs.Views.{carried_at, without, without_context}, proofs.Carrying.{without-at, without-else}}
 use Rattle.arachne_rule.specs.Rule.{Coherent, carried_if, carried_of, HasValue, Board, Phase, Shows}
-use Rattle.arachne_rule.proofs.Shares.{my-share}
-use Rattle.arachne_rule.proofs.Carrying.{without-at, without-else}
-use Rattle.arachne_rule.proofs.Views.{given-same, ended-same}
-use Rattle.arachne_rule.proofs.Marking.{Small, small, marking, held-carried, not-held}
-use Rattle.arachne_rule.proofs.Seen.{seen}
+use Rattle.arachne_rule.proofs.{Views.{given-same, ended-same}, Marking.{Small, small, marking, held-carried, not-held}}
 
 -- a held context whose mark is HELD wasn't woken
 not-woken : (h : ℕ) (q : Bool) (t : ℕ) → mark_of (Held h q t) ≡ mark.Held → q ≡ false

@@ -1,28 +1,20 @@
 -- The end of a thread below the last generation.
 use Rattle.std.proofs.Common.{◌≡◌, ℕ, ◌+◌, ◌<◌, Bool, true, false, cond, ltb, ◌&&◌, ◌∷◌, refl, sym, ap, ◌∙◌, subst, arith, set, []}
-use Rattle.std.proofs.lemmas.Bool.{cond-true, lt-ltb}
+use Rattle.std.{proofs.lemmas.Bool.{cond-true, lt-ltb}, specs.declared.option.Option.TheVariants.None}
 use mathlib.Core.Option as opt
 use lib.ListN.{get_elem?}
-use Rattle.std.specs.declared.option.Option.TheVariants.{None}
-use Rattle.arachne_core.specs.declared.place.Place.{Place}
-use Rattle.arachne_core.specs.declared.state.State.{State}
-use Rattle.arachne_core.specs.declared.state.State.TheVariants.{Claimed, Held, Spent}
+use Rattle.arachne_core.specs.declared.{place.Place.Place, state.State.State}
+use Rattle.arachne_core.specs.{declared.state.State.TheVariants.{Claimed, Held, Spent}, Marked.{Marked, mark_word}}
+use Rattle.arachne_core.specs.World.{World, Thread, IsContext, IsPlace, IsHeldBy, core_of, id_of, with_at, tag_of, Allowed, after}
+use Rattle.arachne_core.{specs.ContextTable.{mark_of, is_live_state}, proofs.Changes.{with_at-same, with_at-other}}
+use Rattle.arachne_core.proofs.KeepsOwnedOnce.{keeps_owned_once}
 use Rattle.arachne_core.specs.declared.event.Event.TheVariants as event
 use Rattle.arachne_core.specs.declared.mark.Mark.TheVariants as mark
-use Rattle.arachne_core.specs.Marked.{Marked, mark_word}
-use Rattle.arachne_core.specs.World.{World, Thread, IsContext, IsPlace, IsHeldBy, core_of, id_of, with_at, tag_of, Allowed, after}
-use Rattle.arachne_core.specs.ContextTable.{mark_of, is_live_state}
-use Rattle.arachne_core.proofs.Changes.{with_at-same, with_at-other}
-use Rattle.arachne_core.proofs.KeepsOwnedOnce.{keeps_owned_once}
 use Rattle.arachne_weights.specs.Tokens.{held}
-use Rattle.arachne_rule.specs.declared.view.Carried.{Carried}
-use Rattle.arachne_rule.specs.declared.view.Known.{Known}
-use Rattle.arachne_rule.specs.Views.{carried_at}
+use Rattle.arachne_rule.specs.{declared.view.{Carried.Carried, Known.Known}, Views.carried_at}
 use Rattle.arachne_rule.specs.Rule.{settled, Coherent, carried_if, carried_of, HasValue, Board, Phase, Shows}
-use Rattle.arachne_rule.specs.Changes.{claimed_again, retired, marked_free}
-use Rattle.arachne_rule.proofs.Shares.{my-share}
-use Rattle.arachne_rule.proofs.Carrying.{with-at, with-else}
-use Rattle.arachne_rule.proofs.Views.{given-same, ended-more}
+use Rattle.arachne_rule.{specs.Changes.{claimed_again, retired, marked_free}, proofs.Shares.my-share}
+use Rattle.arachne_rule.proofs.{Carrying.{with-at, with-else}, Views.{given-same, ended-more}}
 use Rattle.arachne_rule.proofs.Marking.{Small, marking, held-carried, mine-claimed, not-claimed, not-held}
 
 module _ {T : Type 0} (tag_in : T → ℕ) (bits : ℕ) (w : World) (d : ℕ → Phase) (b : Board T) (s : Shows tag_in bits w d b)

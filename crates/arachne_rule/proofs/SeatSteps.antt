@@ -3,17 +3,11 @@ use Rattle.std.proofs.Common.{◌≡◌, ℕ, zero, suc, ◌+◌, ◌≤◌, ◌
 use Rattle.std.proofs.lemmas.Bool.{true≢false, cond-false, ne_eqb}
 use mathlib.Core.Option.{some, some-injective, some-ne-none}
 use lib.ListN.{get_elem?}
-use Rattle.atomic_table.specs.Table.{Splits, Joins}
-use Rattle.atomic_table.proofs.Lists.{at_set, set_else}
-use Rattle.arachne_weights.specs.declared.token.Token.{Token}
-use Rattle.arachne_weights.specs.Tokens.{held, spent}
-use Rattle.arachne_rule.specs.declared.view.Known.{Known}
-use Rattle.arachne_rule.specs.declared.view.Shape.{Shape}
-use Rattle.arachne_rule.specs.Views.{blank, first_seat, second_seat, joined_seat}
-use Rattle.arachne_rule.specs.Layout.{contexts_in, board_of}
+use Rattle.atomic_table.{specs.Table.{Splits, Joins}, proofs.Lists.{at_set, set_else}}
+use Rattle.arachne_weights.specs.{declared.token.Token.Token, Tokens.{held, spent}}
+use Rattle.arachne_rule.specs.{declared.view.{Known.Known, Shape.Shape}, Layout.{contexts_in, board_of}, Table.Holds}
+use Rattle.arachne_rule.{specs.Views.{blank, first_seat, second_seat, joined_seat}, proofs.Joining.{split, join}}
 use Rattle.arachne_rule.specs.History.{records_of, AreOfSeats, Entry}
-use Rattle.arachne_rule.specs.Table.{Holds}
-use Rattle.arachne_rule.proofs.Joining.{split, join}
 
 snoc-at : {A : Type 0} (l : List A) (a b : A) (j : ℕ) → get_elem? (l ++ a ∷ []) j ≡ some b → (get_elem? l j ≡ some b) ⊎ ((j ≡ length l) × (a ≡ b))
 snoc-at [] a b zero e = inr (refl, some-injective a b e)

@@ -1,35 +1,22 @@
 -- The meaning of a mark word that was seen, in the World.
 use Rattle.std.proofs.Common.{◌≡◌, ℕ, true, false, refl, sym, ap, ◌∙◌, arith}
-use Rattle.arachne_core.specs.declared.place.Place.{Place}
-use Rattle.arachne_core.specs.declared.state.State.{State}
-use Rattle.arachne_core.specs.declared.state.State.TheVariants.{Free, Claimed, Ready, Blocked, Held, Spent}
-use Rattle.arachne_core.specs.declared.mark.Mark.TheVariants as mark
-use Rattle.arachne_core.specs.Marked.{mark_word, marked_of}
+use Rattle.arachne_core.{proofs.{Changes.with_at-same, MarkWords.marked_of-mark_word}, specs.declared.place.Place.Place}
+use Rattle.arachne_core.specs.{ContextTable.{mark_of, is_live_state, marked}, Marked.{mark_word, marked_of}}
 use Rattle.arachne_core.specs.World.{World, IsContext, IsAtRest, IsReady, IsHeldBy, CanBeWoken, with_at, taken}
-use Rattle.arachne_core.specs.ContextTable.{mark_of, is_live_state, marked}
-use Rattle.arachne_core.proofs.Changes.{with_at-same}
-use Rattle.arachne_core.proofs.MarkWords.{marked_of-mark_word}
-use Rattle.arachne_rule.specs.Rule.{Coherent, Board, Phase, Shows}
-use Rattle.arachne_rule.specs.History.{IsMarkOf}
-use Rattle.arachne_rule.specs.Plays.{IsRestMark}
+use Rattle.arachne_core.specs.declared.state.State.{State, TheVariants.{Free, Claimed, Ready, Blocked, Held}}
+use Rattle.arachne_core.specs.declared.mark.Mark.TheVariants as mark
+use Rattle.arachne_rule.specs.{Rule.{Coherent, Board, Phase, Shows}, History.IsMarkOf, Plays.IsRestMark}
 
 pub ready-mark : (s : State) → mark_of s ≡ mark.Ready → (t : ℕ) × (s ≡ Ready t)
-ready-mark Free e = absurd cc
-ready-mark (Claimed h) e = absurd cc
 ready-mark (Ready t) e = (t, refl)
-ready-mark (Blocked t) e = absurd cc
 ready-mark (Held h true t) e = absurd cc
-ready-mark (Held h false t) e = absurd cc
-ready-mark Spent e = absurd cc
+ready-mark _ e = absurd cc
 
 pub rest-mark : (s : State) → IsRestMark (mark_of s) → IsAtRest s
-rest-mark Free e = absurd e
-rest-mark (Claimed h) e = absurd e
 rest-mark (Ready t) e = tt
 rest-mark (Blocked t) e = tt
 rest-mark (Held h true t) e = absurd e
-rest-mark (Held h false t) e = absurd e
-rest-mark Spent e = absurd e
+rest-mark _ e = absurd e
 
 pub rest-live : (s : State) → IsAtRest s → is_live_state s ≡ true
 rest-live (Ready t) e = refl
@@ -51,10 +38,8 @@ coherent-rest s p a r c = absurd r
 pub named-shown : (s : State) (p : Place) (a : Phase) → Coherent s p a → a.named ≡ true → a.shown ≡ p
 named-shown Free p a c n = c.2
 named-shown (Claimed h) p a c n = c n
-named-shown (Ready t) p a c n = c.1
-named-shown (Blocked t) p a c n = c.1
 named-shown (Held h w t) p a c n = c
-named-shown Spent p a c n = c.1
+named-shown _ p a c n = c.1
 
 pub held-shown : (s : State) (p : Place) (a : Phase) (h : ℕ) → Coherent s p a → IsHeldBy h s → a.shown ≡ p
 held-shown (Held k w t) p a h c e = c

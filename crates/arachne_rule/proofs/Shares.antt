@@ -4,11 +4,8 @@ use mathlib.Core.Option.{some}
 use lib.ListN.{get_elem?}
 use Rattle.arachne_core.specs.World.{World, IsContext}
 use Rattle.arachne_weights.specs.Tokens.{held}
-use Rattle.arachne_rule.specs.declared.view.Carried.{Carried}
-use Rattle.arachne_rule.specs.declared.view.Known.{Known}
-use Rattle.arachne_rule.specs.Views.{carried_at}
-use Rattle.arachne_rule.specs.Rule.{share_of, Board, Phase, Shows}
-use Rattle.arachne_rule.proofs.Carrying.{known-there}
+use Rattle.arachne_rule.specs.{declared.view.{Carried.Carried, Known.Known}, Views.carried_at}
+use Rattle.arachne_rule.{specs.Rule.{share_of, Board, Phase, Shows}, proofs.Carrying.known-there}
 
 module _ {T : Type 0} (tag_in : T → ℕ) (bits : ℕ) (w : World) (d : ℕ → Phase) (b : Board T) (s : Shows tag_in bits w d b)
     (h weight : ℕ) (k : Known) (mine : get_elem? b.views h ≡ some (held weight k)) where

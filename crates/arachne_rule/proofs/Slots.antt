@@ -1,65 +1,42 @@
 -- The empty slot of a context that is claimed or held is out with its carrier, which has learned the place word.
 use Rattle.std.proofs.Common.{◌≡◌, ℕ, Bool, true, false, eqb, Option, ◌∷◌, refl, sym, ap, ◌∙◌, subst, set, []}
 use Rattle.std.proofs.lemmas.Bool.{eqb-true, ne_eqb, true≢false, cond-true, cond-false}
+use Rattle.std.specs.declared.option.Option.TheVariants.{None}
 use mathlib.Core.Option as opt
 use lib.ListN.{get_elem?}
-use Rattle.std.specs.declared.option.Option.TheVariants.{None}
-use Rattle.arachne_core.specs.declared.place.Place.{Place}
-use Rattle.arachne_core.specs.declared.state.State.{State}
-use Rattle.arachne_core.specs.declared.state.State.TheVariants.{Free, Claimed, Ready, Blocked, Held, Spent}
-use Rattle.arachne_core.specs.Marked.{mark_word}
-use Rattle.arachne_core.specs.World.{World, IsContext, IsPlace, with_at}
-use Rattle.arachne_core.specs.ContextTable.{marked}
-use Rattle.arachne_core.proofs.Changes.{with_at-same, with_at-other}
+use Rattle.arachne_core.{proofs.Changes.{with_at-same, with_at-other}, specs.{ContextTable.marked, Marked.mark_word}}
+use Rattle.arachne_core.specs.{World.{World, IsContext, IsPlace, with_at}, declared.place.Place.Place}
+use Rattle.arachne_core.specs.declared.state.State.{State, TheVariants.{Claimed, Ready, Blocked, Held}}
 use Rattle.arachne_weights.specs.Tokens.{held}
-use Rattle.arachne_rule.specs.declared.view.Carried.{Carried}
-use Rattle.arachne_rule.specs.declared.view.Known.{Known}
-use Rattle.arachne_rule.specs.Views.{carried_at, with_context}
+use Rattle.arachne_rule.specs.{declared.view.{Carried.Carried, Known.Known}, Views.{carried_at, with_context}}
 use Rattle.arachne_rule.specs.Rule.{Coherent, carried_if, carried_of, HasValue, Board, Phase, Shows}
-use Rattle.arachne_rule.proofs.Carrying.{with-at, with-else, known-there}
-use Rattle.arachne_rule.proofs.Views.{given-same, ended-same}
-use Rattle.arachne_rule.proofs.Marking.{Small, marking}
-use Rattle.arachne_rule.proofs.Marking.{carried-of-held, no-carried}
+use Rattle.arachne_rule.proofs.{Carrying.{with-at, with-else, known-there}, Views.{given-same, ended-same}}
+use Rattle.arachne_rule.proofs.Marking.{Small, marking, carried-of-held}
 
 carried-again : (s : State) (h : ℕ) (f f' : Bool → ℕ → Carried) (g g' : Carried) → carried_if s h f ≡ g ∷ [] → ((q : Bool) (t : ℕ) → g ≡ f q t → g' ≡ f' q t) → carried_if s h f' ≡ g' ∷ []
 carried-again (Claimed k) h f f' g g' e up = let r = carried-of-held (eqb k h) (f false 0) g e in cond-true (eqb k h) (f' false 0 ∷ []) [] r.0 ∙ ap (λ (u : Carried). u ∷ []) (sym (up false 0 r.1))
 carried-again (Held k w t) h f f' g g' e up = let r = carried-of-held (eqb k h) (f true t) g e in cond-true (eqb k h) (f' true t ∷ []) [] r.0 ∙ ap (λ (u : Carried). u ∷ []) (sym (up true t r.1))
-carried-again Free h f f' g g' e up = absurd (no-carried g (sym e))
-carried-again (Ready t) h f f' g g' e up = absurd (no-carried g (sym e))
-carried-again (Blocked t) h f f' g g' e up = absurd (no-carried g (sym e))
-carried-again Spent h f f' g g' e up = absurd (no-carried g (sym e))
+carried-again _ h f f' g g' e up = cc
 
 pub carried-says : {A : Type 0} (s : State) (h : ℕ) (f : Bool → ℕ → Carried) (field : Carried → A) (g : Carried) (v : A) → carried_if s h f ≡ g ∷ [] → ((q : Bool) (t : ℕ) → field (f q t) ≡ v) → field g ≡ v
 carried-says (Claimed k) h f field g v e all = ap field (carried-of-held (eqb k h) (f false 0) g e).1 ∙ all false 0
 carried-says (Held k w t) h f field g v e all = ap field (carried-of-held (eqb k h) (f true t) g e).1 ∙ all true t
-carried-says Free h f field g v e all = absurd (no-carried g (sym e))
-carried-says (Ready t) h f field g v e all = absurd (no-carried g (sym e))
-carried-says (Blocked t) h f field g v e all = absurd (no-carried g (sym e))
-carried-says Spent h f field g v e all = absurd (no-carried g (sym e))
+carried-says _ h f field g v e all = cc
 
 pub carried-alone : (s : State) (h j : ℕ) (f f' : Bool → ℕ → Carried) (g : Carried) → carried_if s h f ≡ g ∷ [] → (j ≡ h → ⊥) → carried_if s j f' ≡ []
 carried-alone (Claimed k) h j f f' g e n = let r = carried-of-held (eqb k h) (f false 0) g e in cond-false (eqb k j) (f' false 0 ∷ []) [] (ne_eqb k j (λ u. n (sym u ∙ eqb-true k h r.0)))
 carried-alone (Held k w t) h j f f' g e n = let r = carried-of-held (eqb k h) (f true t) g e in cond-false (eqb k j) (f' true t ∷ []) [] (ne_eqb k j (λ u. n (sym u ∙ eqb-true k h r.0)))
-carried-alone Free h j f f' g e n = refl
-carried-alone (Ready t) h j f f' g e n = refl
-carried-alone (Blocked t) h j f f' g e n = refl
-carried-alone Spent h j f f' g e n = refl
+carried-alone _ h j f f' g e n = refl
 
 pub carried-empty : {T : Type 0} (tag_in : T → ℕ) (s : State) (h : ℕ) (f : Bool → ℕ → Carried) (g : Carried) (z : opt.Option (opt.Option (Option T))) → carried_if s h f ≡ g ∷ [] → HasValue tag_in s z → z ≡ opt.some (opt.some None)
-carried-empty tag_in (Claimed k) h f g z e v = v
-carried-empty tag_in (Held k w t) h f g z e v = v
-carried-empty tag_in Free h f g z e v = v
-carried-empty tag_in Spent h f g z e v = v
-carried-empty tag_in (Ready t) h f g z e v = absurd (no-carried g (sym e))
-carried-empty tag_in (Blocked t) h f g z e v = absurd (no-carried g (sym e))
+carried-empty tag_in (Ready t) h f g z e v = cc
+carried-empty tag_in (Blocked t) h f g z e v = cc
+carried-empty tag_in _ h f g z e v = v
 
 carried-coherent : (s : State) (p : Place) (a : Phase) (h : ℕ) (f : Bool → ℕ → Carried) (g : Carried) (q : Bool) → carried_if s h f ≡ g ∷ [] → Coherent s p a → Coherent s p (record a { away = q })
 carried-coherent (Claimed k) p a h f g q e c = c
 carried-coherent (Held k w t) p a h f g q e c = c
-carried-coherent Free p a h f g q e c = absurd (no-carried g (sym e))
-carried-coherent (Ready t) p a h f g q e c = absurd (no-carried g (sym e))
-carried-coherent (Blocked t) p a h f g q e c = absurd (no-carried g (sym e))
-carried-coherent Spent p a h f g q e c = absurd (no-carried g (sym e))
+carried-coherent _ p a h f g q e c = cc
 
 module _ {T : Type 0} (tag_in : T → ℕ) (bits : ℕ) (w : World) (d : ℕ → Phase) (b : Board T) (s : Shows tag_in bits w d b)
     (h weight : ℕ) (k : Known) (mine : get_elem? b.views h ≡ opt.some (held weight k)) where

@@ -1,36 +1,19 @@
 -- The table after one step, if the rule holds before it: from the World after the step, and its words, to the rule.
-use Rattle.std.proofs.Common.{◌≡◌, ℕ, zero, suc, ◌<◌, ◌≤◌, List, [], ◌∷◌, length, length-set, refl, sym, ap, ◌∙◌, subst, set, get_or, Option}
-use Rattle.std.proofs.lemmas.List.{set-get_or}
+use Rattle.std.proofs.Common.{◌≡◌, ℕ, ◌<◌, ◌≤◌, List, ◌∷◌, length, length-set, refl, sym, ◌∙◌, subst, set, get_or, Option}
+use Rattle.std.proofs.lemmas.List.{set-get_or, set-set}
 use mathlib.Core.Option as opt
 use mathlib.Core.Option.{some}
 use lib.ListN.{get_elem?}
-use Rattle.atomic_table.specs.Table.{Act, keeps, stepped, homes_after}
-use Rattle.atomic_table.proofs.Lists.{set_here}
-use Rattle.arachne_core.specs.declared.layout.TheConstants.{SLOTS}
-use Rattle.arachne_core.specs.declared.place.Place.{Place}
-use Rattle.arachne_core.specs.declared.event.Event.{Event}
-use Rattle.arachne_core.specs.declared.event.Event.TheVariants as event
+use Rattle.atomic_table.{specs.Table.{Act, keeps, stepped, homes_after}, proofs.Lists.set_here}
+use Rattle.arachne_core.specs.declared.{layout.TheConstants.SLOTS, place.Place.Place, event.Event.Event}
 use Rattle.arachne_core.specs.World.{World, Allowed, after, with_at}
-use Rattle.arachne_weights.specs.declared.token.Token.{Token}
-use Rattle.arachne_weights.specs.Tokens.{held}
-use Rattle.arachne_rule.specs.declared.view.Known.{Known}
-use Rattle.arachne_rule.specs.declared.view.Shape.{Shape}
-use Rattle.arachne_rule.specs.declared.view.Kind.{Kind}
-use Rattle.arachne_rule.specs.Views.{noted}
-use Rattle.arachne_rule.specs.Rule.{Board, Phase, Shows}
-use Rattle.arachne_rule.specs.Changes.{with_name}
-use Rattle.arachne_rule.specs.Layout.{contexts_in, occ_index, name_index, board_of}
-use Rattle.arachne_rule.specs.History.{Makes}
-use Rattle.arachne_rule.specs.Table.{Table, Mine, Holds}
-use Rattle.arachne_rule.specs.Plays.{IsLive}
-use Rattle.arachne_rule.proofs.Noted.{noted_board}
+use Rattle.arachne_core.specs.declared.event.Event.TheVariants as event
+use Rattle.arachne_weights.specs.{declared.token.Token.Token, Tokens.held}
 use Rattle.arachne_rule.proofs.Boards.{IsIn, same_board, core-steps, mark-steps, name-steps}
-use Rattle.arachne_rule.proofs.Histories.{same_size, there-in, entry, tells-more}
-
-set-set : {A : Type 0} (xs : List A) (i : ℕ) (u v : A) → set (set xs i u) i v ≡ set xs i v
-set-set [] i u v = refl
-set-set (x ∷ xs) zero u v = refl
-set-set (x ∷ xs) (suc i) u v = ap (λ ys. x ∷ ys) (set-set xs i u v)
+use Rattle.arachne_rule.proofs.{Histories.{same_size, there-in, entry, tells-more}, Noted.noted_board}
+use Rattle.arachne_rule.specs.{Changes.with_name, History.Makes, Layout.{contexts_in, occ_index, name_index, board_of}}
+use Rattle.arachne_rule.specs.{Plays.IsLive, Rule.{Board, Phase, Shows}, Table.{Table, Mine, Holds}, Views.noted}
+use Rattle.arachne_rule.specs.declared.view.{Kind.Kind, Known.Known, Shape.Shape}
 
 module _ {T : Type 0} (tag_in : T → ℕ) (bits : ℕ) (shape : Shape) (s : Table T) (hs : Holds tag_in bits shape s)
     (id weight : ℕ) (k : Known) (mine : get_elem? s.views id ≡ some (held weight k)) where

@@ -1,29 +1,21 @@
 -- A take.
-use Rattle.std.proofs.Common.{◌≡◌, ℕ, Bool, true, false, ◌&&◌, ◌∷◌, refl, sym, ap, ◌∙◌, subst, set, []}
-use Rattle.std.proofs.lemmas.Bool.{true≢false}
+use Rattle.std.proofs.Common.{◌≡◌, ℕ, Bool, true, false, ◌&&◌, ◌∷◌, refl, sym, ap, ◌∙◌, subst, set, [], true≢false}
 use mathlib.Core.Option as opt
 use lib.ListN.{get_elem?}
 use Rattle.std.specs.declared.option.Option.TheVariants.{Some}
-use Rattle.arachne_core.specs.declared.place.Place.{Place}
-use Rattle.arachne_core.specs.declared.state.State.{State}
-use Rattle.arachne_core.specs.declared.state.State.TheVariants.{Ready, Held}
+use Rattle.arachne_core.specs.declared.{place.Place.Place, state.State.State, state.State.TheVariants.{Ready, Held}}
 use Rattle.arachne_core.specs.declared.event.Event.TheVariants as event
 use Rattle.arachne_core.specs.declared.mark.Mark.TheVariants as mark
 use Rattle.arachne_core.specs.Marked.{Marked, mark_word, marked_of}
 use Rattle.arachne_core.specs.World.{World, IsContext, IsPlace, IsReady, core_of, with_at, taken, Allowed, after}
 use Rattle.arachne_core.specs.ContextTable.{mark_of, is_live_state, marked}
-use Rattle.arachne_core.proofs.Changes.{with_at-same, with_at-other}
-use Rattle.arachne_core.proofs.KeepsOwnedOnce.{keeps_owned_once}
+use Rattle.arachne_core.proofs.{Changes.{with_at-same, with_at-other}, KeepsOwnedOnce.keeps_owned_once}
 use Rattle.arachne_weights.specs.Tokens.{held}
-use Rattle.arachne_rule.specs.declared.view.Carried.{Carried}
-use Rattle.arachne_rule.specs.declared.view.Known.{Known}
-use Rattle.arachne_rule.specs.Views.{with_context}
+use Rattle.arachne_rule.specs.{declared.view.Carried.Carried, declared.view.Known.Known, Views.with_context}
 use Rattle.arachne_rule.specs.Rule.{Coherent, carried_if, carried_of, HasValue, Board, Phase, Shows}
 use Rattle.arachne_rule.specs.Changes.{taken_context, taken_phase}
-use Rattle.arachne_rule.proofs.Carrying.{with-at, with-else}
-use Rattle.arachne_rule.proofs.Views.{given-same, ended-same}
-use Rattle.arachne_rule.proofs.Marking.{Small, small, marking, mine-held, not-held}
-use Rattle.arachne_rule.proofs.Seen.{seen, ready-mark}
+use Rattle.arachne_rule.proofs.{Carrying.{with-at, with-else}, Views.{given-same, ended-same}}
+use Rattle.arachne_rule.proofs.{Marking.{Small, small, marking, mine-held, not-held}, Seen.{seen, ready-mark}}
 
 ready-carried : (s : State) (t : ℕ) → s ≡ Ready t → (h : ℕ) (f : Bool → ℕ → Carried) → carried_if s h f ≡ []
 ready-carried s t e h f = ap (λ (r : State). carried_if r h f) e

@@ -9,36 +9,22 @@ use lib.ListN.{get_elem?}
 use prog.Atomic.{either}
 use Rattle.atomic_table.specs.Table.{Act, keeps, takes, gives, step, stepped, homes_after, Allows, Valid, carried_after, rest}
 use Rattle.atomic_table.proofs.Lists.{exchanged}
-use Rattle.arachne_core.specs.declared.event.Event.{Event}
-use Rattle.arachne_core.specs.declared.event.Event.TheVariants as event
-use Rattle.arachne_core.specs.declared.mark.Mark.TheVariants as mark
-use Rattle.arachne_core.specs.Marked.{Marked, mark_word, marked_of}
+use Rattle.arachne_core.specs.{declared.event.Event.Event, Marked.{Marked, mark_word, marked_of}}
 use Rattle.arachne_core.specs.World.{World, IsContext, IsHeldBy, Allowed, with_at, taken, after}
 use Rattle.arachne_core.proofs.Changes.{with_at-same, with_at-other}
-use Rattle.arachne_weights.specs.declared.token.Token.{Token}
-use Rattle.arachne_weights.specs.Tokens.{held}
-use Rattle.arachne_rule.specs.declared.view.Carried.{Carried}
-use Rattle.arachne_rule.specs.declared.view.Known.{Known}
-use Rattle.arachne_rule.specs.declared.view.Shape.{Shape}
-use Rattle.arachne_rule.specs.declared.view.Kind.{Kind}
-use Rattle.arachne_rule.specs.declared.view.Kind.TheVariants as kind
-use Rattle.arachne_rule.specs.Views.{with_context, noted}
-use Rattle.arachne_rule.specs.Rule.{settled, Board, Phase, Shows}
+use Rattle.arachne_core.specs.declared.event.Event.TheVariants as event
+use Rattle.arachne_core.specs.declared.mark.Mark.TheVariants as mark
+use Rattle.arachne_weights.specs.{declared.token.Token.Token, Tokens.held}
+use Rattle.arachne_rule.proofs.{Boards.{IsIn, home-set}, Histories.{same_size, entry}, Naming.keep_name, Post.post}
+use Rattle.arachne_rule.proofs.{OwnWords.{same-carried, placed-in, home-empty, not-mine, ready-nobody}, Retire.retire}
+use Rattle.arachne_rule.proofs.{Seen.{named-shown, held-shown, taken-held, is-mark-of}, Spending.spend, Take.take}
+use Rattle.arachne_rule.{proofs.Stepping.{sees, mark-made, name-made, for-seat}, specs.History.{IsMarkOf, Makes}}
 use Rattle.arachne_rule.specs.Changes.{taken_context, claimed_again, posted, retired, spent_known, marked_as, marked_free, marked_spent, taken_phase}
-use Rattle.arachne_rule.specs.Layout.{contexts_in, name_index, board_of}
-use Rattle.arachne_rule.specs.History.{IsMarkOf, Makes}
-use Rattle.arachne_rule.specs.Table.{Table, Mine, Holds}
+use Rattle.arachne_rule.specs.{Layout.{contexts_in, name_index, board_of}, Rule.{settled, Board, Phase, Shows}}
 use Rattle.arachne_rule.specs.Plays.{Carries, IsLive, Posts, Takes, KeepsName, Retires, Spends}
-use Rattle.arachne_rule.proofs.Post.{post}
-use Rattle.arachne_rule.proofs.Take.{take}
-use Rattle.arachne_rule.proofs.Retire.{retire}
-use Rattle.arachne_rule.proofs.Spending.{spend}
-use Rattle.arachne_rule.proofs.Naming.{keep_name}
-use Rattle.arachne_rule.proofs.Seen.{named-shown, held-shown, taken-held, is-mark-of}
-use Rattle.arachne_rule.proofs.Boards.{IsIn, home-set}
-use Rattle.arachne_rule.proofs.Histories.{same_size, entry}
-use Rattle.arachne_rule.proofs.Stepping.{sees, mark-made, name-made, for-seat}
-use Rattle.arachne_rule.proofs.OwnWords.{same-carried, placed-in, home-empty, not-mine, ready-nobody}
+use Rattle.arachne_rule.specs.{Table.{Table, Mine, Holds}, Views.{with_context, noted}, declared.view.Carried.Carried}
+use Rattle.arachne_rule.specs.declared.view.{Kind.Kind, Known.Known, Shape.Shape}
+use Rattle.arachne_rule.specs.declared.view.Kind.TheVariants as kind
 
 abbrev in-slot : {T : Type 0} → T → Option T → T
 in-slot d None = d

@@ -1,19 +1,13 @@
 -- One seat has learned something: the effect on what seats carry, and on totals.
-use Rattle.std.proofs.Common.{◌≡◌, ℕ, ◌+◌, Bool, true, false, cond, List, ◌∷◌, set, sym, ap, ◌∙◌, arith, inl, inr}
-use Rattle.std.specs.Prelude.{count_by}
-use Rattle.std.specs.List.{sum_by}
-use Rattle.std.proofs.lemmas.List.Sums.{sum_by-cons}
+use Rattle.std.proofs.Common.{◌≡◌, ℕ, ◌+◌, Bool, true, false, cond, List, ◌∷◌, set, sym, ap, ◌∙◌, arith, inl, inr, count_by}
+use Rattle.std.{specs.List.sum_by, proofs.lemmas.List.Sums.sum_by-cons}
 use Rattle.std.proofs.lemmas.Bool.{cases_eq, cond-true, cond-false, cases_Bool}
 use mathlib.Core.Option.{some}
 use lib.ListN.{get_elem?}
 use Rattle.arachne_core.specs.World.{Thread, same_thread, with_thread}
-use Rattle.arachne_weights.specs.declared.token.Token.{Token}
-use Rattle.arachne_weights.specs.Tokens.{held}
-use Rattle.arachne_weights.proofs.Totals.{total-set}
-use Rattle.arachne_rule.specs.declared.view.Carried.{Carried}
-use Rattle.arachne_rule.specs.declared.view.Known.{Known}
-use Rattle.arachne_rule.specs.Views.{known_at, carried_at, given_in, ended_in}
-use Rattle.arachne_rule.proofs.Carrying.{known-there, known-set, known-else}
+use Rattle.arachne_weights.{specs.{declared.token.Token.Token, Tokens.held}, proofs.Totals.total-set}
+use Rattle.arachne_rule.{proofs.Carrying.{known-there, known-set, known-else}, specs.declared.view.Known.Known}
+use Rattle.arachne_rule.specs.{Views.{known_at, carried_at, given_in, ended_in}, declared.view.Carried.Carried}
 
 pub more-threads : (t u : Thread) (ts : List Thread) → count_by (same_thread t) (u ∷ ts) ≡ cond (same_thread t u) (count_by (same_thread t) ts + 1) (count_by (same_thread t) ts)
 more-threads t u ts =

@@ -2,46 +2,27 @@
 use Rattle.std.proofs.Common.{◌≡◌, ℕ, Bool, true, false, ◌&&◌, refl, sym, ap, ◌∙◌, subst, set}
 use mathlib.Core.Option as opt
 use lib.ListN.{get_elem?}
-use Rattle.arachne_core.specs.declared.place.Place.{Place}
-use Rattle.arachne_core.specs.declared.state.State.{State}
-use Rattle.arachne_core.specs.declared.state.State.TheVariants.{Free, Claimed, Ready, Blocked, Held, Spent}
+use Rattle.arachne_core.proofs.{Changes.{with_at-same, with_at-other}, KeepsOwnedOnce.keeps_owned_once}
+use Rattle.arachne_core.specs.{ContextTable.{mark_of, is_live_state, marked}, Marked.{Marked, mark_word, marked_of}}
+use Rattle.arachne_core.specs.World.{World, IsContext, core_of, with_at, Allowed, after, CanBeWoken, woken}
+use Rattle.arachne_core.specs.declared.{mark.Mark.Mark, place.Place.Place, state.State.State}
+use Rattle.arachne_core.specs.declared.{state.State.TheVariants.{Ready, Blocked, Held}, thread_id.ThreadId.ThreadId}
 use Rattle.arachne_core.specs.declared.event.Event.TheVariants as event
-use Rattle.arachne_core.specs.declared.mark.Mark.{Mark}
 use Rattle.arachne_core.specs.declared.mark.Mark.TheVariants as mark
-use Rattle.arachne_core.specs.Marked.{Marked, mark_word, marked_of}
-use Rattle.arachne_core.specs.World.{World, IsContext, core_of, with_at, Allowed, after}
-use Rattle.arachne_core.specs.ContextTable.{mark_of, is_live_state, marked}
-use Rattle.arachne_core.proofs.Changes.{with_at-same, with_at-other}
-use Rattle.arachne_core.proofs.KeepsOwnedOnce.{keeps_owned_once}
 use Rattle.arachne_weights.specs.Tokens.{held}
-use Rattle.arachne_rule.specs.declared.view.Carried.{Carried}
-use Rattle.arachne_rule.specs.declared.view.Known.{Known}
-use Rattle.arachne_rule.specs.Views.{carried_at}
+use Rattle.arachne_rule.specs.{declared.view.{Carried.Carried, Known.Known}, Views.carried_at}
 use Rattle.arachne_rule.specs.Rule.{Coherent, carried_if, carried_of, share_of, HasValue, Board, Phase, Shows}
-use Rattle.arachne_rule.proofs.Carrying.{known-there}
-use Rattle.arachne_rule.proofs.Views.{given-same, ended-same}
-use Rattle.arachne_rule.proofs.Marking.{Small, marking}
+use Rattle.arachne_rule.proofs.{Carrying.known-there, Views.{given-same, ended-same}, Marking.{Small, marking}}
 use Rattle.arachne_rule.proofs.Seen.{seen}
-use Rattle.arachne_core.specs.World.{CanBeWoken, woken}
-use Rattle.arachne_core.specs.declared.thread_id.ThreadId.{ThreadId}
 
 pub blocked-mark : (s : State) → mark_of s ≡ mark.Blocked → (t : ℕ) × (s ≡ Blocked t)
-blocked-mark Free e = absurd cc
-blocked-mark (Claimed h) e = absurd cc
-blocked-mark (Ready t) e = absurd cc
 blocked-mark (Blocked t) e = (t, refl)
 blocked-mark (Held h true t) e = absurd cc
-blocked-mark (Held h false t) e = absurd cc
-blocked-mark Spent e = absurd cc
+blocked-mark _ e = absurd cc
 
 pub held-mark : (s : State) → mark_of s ≡ mark.Held → (h t : ℕ) × (s ≡ Held h false t)
-held-mark Free e = absurd cc
-held-mark (Claimed h) e = absurd cc
-held-mark (Ready t) e = absurd cc
-held-mark (Blocked t) e = absurd cc
-held-mark (Held h true t) e = absurd cc
 held-mark (Held h false t) e = (h, t, refl)
-held-mark Spent e = absurd cc
+held-mark _ e = absurd cc
 
 module _ {T : Type 0} (tag_in : T → ℕ) (bits : ℕ) (w : World) (d : ℕ → Phase) (b : Board T) (s : Shows tag_in bits w d b)
     (h weight : ℕ) (k : Known) (mine : get_elem? b.views h ≡ opt.some (held weight k)) where

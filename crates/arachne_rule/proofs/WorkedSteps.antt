@@ -1,17 +1,12 @@
 -- The definitions on worked values.
 use Rattle.std.proofs.Common.{◌≡◌, ℕ, ◌+◌, ◌-◌, ◌^◌, true, false, List, [], ◌∷◌, refl, arith, inl, inr, get_or, replicate, length, Some, None}
-use Rattle.arachne_core.specs.declared.event.Event.{Event}
+use Rattle.arachne_core.specs.{declared.event.Event.Event, Occupancy.flags, Marked.{mark_word, marked_of}}
 use Rattle.arachne_core.specs.declared.event.Event.TheVariants as event
 use Rattle.arachne_core.specs.declared.state.State.TheVariants as state
-use Rattle.arachne_core.specs.Occupancy.{flags}
-use Rattle.arachne_core.specs.Marked.{mark_word, marked_of}
-use Rattle.arachne_rule.specs.declared.view.Shape.{Shape}
-use Rattle.arachne_rule.specs.declared.view.Kind.{Kind}
-use Rattle.arachne_rule.specs.declared.view.Kind.TheVariants as kind
-use Rattle.arachne_rule.specs.Rule.{is_occupied}
+use Rattle.arachne_rule.specs.{declared.view.{Shape.Shape, Kind.Kind}, Rule.is_occupied, Ending.left_from}
 use Rattle.arachne_rule.specs.Changes.{alone_context, taken_context, claimed_again, marked_free, marked_spent, index_sum, release_sum}
 use Rattle.arachne_rule.specs.History.{Makes, opening_world, world_after, words_after, records_of, IsHistory, Entry}
-use Rattle.arachne_rule.specs.Ending.{left_from}
+use Rattle.arachne_rule.specs.declared.view.Kind.TheVariants as kind
 
 -- ---- words
 

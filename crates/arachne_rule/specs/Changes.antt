@@ -1,16 +1,10 @@
 -- The effect of each kind of step on what its seat knows, on the phases, and on the words.
 use Rattle.std.specs.Prelude.{ℕ, ◌+◌, ◌^◌, true, false, if◌then◌else◌, ◌∷◌}
-use Rattle.arachne_core.specs.declared.layout.TheConstants.{MASK_BITS}
-use Rattle.arachne_core.specs.declared.place.Place.{Place}
-use Rattle.arachne_core.specs.declared.mark.Mark.{Mark}
+use Rattle.arachne_core.specs.declared.{layout.TheConstants.MASK_BITS, place.Place.Place, mark.Mark.Mark}
 use Rattle.arachne_core.specs.declared.mark.Mark.TheVariants as mark
-use Rattle.arachne_core.specs.Place.{same_place}
-use Rattle.arachne_core.specs.Marked.{Marked}
-use Rattle.arachne_core.specs.World.{with_at}
-use Rattle.arachne_rule.specs.declared.view.Carried.{Carried}
-use Rattle.arachne_rule.specs.declared.view.Known.{Known}
-use Rattle.arachne_rule.specs.Views.{with_context, without_context, thread_in}
-use Rattle.arachne_rule.specs.Rule.{Phase}
+use Rattle.arachne_core.specs.{Place.same_place, Marked.Marked, World.with_at}
+use Rattle.arachne_rule.specs.declared.view.{Carried.Carried, Known.Known}
+use Rattle.arachne_rule.specs.{Views.{with_context, without_context, thread_in}, Rule.Phase}
 
 -- the map of place words in which p names x
 abbrev pub with_name : (Place → ℕ) → Place → ℕ → Place → ℕ

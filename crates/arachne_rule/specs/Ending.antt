@@ -1,8 +1,6 @@
 -- The threads that are left at the end, when one seat has joined all others into it and carries nothing.
 use Rattle.std.specs.Prelude.{◌≡◌, ℕ, suc, ◌+◌, ◌≤◌, List, [], ◌∷◌, slice_index, map, count_by, Option, Some, None}
-use Rattle.arachne_core.specs.declared.thread_id.ThreadId.{ThreadId}
-use Rattle.arachne_core.specs.Marked.{marked_of}
-use Rattle.arachne_core.specs.World.{Thread, same_thread}
+use Rattle.arachne_core.specs.{declared.thread_id.ThreadId.ThreadId, Marked.marked_of, World.{Thread, same_thread}}
 use Rattle.arachne_rule.specs.declared.view.Known.{Known}
 
 -- the threads whose values are in the slots of the contexts from x on, in order, each with the generation of the mark

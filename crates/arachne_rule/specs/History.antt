@@ -1,19 +1,13 @@
 -- The history of a table: every step on its words so far, the seat that made it, and its event of the World.
 use Rattle.std.specs.Prelude.{◌≡◌, ℕ, ◌+◌, ◌-◌, ◌*◌, ◌<◌, ◌^◌, ◌⊎◌, if◌then◌else◌, ◌==◌, List, [], ◌∷◌, ◌++◌, slice_index, slice_set, bit_and, bit_or, false}
-use Rattle.arachne_core.specs.declared.state.State.TheVariants.{Free}
+use Rattle.arachne_core.specs.{declared.state.State.TheVariants.Free, declared.event.Event.Event, Place.first_place}
 use Rattle.arachne_core.specs.declared.state.Rest.TheVariants as rest
-use Rattle.arachne_core.specs.declared.event.Event.{Event}
 use Rattle.arachne_core.specs.declared.event.Event.TheVariants as event
-use Rattle.arachne_core.specs.Place.{first_place}
-use Rattle.arachne_core.specs.ContextTable.{marked}
-use Rattle.arachne_core.specs.Marked.{mark_word, marked_of}
+use Rattle.arachne_core.specs.{ContextTable.marked, Marked.{mark_word, marked_of}}
 use Rattle.arachne_core.specs.World.{World, core_of, Allowed, after}
-use Rattle.arachne_rule.specs.declared.view.Kind.{Kind}
+use Rattle.arachne_rule.specs.declared.view.{Kind.Kind, Record.Record, Shape.Shape}
 use Rattle.arachne_rule.specs.declared.view.Kind.TheVariants as kind
-use Rattle.arachne_rule.specs.declared.view.Record.{Record}
-use Rattle.arachne_rule.specs.declared.view.Shape.{Shape}
-use Rattle.arachne_rule.specs.Changes.{index_sum}
-use Rattle.arachne_rule.specs.Layout.{occ_index}
+use Rattle.arachne_rule.specs.{Changes.index_sum, Layout.occ_index}
 
 -- a step, the seat that made it, and its event
 pub record Entry : Type 0 where

@@ -4,26 +4,15 @@ use Rattle.std.specs.Prelude.{◌≡◌, ◌≢◌, ℕ, ◌<◌, true, false, O
 use mathlib.Core.Option as slot
 use lib.ListN.{get_elem?}
 use Rattle.atomic_table.specs.Table.{Act, homes_after, opening}
-use Rattle.arachne_core.specs.declared.place.Place.{Place}
-use Rattle.arachne_core.specs.declared.thread_id.ThreadId.{ThreadId}
-use Rattle.arachne_core.specs.declared.mark.Mark.{Mark}
-use Rattle.arachne_core.specs.declared.event.Event.{Event}
+use Rattle.arachne_core.specs.{World.{World, IsContext, IsPlace, Allowed, after}, declared.thread_id.ThreadId.ThreadId}
+use Rattle.arachne_core.specs.{declared.{place.Place.Place, event.Event.Event, mark.Mark.Mark}, Run.{IsRun, after_all}}
 use Rattle.arachne_core.specs.declared.event.Event.TheVariants as event
-use Rattle.arachne_core.specs.World.{World, IsContext, IsPlace, Allowed, after}
-use Rattle.arachne_core.specs.Run.{IsRun, after_all}
-use Rattle.arachne_weights.specs.Weight.{whole}
-use Rattle.arachne_weights.specs.Tokens.{held}
-use Rattle.arachne_rule.specs.declared.view.Carried.{Carried}
-use Rattle.arachne_rule.specs.declared.view.Known.{Known}
-use Rattle.arachne_rule.specs.declared.view.Record.{Record}
-use Rattle.arachne_rule.specs.declared.view.Shape.{Shape}
-use Rattle.arachne_rule.specs.Views.{blank}
+use Rattle.arachne_weights.specs.{Weight.whole, Tokens.held}
+use Rattle.arachne_rule.specs.{declared.view.{Carried.Carried, Known.Known, Record.Record, Shape.Shape}, Views.blank}
 use Rattle.arachne_rule.specs.Rule.{Phase, Board, Knows, is_closed, is_exclusive, is_occupied, Shows}
-use Rattle.arachne_rule.specs.Plays.{Carries, IsRestMark, IsGone}
-use Rattle.arachne_rule.specs.Layout.{IsShape, AreFirstWords, contexts_in, board_of}
+use Rattle.arachne_rule.specs.{Plays.{Carries, IsRestMark, IsGone}, Table.{Table, Holds, after_step}}
+use Rattle.arachne_rule.specs.{Layout.{IsShape, AreFirstWords, contexts_in, board_of}, Left.{Seated, Left, mark_at}}
 use Rattle.arachne_rule.specs.History.{Entry, opening_world, words_after, events_of, IsNext, IsStepOf}
-use Rattle.arachne_rule.specs.Table.{Table, Holds, after_step}
-use Rattle.arachne_rule.specs.Left.{Seated, Left, mark_at}
 
 -- ---- a step as an event
 

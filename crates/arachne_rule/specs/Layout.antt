@@ -3,18 +3,13 @@
 -- occupancy word.
 use Rattle.std.specs.Prelude.{◌≡◌, ℕ, ◌+◌, ◌-◌, ◌*◌, ◌^◌, ◌<◌, ◌≤◌, false, List, length, slice_index, Option}
 use lib.ListN.{get_elem?}
-use Rattle.atomic_table.specs.Seated.{TableId}
-use Rattle.atomic_table.specs.Table.{State}
-use Rattle.arachne_core.specs.declared.layout.TheConstants.{CORES, SLOTS}
-use Rattle.arachne_core.specs.declared.place.Place.{Place}
+use Rattle.atomic_table.specs.{Seated.TableId, Table.State}
+use Rattle.arachne_core.specs.declared.{layout.TheConstants.{CORES, SLOTS}, place.Place.Place}
 use Rattle.arachne_core.specs.declared.mark.Mark.TheVariants as mark
-use Rattle.arachne_core.specs.Place.{first_place, number_of}
-use Rattle.arachne_core.specs.Marked.{mark_word}
+use Rattle.arachne_core.specs.{Place.{first_place, number_of}, Marked.mark_word}
 use Rattle.arachne_weights.specs.declared.token.Token.{Token}
-use Rattle.arachne_rule.specs.declared.layout.TheConstants.{BLOCK, NAMES, OCCUPANCY}
-use Rattle.arachne_rule.specs.declared.view.Known.{Known}
-use Rattle.arachne_rule.specs.declared.view.Shape.{Shape}
-use Rattle.arachne_rule.specs.Rule.{Board}
+use Rattle.arachne_rule.specs.declared.{layout.TheConstants.{BLOCK, NAMES, OCCUPANCY}, view.Known.Known}
+use Rattle.arachne_rule.specs.{declared.view.Shape.Shape, Rule.Board}
 
 -- the number of contexts, which is the number of places
 abbrev pub contexts_in : Shape → ℕ

@@ -1,16 +1,12 @@
 -- The phases of the contexts, and the board, after each kind of step.
 use Rattle.std.specs.Prelude.{◌≡◌, ℕ, ◌+◌, ◌-◌, ◌^◌, true, false, ◌∷◌, [], ◌++◌, slice_set, Option, Some, None}
 use mathlib.Core.Option as slot
-use Rattle.arachne_core.specs.declared.place.Place.{Place}
-use Rattle.arachne_core.specs.declared.mark.Mark.{Mark}
-use Rattle.arachne_core.specs.declared.mark.Mark.TheVariants as mark
-use Rattle.arachne_core.specs.Marked.{Marked, mark_word, marked_of}
+use Rattle.arachne_core.specs.{declared.{place.Place.Place, mark.Mark.Mark}, Marked.{Marked, mark_word, marked_of}}
 use Rattle.arachne_core.specs.World.{World, with_at}
+use Rattle.arachne_core.specs.declared.mark.Mark.TheVariants as mark
 use Rattle.arachne_weights.specs.Tokens.{held, spent}
-use Rattle.arachne_rule.specs.declared.view.Carried.{Carried}
-use Rattle.arachne_rule.specs.declared.view.Known.{Known}
+use Rattle.arachne_rule.specs.{declared.view.{Carried.Carried, Known.Known}, Rule.{Phase, Board, views_with, settled}}
 use Rattle.arachne_rule.specs.Views.{blank, with_context, without_context, first_seat, second_seat, joined_seat}
-use Rattle.arachne_rule.specs.Rule.{Phase, Board, views_with, settled}
 use Rattle.arachne_rule.specs.Changes.{with_name, claimed_context, alone_context, taken_context, claimed_again, left_context, posted, retired, spent_known, marked_as, marked_free, marked_spent, index_sum, release_sum, taken_phase, moved_phase}
 
 -- The state before a step: a board that shows a World, the phases of the calls in progress, and the seat that makes the

@@ -2,22 +2,14 @@
 -- number that was stored), and the seat after it.
 use Rattle.std.specs.Prelude.{◌≡◌, ◌≢◌, ℕ, ◌+◌, ◌-◌, ◌<◌, ◌⊎◌, true, false, if◌then◌else◌, ◌==◌, [], ◌∷◌, count_by, bit_and, bit_or, Option, Some, None}
 use Rattle.atomic_table.specs.Table.{Step, rest}
-use Rattle.arachne_core.specs.declared.place.Place.{Place}
-use Rattle.arachne_core.specs.declared.thread_id.ThreadId.{ThreadId}
-use Rattle.arachne_core.specs.declared.mark.Mark.{Mark}
+use Rattle.arachne_core.specs.declared.{place.Place.Place, thread_id.ThreadId.ThreadId, mark.Mark.Mark}
+use Rattle.arachne_core.specs.{Occupancy.IsOccupancyWord, Marked.{marked_of, IsMarkWord}, World.{Thread, same_thread}}
 use Rattle.arachne_core.specs.declared.mark.Mark.TheVariants as mark
-use Rattle.arachne_core.specs.Occupancy.{IsOccupancyWord}
-use Rattle.arachne_core.specs.Marked.{marked_of, IsMarkWord}
-use Rattle.arachne_core.specs.World.{Thread, same_thread}
 use Rattle.arachne_weights.specs.Tokens.{held}
-use Rattle.arachne_rule.specs.declared.view.Carried.{Carried}
-use Rattle.arachne_rule.specs.declared.view.Kind.{Kind}
-use Rattle.arachne_rule.specs.declared.view.Kind.TheVariants as kind
-use Rattle.arachne_rule.specs.declared.view.Known.{Known}
-use Rattle.arachne_rule.specs.Views.{noted, with_context, without_context, carried_at}
+use Rattle.arachne_rule.specs.{declared.view.{Carried.Carried, Kind.Kind, Known.Known}, Layout.{occ_index, name_index}}
+use Rattle.arachne_rule.specs.{Views.{noted, with_context, without_context, carried_at}, Table.Mine}
 use Rattle.arachne_rule.specs.Changes.{claimed_context, alone_context, taken_context, left_context, posted, retired, spent_known, marked_as, marked_free, index_sum, release_sum}
-use Rattle.arachne_rule.specs.Layout.{occ_index, name_index}
-use Rattle.arachne_rule.specs.Table.{Mine}
+use Rattle.arachne_rule.specs.declared.view.Kind.TheVariants as kind
 
 -- the seat carries this context
 abbrev pub Carries : Known → Carried → Type 0

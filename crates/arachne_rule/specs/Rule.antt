@@ -1,22 +1,14 @@
 -- The rule: occupancy words, mark words, place words, values at home and views show a World that is owned once.
 use Rattle.std.specs.Prelude.{◌≡◌, ℕ, ◌-◌, ◌<◌, ◌≤◌, ◌^◌, Bool, true, false, if◌then◌else◌, ◌==◌, List, [], ◌∷◌, slice_set, slice_index_or}
+use Rattle.std.specs.declared.option.Option.{Option, TheVariants.{None, Some}}
 use mathlib.Core.Option as slot
 use lib.ListN.{get_elem?}
-use Rattle.std.specs.declared.option.Option.{Option}
-use Rattle.std.specs.declared.option.Option.TheVariants.{None, Some}
-use Rattle.arachne_core.specs.declared.layout.TheConstants.{SLOTS}
-use Rattle.arachne_core.specs.declared.place.Place.{Place}
-use Rattle.arachne_core.specs.declared.state.State.{State}
+use Rattle.arachne_core.specs.declared.{layout.TheConstants.SLOTS, place.Place.Place, state.State.State}
 use Rattle.arachne_core.specs.declared.state.State.TheVariants.{Free, Claimed, Ready, Blocked, Held, Spent}
-use Rattle.arachne_core.specs.Occupancy.{occupancy_of, IsOccupancyWord}
-use Rattle.arachne_core.specs.Marked.{mark_word}
-use Rattle.arachne_core.specs.World.{World, Thread, IsContext, IsPlace, core_of}
-use Rattle.arachne_core.specs.OwnedOnce.{OwnedOnce}
-use Rattle.arachne_core.specs.ContextTable.{ShowsCore, marked}
-use Rattle.arachne_weights.specs.declared.token.Token.{Token}
-use Rattle.arachne_weights.specs.Tokens.{held, IsReachable}
-use Rattle.arachne_rule.specs.declared.view.Carried.{Carried}
-use Rattle.arachne_rule.specs.declared.view.Known.{Known}
+use Rattle.arachne_core.specs.{Occupancy.{occupancy_of, IsOccupancyWord}, Marked.mark_word, OwnedOnce.OwnedOnce}
+use Rattle.arachne_core.specs.{World.{World, Thread, IsContext, IsPlace, core_of}, ContextTable.{ShowsCore, marked}}
+use Rattle.arachne_weights.specs.{declared.token.Token.Token, Tokens.{held, IsReachable}}
+use Rattle.arachne_rule.specs.declared.view.{Carried.Carried, Known.Known}
 use Rattle.arachne_rule.specs.Views.{blank, known_at, carried_at, given_in, ended_in}
 
 -- The words and slots as maps: occupancy words by core, mark words by context, place words by place, slots by context.

@@ -4,12 +4,8 @@ use mathlib.Core.Option.{some}
 use lib.ListN.{get_elem?}
 use Rattle.atomic_table.specs.Table.{State, Me, Act, stepped}
 use Rattle.arachne_core.specs.World.{World, after}
-use Rattle.arachne_weights.specs.declared.token.Token.{Token}
-use Rattle.arachne_weights.specs.Tokens.{held}
-use Rattle.arachne_rule.specs.declared.view.Known.{Known}
-use Rattle.arachne_rule.specs.declared.view.Shape.{Shape}
-use Rattle.arachne_rule.specs.Views.{noted}
-use Rattle.arachne_rule.specs.Rule.{Phase, Shows}
+use Rattle.arachne_weights.specs.{declared.token.Token.Token, Tokens.held}
+use Rattle.arachne_rule.specs.{declared.view.Known.Known, declared.view.Shape.Shape, Views.noted, Rule.{Phase, Shows}}
 use Rattle.arachne_rule.specs.Layout.{contexts_in, words_in, board_of, AreFirstWords}
 use Rattle.arachne_rule.specs.History.{Entry, opening_world, world_after, words_after, records_of, IsHistory, AreOfSeats}
 

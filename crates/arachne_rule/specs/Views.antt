@@ -1,14 +1,10 @@
 -- The knowledge of seats: the contexts that they carry, the threads that they have posted and ended, and the steps that
 -- they have made.
-use Rattle.std.specs.Prelude.{ℕ, if◌then◌else◌, ◌==◌, List, [], ◌∷◌, ◌++◌, slice_index_or, count_by}
-use Rattle.std.specs.List.{sum_by}
+use Rattle.std.specs.{Prelude.{ℕ, if◌then◌else◌, ◌==◌, List, [], ◌∷◌, ◌++◌, slice_index_or, count_by}, List.sum_by}
 use Rattle.arachne_core.specs.World.{Thread, same_thread}
-use Rattle.arachne_weights.specs.declared.token.Token.{Token}
-use Rattle.arachne_weights.specs.Weight.{first_part, second_part, joined}
+use Rattle.arachne_weights.specs.{declared.token.Token.Token, Weight.{first_part, second_part, joined}}
 use Rattle.arachne_weights.specs.Tokens.{held, spent}
-use Rattle.arachne_rule.specs.declared.view.Carried.{Carried}
-use Rattle.arachne_rule.specs.declared.view.Kind.{Kind}
-use Rattle.arachne_rule.specs.declared.view.Known.{Known}
+use Rattle.arachne_rule.specs.declared.view.{Carried.Carried, Kind.Kind, Known.Known}
 
 abbrev pub blank : Known
 blank = record { carried = []; given = []; ended = []; records = [] }

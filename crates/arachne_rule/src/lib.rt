@@ -1,11 +1,12 @@
-//! The rule of the context table on atomic words: the invariant that holds between any two atomic operations.
+//! What holds for a table of user threads, made of atomic words, between any two atomic operations.
 //!
-//! The table has an *occupancy word* for each core (which of its places, its thread slots, are occupied), a *mark word*
-//! for each context (the state, place and generation of its thread) and a *place word* for each place (the number of
-//! the context there). The contexts' *value fields* (the slots of an `atomic_table`) have the threads' values. The
-//! words, the value fields and the records of the seats (the rights to call the table) together stand for one abstract
-//! state, a *World* of `arachne_core`, in which no two threads share a context or a place. Each atomic operation
-//! (*step*) on a word is one event of that abstract state. The operations themselves are in `arachne_words`.
+//! A *context* is the record of one user thread, and a *place* one of a core's thread slots. Each core has an
+//! *occupancy word*, whose bits say which places are occupied. Each context has a *mark word*, with the state, place
+//! and generation of its thread, and a *value field* for the thread's value. Each place has a *place word*, the number
+//! of the context there. The contracts describe a table by a `World` of `arachne_core`, a sequential table, for which
+//! these words and the records of the seats (rights to call) stand. In a `World`, no two threads share a context or a
+//! place. Each atomic operation (*step*) on a word is one event of a `World`. The operations themselves are in
+//! `arachne_words`.
 #![tactic(auto)]
 
 pub mod laws;

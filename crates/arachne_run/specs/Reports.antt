@@ -1,18 +1,12 @@
 -- What a report says.
 use Rattle.std.specs.Prelude.{◌≡◌, ◌≤◌, ℕ, List, All, length, map}
-use Rattle.arachne_program.specs.Meaning.{meaning_of}
-use Rattle.arachne_program.specs.Program.{source_of}
-use Rattle.arachne_program.specs.declared.meaning.Meaning.{Meaning}
+use Rattle.arachne_program.specs.{Meaning.meaning_of, Program.source_of, declared.meaning.Meaning.Meaning}
 use Rattle.arachne_program.specs.declared.program.Program.{Program}
 use Rattle.arachne_machine.specs.Outcome.{named_holds}
-use Rattle.arachne_sleep.specs.History.{IsSound}
-use Rattle.arachne_sleep.specs.OneHolder.{HasOneHolderAtATime}
-use Rattle.arachne_sleep.specs.declared.event.LockEvent.{LockEvent}
-use Rattle.arachne_run.specs.Distinct.{AreDistinct}
-use Rattle.arachne_run.specs.Histories.{GrantsAreHolds}
-use Rattle.arachne_run.specs.declared.report.Report.{Report}
+use Rattle.arachne_sleep.specs.{History.IsSound, OneHolder.HasOneHolderAtATime, declared.event.LockEvent.LockEvent}
+use Rattle.arachne_run.specs.{Distinct.AreDistinct, Histories.GrantsAreHolds, declared.report.Report.Report}
 
--- the value and totals, and the names and holds of the threads
+-- the report's value and totals, and for each thread its name and how often it has held each lock
 abbrev pub meaning_in : Report → Meaning
 meaning_in report = record { value = report.value; totals = report.totals; threads = map named_holds report.threads }
 
@@ -24,8 +18,9 @@ tags_of report = map (λ line. line.tag) report.threads
 abbrev pub histories_in : Report → List (List LockEvent)
 histories_in report = map (λ history. history.items) report.histories.items
 
--- It is a report of this program, for this many orders: the program's meaning on one thread; its threads, each once;
--- and for each lock a lawful history with one holder at a time, whose grants are the holds of the threads.
+-- true if this is a report of a run of `program` with this number of orders: the program's meaning on one core; its
+-- threads, each once; and for each lock a lawful history with one holder at a time, with as many grants to each thread
+-- as its line says
 pub record IsReportOf (program : Program) (orders : ℕ) (report : Report) : Type 0 where
   pub meaning : meaning_in report ≡ meaning_of (source_of program)
   pub tags : AreDistinct (tags_of report)

@@ -1,26 +1,22 @@
 -- Which setups of a run are refused.
 use Rattle.std.specs.Prelude.{◌≡◌, ◌⊎◌, true, false, ℕ, ◌==◌, Bool, ◌&&◌, nat_le, if◌then◌else◌, List, Option, None, Some}
 use Rattle.arachne_core.specs.declared.layout.TheConstants.{CORES, SLOTS}
-use Rattle.arachne_run.specs.declared.fault.RunFault.{RunFault}
+use Rattle.arachne_run.specs.declared.{fault.{RunFault.RunFault, WorkerFault.WorkerFault}, setup.Setup.Setup}
 use Rattle.arachne_run.specs.declared.fault.RunFault.TheVariants.{Cores, Quantum, Slots, Choosers, Orders, Worker}
-use Rattle.arachne_run.specs.declared.fault.WorkerFault.{WorkerFault}
 use Rattle.arachne_run.specs.declared.fault.WorkerFault.TheVariants as worker
-use Rattle.arachne_run.specs.declared.setup.Setup.{Setup}
 use Rattle.arachne_jobs.specs.declared.fault.JobFault.{JobFault}
 use Rattle.arachne_jobs.specs.declared.fault.JobFault.TheVariants as job
 use Rattle.arachne_sleep.specs.declared.answer.AskFault.{AskFault}
 use Rattle.arachne_sleep.specs.declared.answer.AskFault.TheVariants as ask
 use Rattle.arachne_team.specs.declared.team.TeamFault.{TeamFault}
 use Rattle.arachne_team.specs.declared.team.TeamFault.TheVariants as team
-use Rattle.arachne_policy.specs.declared.orders.CoreOrder.{CoreOrder}
-use Rattle.arachne_policy.specs.declared.orders.OrderFault.{OrderFault}
-use Rattle.arachne_policy.specs.Orders.{IsFirstFault}
+use Rattle.arachne_policy.specs.{declared.orders.{CoreOrder.CoreOrder, OrderFault.OrderFault}, Orders.IsFirstFault}
 
--- the number stands between these two
+-- true if the number is from `least` to `most`
 abbrev pub is_within : ℕ → ℕ → ℕ → Bool
 is_within least most n = nat_le least n && nat_le n most
 
--- the first fault in these numbers: cores, steps of a slice, places of a core, choosers
+-- the first fault in these numbers: cores, steps of a slice, slots of a core, choosers
 abbrev pub refusal_of : ℕ → ℕ → ℕ → ℕ → Option RunFault
 refusal_of cores quantum slots choosers =
     if is_within 1 CORES cores then
@@ -31,17 +27,17 @@ refusal_of cores quantum slots choosers =
 abbrev pub refusal_in : Setup → ℕ → Option RunFault
 refusal_in setup choosers = refusal_of setup.cores setup.quantum setup.slots choosers
 
--- it is the first fault of these orders on this many cores
+-- true if this is the first fault of these orders, on this number of cores
 abbrev pub IsFirstOrderFault : ℕ → List CoreOrder → RunFault → Type 0
 IsFirstOrderFault cores orders fault = (first : OrderFault) × IsFirstFault cores orders first × (fault ≡ Orders first)
 
--- It is the first fault of a setup: in its numbers, or in its orders if its numbers have none.
+-- true if this is the first fault of a setup: one of its numbers, or one of its orders if its numbers have none
 abbrev pub IsSetupFault : ℕ → ℕ → ℕ → ℕ → List CoreOrder → RunFault → Type 0
 IsSetupFault cores quantum slots choosers orders fault =
     (refusal_of cores quantum slots choosers ≡ Some fault)
     ⊎ ((refusal_of cores quantum slots choosers ≡ None) × IsFirstOrderFault cores orders fault)
 
--- It tells of a setup, and not of what a run met on its way.
+-- true if the fault is one of the setup, and not one that a worker met
 abbrev pub is_of_setup : RunFault → Bool
 is_of_setup Cores = true
 is_of_setup Quantum = true
@@ -50,7 +46,7 @@ is_of_setup Choosers = true
 is_of_setup (Orders first) = true
 is_of_setup (Worker fault) = false
 
--- the number of a fault, by which the loop of a worker knows it, and the fault of a number
+-- the number by which a worker's loop returns a fault, and the fault with a number
 abbrev pub number_of : WorkerFault → ℕ
 number_of worker.Memory = 0
 number_of worker.Foreign = 1
@@ -64,17 +60,17 @@ numbered n =
     if n == 0 then worker.Memory else (if n == 1 then worker.Foreign else (if n == 2 then worker.Threads
     else (if n == 3 then worker.Ledgers else (if n == 5 then worker.KernelThread else worker.Token))))
 
--- the fault of a worker whose job can't go on
+-- the worker's fault for a fault of a job
 abbrev pub as_worker_fault : JobFault → WorkerFault
 as_worker_fault job.Memory = worker.Memory
 as_worker_fault job.Foreign = worker.Foreign
 
--- the fault of the workers if a kernel thread does not begin
+-- the run's fault for a team of kernel threads that could not start
 abbrev pub of_team : TeamFault → WorkerFault
 of_team team.Memory = worker.Memory
 of_team team.KernelThread = worker.KernelThread
 
--- the fault of a worker if an ask for a lock is refused
+-- the worker's fault if a thread's ask for a lock is refused
 abbrev pub of_ask : AskFault → WorkerFault
 of_ask ask.AlreadyIn = worker.Threads
 of_ask ask.Memory = worker.Memory

@@ -7,51 +7,47 @@ use arachne_workers::Halt;
 use std::alloc::AllocError;
 use thiserror::Error;
 
-/// The reason why a run has no report. If several workers fail, this is the first fault that one of them recorded.
+/// The reason why a run has no report. If several workers fail, this is the first fault that was recorded.
 #[derive(Clone, Copy, Debug, PartialEq, Eq, Error)]
 pub enum RunFault {
-    /// The setup has no core, or more than 64.
     #[error("the number of cores is not 1 to 64")]
     Cores,
-    /// The setup's quantum is 0, or more than 10,000.
+    /// The setup's quantum (steps per slice) is 0, or more than 10,000.
     #[error("the quantum is not 1 to 10,000")]
     Quantum,
-    /// The setup's cores have no slot, or more than 56 slots each.
     #[error("the number of places a core is not 1 to 56")]
     Slots,
-    /// The number of choosers (the random generators by which forks choose cores) differs from the number of cores.
+    /// The number of choosers (random generators by which forks choose cores) differs from the number of cores.
     #[error("there is not one chooser for each core")]
     Choosers,
     /// This order to close or open a core isn't valid for the run's cores.
     #[error("{0}")]
     Orders(OrderFault),
-    /// The fault that a worker met, or that was found after all workers had ended.
+    /// A worker met this fault, or it was found after all workers had ended.
     #[error("{0}")]
     Worker(WorkerFault),
 }
 
-/// A fault that a worker met, or that was found after all workers had ended, as opposed to a fault of the setup.
+/// A fault that a worker met, or that was found after all workers had ended.
 #[derive(Clone, Copy, Debug, PartialEq, Eq, Error)]
 pub enum WorkerFault {
-    /// The allocator refused memory.
     #[error("out of memory")]
     Memory,
-    /// A thread got an outcome (the result of a child) that isn't the awaited child's or that its program can't have,
-    /// or it named a ledger or a lock that doesn't exist.
+    /// A thread got the result of a child that it doesn't wait for, or a result that its program can't have. Or a
+    /// thread named a ledger or a lock that doesn't exist.
     #[error("the outcome of another thread")]
     Foreign,
-    /// Two threads have the same tag (number in the run), a thread asked for a lock that it had or freed a lock that it
-    /// didn't have, or the grants of a lock don't match the threads' lines in the report.
+    /// Two threads have the same number. Or a thread asked for a lock that it had, or freed a lock that it didn't have.
+    /// Or a lock was not granted to a thread as often as the thread's line in the report says.
     #[error("two threads have one tag, or a lock's grants are not the holds")]
     Threads,
-    /// The word of a ledger differs from the sum that the root thread's outcome has for it.
+    /// A ledger (shared counter) differs from the sum that the root thread's outcome has for it.
     #[error("a ledger's word is not the root's sum")]
     Ledgers,
-    /// The table rejected a slot or a thread that it had given to a worker, or not all seats and shares (rights to use
-    /// the shared objects) were returned at the end.
+    /// The table rejected a slot or a thread that it had given to a worker. Or a worker has not returned its rights to
+    /// use the shared objects at the end.
     #[error("the table knows no such token, or not all of a table came back")]
     Token,
-    /// The system refused to start a kernel thread.
     #[error("a kernel thread was refused")]
     KernelThread,
 }
@@ -67,7 +63,6 @@ impl From<WorkerFault> for RunFault {
     }
 }
 
-/// Converts a fault to the number that `Halt` has for it, so that the worker's loop (`CoreWorker`) can return it.
 impl From<WorkerFault> for Halt {
     ghost use Rattle.std.specs.Prelude.{◌≡◌};
     ghost use Rattle.arachne_run.specs.Setups.{number_of};

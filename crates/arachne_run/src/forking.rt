@@ -1,42 +1,35 @@
-//! Gives slots to threads: the child of a fork gets a slot, waits for one, or runs inside its parent's slot.
-//!
-//! The caller passes the seat (the right to access the table) by which this module uses the table, and the queue of
-//! tickets (entries of waiting children).
-ghost use Rattle.std.specs.Prelude.{◌≡◌, ◌↔◌, ◌<◌, ◌≤◌, [], ◌∷◌, false, IfOk, IfSome, IsOk, IsSome, IsTrue, OnOk, map};
+//! Gives slots to threads. The child of a fork gets a slot, waits for one, or runs inside its parent's slot.
+ghost use Rattle.std.specs.Prelude.{◌≡◌, ◌↔◌, ◌<◌, ◌≤◌, [], ◌∷◌, false, IfOk, IfSome, IsOk, IsSome, IsTrue, OnOk, map, reverse};
 ghost use Rattle.rand_core.specs.Stream.{next_u64};
 ghost use Rattle.arachne_arbiter.specs.Placed.{GetsPlace, IsAtStartOfSome};
 ghost use Rattle.arachne_contexts.specs.Out.{Claim as a_claim, HasOut};
-ghost use Rattle.arachne_spill.specs.Views.{IsPassOf};
+ghost use Rattle.arachne_jobs.specs.Views.{IsPassOf};
 ghost use Rattle.arachne_run.specs.Serving.{StopsAt};
 ghost use Rattle.arachne_run.specs.Tokens.{IsOutWith, IsSetUp, IsSpent, thread_in};
 
-use crate::access::{Access, Want};
+use crate::access::Access;
 use crate::fault::WorkerFault;
+use crate::granted::{Granted, LockCall};
 use crate::machine::Machine;
-use crate::stack::Stack;
 use arachne_arbiter::{Cores, Pace};
 use arachne_contexts::{Contexts, Held, Identified, Placed};
-use arachne_jobs::{Openings, RunJob, Slice, make_room, put_ticket};
+use arachne_jobs::{Openings, RunJob, Slice, SpillPass, make_room, put_ticket};
 use arachne_program::Class;
-use arachne_spill::SpillPass;
 use arachne_workers::{PostedThread, ThreadStop};
 use rand_core::Rng;
 use std::alloc::{AllocError, Global};
 use std::sync::Wait;
 use std::time::Clock;
 
-/// The values that a worker needs for forks: its random generator, the tags (numbers) of new threads, and spare memory.
 #[derive(Drop)]
 pub(crate) struct ForkSupplies<R, P> {
-    /// The core's chooser: the random generator by which a fork chooses a core for its child.
     pub(crate) chooser: R,
     pub(crate) openings: Openings,
     /// Memory of ended threads, which the worker uses for new threads.
     pub(crate) spares: P,
 }
 
-/// Runs `held`, the thread that the worker has taken, for at most `left` steps, adds to the ledgers what it has
-/// tallied, and carries out what it asks for.
+/// Runs the thread `held` for at most `left` steps, adds its amounts to ledgers, and carries out its request.
 #[inline(always)]
 pub(crate) fn go_on<H: Wait + Clock, T: RunJob, C: Contexts<T>, R: Rng>(
     rt: &H,
@@ -45,7 +38,7 @@ pub(crate) fn go_on<H: Wait + Clock, T: RunJob, C: Contexts<T>, R: Rng>(
     seat: &mut C::Seat,
     pass: &mut SpillPass<T::Ticket>,
     held: &mut Held<T, C::Hold>,
-    has_lock: &mut bool,
+    grant: &mut Option<Granted>,
     forks: &mut ForkSupplies<R, T::Spares>,
     access: &mut Access<'_>,
     pace: &mut Pace,
@@ -62,16 +55,19 @@ pub(crate) fn go_on<H: Wait + Clock, T: RunJob, C: Contexts<T>, R: Rng>(
     ensures drawn { IsOk result → forks.new.openings.draws ≡ 0 }
     ensures settled { OnOk result (forks.new.openings.due.amount ≡ 0) }
 {
-    let room = machine.shared.room();
+    let room = &machine.shared.room;
     let slice = held
         .value
         .slice(left, &mut forks.spares, room, &mut forks.openings)?;
-    // Forks that didn't pause the thread drew no random number; the draws are made up for here, so that the chooser's
-    // later numbers are the same.
-    draw(&mut forks.chooser, forks.openings.draws);
+    // Forks that didn't pause the thread drew no random number. The draws are made up for here.
+    if forks.openings.draws > 0 {
+        draw(&mut forks.chooser, forks.openings.draws);
+    }
     forks.openings.draws = 0;
     access.settle(&mut forks.openings.due)?;
-    let want = match slice {
+    let (call, lock) = match slice {
+        Slice::Asks(lock) => (LockCall::Ask, lock),
+        Slice::Awaits(lock) => (LockCall::Check, lock),
         Slice::Goes => return Ok(ThreadStop::Goes),
         Slice::Forks(class, child) => {
             return answer_fork::<H, T, C, R>(
@@ -79,29 +75,26 @@ pub(crate) fn go_on<H: Wait + Clock, T: RunJob, C: Contexts<T>, R: Rng>(
             );
         }
         Slice::Blocks => return Ok(ThreadStop::Blocks),
+        Slice::Frees(lock) => {
+            return access.free(rt, pace, lock, held.id(), &mut held.value, grant);
+        }
+        Slice::Tallies(ledger, amount) => return access.tally(ledger, amount, &mut held.value),
         Slice::Ends => return Ok(ThreadStop::Ends),
-        Slice::Asks(lock) => Want::Asks(lock),
-        Slice::Awaits(lock) => Want::Awaits(lock),
-        Slice::Frees(lock) => Want::Frees(lock),
-        Slice::Tallies(ledger, amount) => Want::Tallies(ledger, amount),
     };
-    let id = held.id();
-    access.serve(rt, pace, want, id, &mut held.value, has_lock)
+    access.get(rt, pace, call, lock, held.id(), &mut held.value, grant)
 }
 
-/// Draws `words` random numbers from `chooser` and drops them.
 fn draw<R: Rng>(chooser: &mut R, words: u64) {
     for _ in 0..words {
         let _ = chooser.next_u64();
     }
 }
 
-/// Handles a fork of `held`, the thread that runs now.
+/// Carries out a fork of the thread `held`.
 ///
-/// A normal child gets a slot on the less loaded of two random cores, or else on the first other core with a free slot
-/// (`claim_normal` of `arachne_arbiter`); an exclusive child, which wants a core for itself, gets an empty core. If
-/// there is no slot, a normal child waits if the queue of waiting children has room, and any other child runs inside
-/// its parent's slot.
+/// A normal child gets a slot on the less loaded of two random cores, or else on the first other core with a free slot;
+/// if there is none, it waits if the queue has room. An exclusive child, which wants a core for itself, gets an empty
+/// core. Any other child runs inside its parent's slot.
 fn answer_fork<H: Wait, T: RunJob, C: Contexts<T>, R: Rng>(
     rt: &H,
     alloc: Global,
@@ -124,7 +117,7 @@ fn answer_fork<H: Wait, T: RunJob, C: Contexts<T>, R: Rng>(
     ensures draws { forks.new.openings.draws ≡ forks.old.openings.draws }
     ensures due { forks.new.openings.due ≡ forks.old.openings.due }
 {
-    let (me, room) = (held.id(), machine.shared.room());
+    let (me, room) = (held.id(), &machine.shared.room);
     let tag = forks.openings.tags.take(room);
     let cores = machine.cores::<H, T>(rt);
     let claim = claim_for::<H, T, C, R>(&cores, seat, class, &mut forks.chooser)?;
@@ -137,12 +130,11 @@ fn answer_fork<H: Wait, T: RunJob, C: Contexts<T>, R: Rng>(
         return Ok(ThreadStop::Posted(post));
     }
     let tickets = &machine.tickets;
-    let wants_room = is_worth_room(class, forks.openings.is_large);
+    let wants_room = is_normal_and(class, forks.openings.is_large);
     make_room(rt, tickets, room, pass, wants_room);
-    let waits = may_wait(class, !tickets.is_full(rt, pass));
+    let waits = is_normal_and(class, !tickets.is_full(rt, pass));
     if let Some(ticket) = held.value.put_aside(alloc, me, child, tag, waits)? {
-        // If other workers have filled the queue meanwhile, the child waits without a ticket (an entry there), so only
-        // its parent can run it.
+        // If the queue was filled meanwhile, the child waits without a ticket there, so only its parent can run it.
         if put_ticket(rt, tickets, room, pass, ticket).is_ok() {
             return Ok(ThreadStop::Spilled);
         }
@@ -150,10 +142,6 @@ fn answer_fork<H: Wait, T: RunJob, C: Contexts<T>, R: Rng>(
     Ok(ThreadStop::Goes)
 }
 
-/// Claims a slot for a child of this class.
-///
-/// For a normal child the slot is on a core chosen by a random number, for an exclusive child (which wants a core for
-/// itself) on an empty core.
 #[inline(always)]
 fn claim_for<H: Wait, T: RunJob, C: Contexts<T>, R: Rng>(
     cores: &Cores<'_, H, T, C>,
@@ -174,22 +162,14 @@ fn claim_for<H: Wait, T: RunJob, C: Contexts<T>, R: Rng>(
     }
 }
 
-/// Returns whether a child for which no slot was found waits for one. A normal child, which may share a core, waits if
-/// the queue has room; an exclusive one never waits.
-fn may_wait(class: Class, has_room: bool) -> bool
-    ensures { IsTrue result ↔ (class ≡ Class.Normal) × IsTrue has_room }
+/// Returns `holds` if the child is normal, and otherwise false: only normal children wait for slots.
+fn is_normal_and(class: Class, holds: bool) -> bool
+    ensures { IsTrue result ↔ (class ≡ Class.Normal) × IsTrue holds }
 {
-    class == Class::Normal && has_room
+    class == Class::Normal && holds
 }
 
-/// Returns whether it pays to make room in the queue of waiting children for this child: it is large, and may wait.
-fn is_worth_room(class: Class, is_large: bool) -> bool
-    ensures { IsTrue result ↔ (class ≡ Class.Normal) × IsTrue is_large }
-{
-    class == Class::Normal && is_large
-}
-
-/// Frees a claimed slot into which no thread was put. The caller must then count the slot as free.
+/// Frees a claimed slot, which the caller must then count as free.
 pub(crate) fn give_place_back<H: Wait, T: RunJob, C: Contexts<T>>(
     rt: &H,
     machine: &Machine<C, T::Ticket>,
@@ -207,35 +187,33 @@ pub(crate) fn give_place_back<H: Wait, T: RunJob, C: Contexts<T>>(
     }
 }
 
-/// Returns a claimed slot of the core: the newest of those that the worker keeps for later children, or else one that
-/// this call claims. Returns `None` if the core is full.
+/// Returns a claimed slot of `core`: one from `kept`, or else a free one.
 pub(crate) fn free_place<H: Wait, T: RunJob, C: Contexts<T>>(
     rt: &H,
     machine: &Machine<C, T::Ticket>,
     spare: &mut C::Seat,
-    kept: &mut Stack<C::Claim>,
+    kept: &mut Vec<C::Claim>,
     core: u8,
 ) -> Result<Option<C::Claim>, WorkerFault>
     requires seat { C.sits machine.now.table spare.old }
-    requires out { C.has machine.now.table spare.old (map a_claim kept.old) }
+    requires out { C.has machine.now.table spare.old (map a_claim (reverse kept.old.items)) }
     requires set_up { IsSetUp C.core_count C.slot_count machine.now }
     requires core { core < machine.now.cores }
     ensures seat { C.sits machine.now.table spare.new }
-    ensures out { IfOk result (IsOutWith (C.has machine.now.table spare.new) kept.new) }
+    ensures out { IfOk result (IsOutWith (C.has machine.now.table spare.new) (reverse kept.new.items)) }
 {
     if let Some(claim) = kept.pop() {
         return Ok(Some(claim));
     }
     let claim = machine.cores::<H, T>(rt).claim_on(spare, core)?;
     if claim.is_some() {
-        machine.shared.room().place_was_claimed();
+        machine.shared.room.place_was_claimed();
     }
     Ok(claim)
 }
 
-/// Puts a job into a claimed slot, ready to run. Returns the job's id and its slot.
 #[inline(always)]
-fn post_at<H: Wait, T: RunJob, C: Contexts<T>>(
+pub(crate) fn post_at<H: Wait, T: RunJob, C: Contexts<T>>(
     rt: &H,
     machine: &Machine<C, T::Ticket>,
     seat: &mut C::Seat,
@@ -255,8 +233,7 @@ fn post_at<H: Wait, T: RunJob, C: Contexts<T>>(
     }
 }
 
-/// Puts `job`, the root or a child that has waited, into a claimed slot. If `job` is `None`, frees the slot. Returns
-/// the job's id and slot, if there was a job.
+/// Puts `job` into a claimed slot, or frees the slot if there is no job.
 pub(crate) fn post_waiting<H: Wait, T: RunJob, C: Contexts<T>>(
     rt: &H,
     machine: &Machine<C, T::Ticket>,
@@ -275,7 +252,7 @@ pub(crate) fn post_waiting<H: Wait, T: RunJob, C: Contexts<T>>(
         Some(job) => Ok(Some(post_at::<H, T, C>(rt, machine, spare, claim, job)?)),
         None => {
             give_place_back::<H, T, C>(rt, machine, spare, claim)?;
-            machine.shared.room().place_was_left();
+            machine.shared.room.place_was_left();
             Ok(None)
         }
     }

@@ -1,21 +1,17 @@
-//! A trait by which tests observe and delay a run: each worker calls it before each slice and at each event of its
-//! core.
+//! A trait by which tests observe and delay a run.
 use arachne_core::ThreadId;
 use arachne_program::Name;
 use arachne_workers::WorkerEvent;
 
-/// A hook that each core's kernel thread calls before each slice and at each event of its core. Tests use it to watch
-/// or delay cores.
+/// A hook for tests, called by each core's kernel thread before each slice (some steps of a thread) and at each event.
 pub trait Gate {
-    /// Called before the slice number `nth` of `core`, counted from 0, begins. The number saturates at 2^64 - 1.
+    /// Called before the `nth` slice (some steps of a thread) of `core`, counted from 0 and at most 2^64 - 1.
     fn slice(&self, core: u8, nth: u64);
 
-    /// Called after the worker of the core has taken the thread with this id. The following slices of this core belong
-    /// to this thread, until the worker takes another one.
+    /// Called when the core takes the thread with this id. The core then runs this thread until the next call.
     fn turn(&self, _core: u8, _id: ThreadId, _name: &Name) {}
 
-    /// Called just before or after the core's worker does what the event says. The number in `SliceEnd::Awaits` is that
-    /// of a lock, and `Cause::IsServed` means that the thread was granted its lock.
+    /// Called just before or after the core's kernel thread does what the event says. `Begins` is reported by `slice`.
     fn told(&self, _core: u8, _event: WorkerEvent) {}
 }
 

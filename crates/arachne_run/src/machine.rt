@@ -1,65 +1,64 @@
-//! The objects that the workers of a run share (table, ledgers, locks, queue of waiting children), with the calls that
-//! make and close them.
-ghost use Rattle.std.specs.Prelude.{◌≡◌, ◌≢◌, ◌≤◌, ◌⊎◌, ◌↔◌, ◌%◌, ◌^◌, [], false, true, All, Err, IfErr, IfOk, IfSome, IsOk, IsSome, IsTrue, None, OnOk, length, map};
+//! The objects that the workers of a run share, the rights to use them, and the calls that make and close them.
+ghost use Rattle.std.specs.Prelude.{◌≡◌, ◌≤◌, ◌⊎◌, ◌↔◌, ◌%◌, ◌^◌, [], false, true, Err, IfErr, IfOk, IfSome, IsOk, IsSome, IsTrue, None, OnOk, length, map};
 ghost use Rattle.arachne_program.specs.Program.{tree_of};
 ghost use Rattle.arachne_core.specs.Occupancy.{count_of};
 ghost use Rattle.arachne_jobs.specs.Classes.{forks_exclusive};
 ghost use Rattle.arachne_policy.specs.Orders.{AreInOrder};
 ghost use Rattle.arachne_workers.specs.Keeping.{MayKeepPlaces};
-ghost use Rattle.arachne_ledger.specs.Views.{IsWhole as IsWholeShare};
-ghost use Rattle.arachne_sleep.specs.History.{IsSound};
-ghost use Rattle.arachne_sleep.specs.OneHolder.{HasOneHolderAtATime};
-ghost use Rattle.arachne_sleep.specs.Views.{IsWhole as IsWholeSeat};
-ghost use Rattle.arachne_spill.specs.Views.{IsPassOf, IsWhole as IsWholePass};
+ghost use Rattle.arachne_jobs.specs.Views.{IsPassOf};
 ghost use Rattle.arachne_weights.specs.Weight.{whole};
 ghost use Rattle.arachne_run.specs.declared.fault.WorkerFault.TheVariants.{Memory, Token};
 ghost use Rattle.arachne_run.specs.Histories.{AreOfLocks};
-ghost use Rattle.arachne_run.specs.Tokens.{AreAllBack, AreHoldingsOf, AreIdle, IsAnyLeft, IsMachineFor, IsSetUp};
+ghost use Rattle.arachne_run.specs.Tokens.{AreAllBack, AreIdle, IsAnyLeft, IsMachineFor, IsSetUp};
 
-use crate::both::{both, first_of};
 use crate::fault::WorkerFault;
 use crate::resources::{Holdings, Remains, Resources};
 use crate::shared::SharedState;
-use crate::tokens::Tokens;
 use arachne_arbiter::{Arbiter, Cores};
 use arachne_contexts::{Contexts, Seats, Tagged};
 use arachne_core::{CORES, OccWord, SLOTS};
-use arachne_jobs::has_exclusive;
+use arachne_jobs::{CAPACITY, SpillPass, SpillQueue, has_exclusive};
+use arachne_ledger::Ledgers;
 use arachne_policy::CoreOrder;
 use arachne_program::Program;
-use arachne_spill::{CAPACITY, SpillPass, SpillQueue};
+use arachne_sleep::SleepLocks;
 use arachne_workers::{keeps_place, may_keep_places};
 use std::alloc::{AllocError, Global};
 use std::marker::PhantomData;
 use std::sync::Wait;
 
-/// The objects that all workers of a run share.
-///
-/// These are the context table, the ledgers, the locks, the queue of tickets (entries of waiting children), and the
-/// words by which workers wake one another.
 #[derive(Drop)]
 pub(crate) struct Machine<C, K: Tagged + Drop> {
     pub(crate) shared: SharedState,
     pub(crate) resources: Resources,
-    /// The queue of tickets, the entries of children that wait for a slot.
     pub(crate) tickets: SpillQueue<K>,
     pub(crate) table: C,
     pub(crate) cores: u8,
-    /// The number of slots of each core.
     pub(crate) slots: u8,
     pub(crate) quantum: u32,
-    /// The number of orders to open or close cores that the run was given.
     pub(crate) orders: usize,
-    /// True if workers may keep the slots of ended threads for later children.
+    /// True if workers may keep slots of ended threads claimed for threads that are forked later.
     pub(crate) may_keep: bool,
-    /// True if workers may move threads to their own cores. They may not if a thread may want a core for itself, since
-    /// a move takes a slot on the worker's core while it is made.
+    /// True if workers may move threads to their own cores.
+    ///
+    /// False if the program forks threads that want a core for themselves: such a thread needs an empty core, and a
+    /// move occupies a slot of the worker's core for a while.
     pub(crate) may_pull: bool,
 }
 
+/// A worker's rights to use the objects of a run. One worker also has the arbiter, which opens and closes cores.
+#[derive(Drop)]
+pub(crate) struct Tokens<S, K> {
+    pub(crate) seat: S,
+    pub(crate) pass: SpillPass<K>,
+    pub(crate) holdings: Holdings,
+    pub(crate) arbiter: Option<Arbiter>,
+}
+
 impl<C: Seats, K: Tagged + Drop> Machine<C, K> {
-    /// Returns whether a worker keeps the slot that a thread leaves, for a later child. It does if workers of this run
-    /// may keep slots, and the core was full before (`before` is the core's occupancy word at that time).
+    /// Returns true if a worker keeps an ended thread's slot claimed for a later thread.
+    ///
+    /// The core must have been full, open and shared, as its occupancy word `before` says.
     #[inline(always)]
     pub(crate) fn keeps_place(&self, before: OccWord) -> bool
         ensures { IsTrue result ↔ (self.now.may_keep ≡ true) × (self.now.slots ≤ count_of before.occupied)
@@ -68,7 +67,6 @@ impl<C: Seats, K: Tagged + Drop> Machine<C, K> {
         self.may_keep && keeps_place(before, self.slots)
     }
 
-    /// Returns the table's cores, together with the host `rt`, in the form that calls of `arachne_arbiter` need.
     pub(crate) fn cores<'a, H, T>(&'a self, rt: &'a H) -> Cores<'a, H, T, C>
         requires { IsSetUp C.core_count C.slot_count self.now }
         ensures table { result.table.now ≡ self.now.table }
@@ -85,8 +83,6 @@ impl<C: Seats, K: Tagged + Drop> Machine<C, K> {
 }
 
 impl<C: Seats + Drop, K: Tagged + Drop> Machine<C, K> {
-    /// Creates the shared objects of a run, and all tokens (rights to use them: seats, passes and shares). Called
-    /// before any worker begins.
     pub(crate) fn new(
         alloc: Global,
         cores: u8,
@@ -108,12 +104,13 @@ impl<C: Seats + Drop, K: Tagged + Drop> Machine<C, K> {
         let count = orders.len();
         let exclusive = has_exclusive(&program.root);
         let arbiter = Arbiter::new(alloc, orders, cores)?;
-        let (resources, holdings) = Resources::new(alloc, program.ledgers, program.locks)?;
+        let (ledgers, share) = Ledgers::new(alloc, usize::from(program.ledgers))?;
+        let (locks, lock_seats) = SleepLocks::new(alloc, program.locks)?;
         let (tickets, pass) = SpillQueue::new(alloc)?;
         let (table, seat) = C::new(alloc, cores, slots, 0)?;
         let machine = Machine {
             shared: SharedState::new(alloc, cores, slots)?,
-            resources,
+            resources: Resources { ledgers, locks },
             tickets,
             table,
             cores,
@@ -126,14 +123,14 @@ impl<C: Seats + Drop, K: Tagged + Drop> Machine<C, K> {
         let tokens = Tokens {
             seat,
             pass,
-            holdings,
+            holdings: Holdings { share, lock_seats },
             arbiter: Some(arbiter),
         };
         Ok((machine, tokens))
     }
 
-    /// Closes the shared objects after all workers have ended. Returns the ledgers' sums, the locks' histories, and the
-    /// number of orders carried out. If a worker has failed, returns the first fault as the error.
+    /// Returns the ledgers' sums, the locks' histories, and the number of orders carried out. The error is the first
+    /// fault of a worker, if any has failed.
     pub(crate) fn close<H: Wait, T>(
         self,
         rt: &H,
@@ -156,7 +153,9 @@ impl<C: Seats + Drop, K: Tagged + Drop> Machine<C, K> {
             table,
             ..
         } = self;
-        let tokens = first_of(shared.into_first_fault(), tokens)?;
+        let SharedState { first_fault, .. } = shared;
+        let first = first_fault.into_inner();
+        let tokens = all_of(first, tokens, &table, &tickets, &resources.locks)?;
         let Tokens {
             seat,
             pass,
@@ -166,71 +165,107 @@ impl<C: Seats + Drop, K: Tagged + Drop> Machine<C, K> {
         let Some(arbiter) = arbiter else {
             return Err(WorkerFault::Token);
         };
-        let remains = close_all(rt, alloc, resources, table, tickets, seat, pass, holdings)?;
+        empty(rt, &tickets, pass);
+        end_table(rt, alloc, table, seat)?;
+        let remains = resources.close(alloc, holdings)?;
         Ok((remains, arbiter.applied()))
     }
 }
 
-/// Closes the shared objects after all workers have ended without a fault. Returns the ledgers' sums and the locks'
-/// histories. If any seat, pass or share was not returned, the error is `Token`, even if memory was also refused.
-fn close_all<H: Wait, T: Tagged + Drop, C: Contexts<T> + Drop, K: Tagged + Drop>(
-    rt: &H,
-    alloc: Global,
-    resources: Resources,
-    table: C,
-    tickets: SpillQueue<K>,
-    seat: C::Seat,
-    pass: SpillPass<K>,
-    holdings: Holdings,
-) -> Result<Remains, WorkerFault>
-    requires seat { C.sits table seat }
-    requires idle { C.idle table seat }
-    requires pass { IsPassOf tickets pass }
-    requires holdings { AreHoldingsOf resources holdings }
-    ensures count { IfOk result (λ remains. length remains.histories.items ≡ length resources.locks) }
-    ensures sound { IfOk result (λ remains. All (λ history. IsSound history.items) remains.histories.items) }
-    ensures one_holder { IfOk result (λ remains. All (λ history. HasOneHolderAtATime history.items) remains.histories.items) }
-    ensures words { IfOk result (λ remains. remains.words.items ≡ map (λ sum. sum % 2 ^ 64) holdings.share.sums) }
-    ensures missing_seat { C.weight seat ≢ whole → result ≡ Err Token }
-    ensures missing_pass { (IsWholePass pass → ⊥) → result ≡ Err Token }
-    ensures missing_share { (IsWholeShare holdings.share → ⊥) → result ≡ Err Token }
-    ensures missing_lock_seat { (All IsWholeSeat holdings.lock_seats → ⊥) → result ≡ Err Token }
-    ensures back { IsOk result → (C.weight seat ≡ whole) × IsWholePass pass × IsWholeShare holdings.share × All IsWholeSeat holdings.lock_seats }
-{
-    let remains = resources.close(alloc, holdings);
-    let closed = close_table(rt, alloc, table, tickets, seat, pass);
-    let (remains, _) = both(remains, closed)?;
-    Ok(remains)
-}
-
-/// Closes the table and the queue of tickets. The error is `Token` if a seat of the table or a pass of the queue was
-/// not returned, if a slot is still claimed, or if a thread is left in the table.
-fn close_table<H: Wait, T: Tagged + Drop, C: Contexts<T> + Drop, K: Tagged + Drop>(
-    rt: &H,
-    alloc: Global,
-    table: C,
-    tickets: SpillQueue<K>,
-    seat: C::Seat,
-    pass: SpillPass<K>,
-) -> Result<(), WorkerFault>
-    requires seat { C.sits table seat }
-    requires idle { C.idle table seat }
-    requires pass { IsPassOf tickets pass }
-    ensures fault { IfErr result (λ fault. (fault ≡ Memory) ⊎ (fault ≡ Token)) }
-    ensures missing_seat { C.weight seat ≢ whole → result ≡ Err Token }
-    ensures missing_pass { (IsWholePass pass → ⊥) → result ≡ Err Token }
-    ensures back { IsOk result → (C.weight seat ≡ whole) × IsWholePass pass }
-    ensures none_left { OnOk result (C.settles table seat []) }
-{
-    close_queue::<H, K>(rt, &tickets, pass)?;
-    if !table.is_whole(&seat) || table.out(&seat) != 0 {
-        return Err(WorkerFault::Token);
+impl<S, K: Tagged + Drop> Tokens<S, K> {
+    /// Splits a worker's tokens (rights) in two, of which the first keep the arbiter.
+    ///
+    /// If memory is refused, returns the tokens unsplit.
+    pub(crate) fn split<H: Wait, C: Seats<Seat = S>>(
+        self,
+        rt: &H,
+        alloc: Global,
+        machine: &Machine<C, K>,
+    ) -> Result<(Tokens<S, K>, Tokens<S, K>), Tokens<S, K>>
+        requires { AreIdle C.sits C.idle machine.now self }
+        ensures own { IfOk result (λ parts. AreIdle C.sits C.idle machine.now parts.0) }
+        ensures others { IfOk result (λ parts. AreIdle C.sits C.idle machine.now parts.1) }
+        ensures err { IfErr result (λ back. AreIdle C.sits C.idle machine.now back × (back.arbiter ≡ self.arbiter)) }
+        ensures arbiter { IfOk result (λ parts. (parts.0.arbiter ≡ self.arbiter) × (parts.1.arbiter ≡ None)) }
+    {
+        let (holdings, other_holdings) = match machine.resources.split(alloc, self.holdings) {
+            Ok(parts) => parts,
+            Err(holdings) => return Err(Tokens { holdings, ..self }),
+        };
+        let (seat, other_seat) = machine.table.split(rt, self.seat);
+        let (pass, other_pass) = machine.tickets.split(rt, self.pass);
+        let own = Tokens {
+            seat,
+            pass,
+            holdings,
+            arbiter: self.arbiter,
+        };
+        let others = Tokens {
+            seat: other_seat,
+            pass: other_pass,
+            holdings: other_holdings,
+            arbiter: None,
+        };
+        Ok((own, others))
     }
-    end_table(rt, alloc, table, seat)
+
+    /// Joins the tokens (rights) of another worker to these, and drops the arbiter in `other`.
+    pub(crate) fn join<H: Wait, C: Seats<Seat = S>>(
+        self,
+        rt: &H,
+        machine: &Machine<C, K>,
+        other: Tokens<S, K>,
+    ) -> Tokens<S, K>
+        requires own { AreIdle C.sits C.idle machine.now self }
+        requires others { AreIdle C.sits C.idle machine.now other }
+        ensures idle { AreIdle C.sits C.idle machine.now result }
+        ensures arbiter { result.arbiter ≡ self.arbiter }
+    {
+        let (ledgers, locks) = (&machine.resources.ledgers, &machine.resources.locks);
+        let (mine, theirs) = (self.holdings, other.holdings);
+        Tokens {
+            seat: machine.table.join_seats(rt, self.seat, other.seat),
+            pass: machine.tickets.join_passes(rt, self.pass, other.pass),
+            holdings: Holdings {
+                share: ledgers.join_shares(mine.share, theirs.share),
+                lock_seats: locks.join_seats(mine.lock_seats, theirs.lock_seats),
+            },
+            arbiter: self.arbiter,
+        }
+    }
 }
 
-/// Closes the table by `seat`, into which all other seats must have been joined. The error is `Token` if a thread is
-/// left in the table.
+/// Returns all workers' tokens (rights), or the fault `Token` if some of them are missing.
+fn all_of<C: Seats, K: Tagged + Drop>(
+    first: Option<WorkerFault>,
+    tokens: Option<Tokens<C::Seat, K>>,
+    table: &C,
+    tickets: &SpillQueue<K>,
+    locks: &SleepLocks,
+) -> Result<Tokens<C::Seat, K>, WorkerFault>
+    ensures first { IfSome first (λ fault. result ≡ Err fault) }
+    ensures missing { first ≡ None → tokens ≡ None → result ≡ Err Token }
+    ensures part { first ≡ None → IfSome tokens (λ tokens. (AreAllBack C.weight tokens → ⊥) → result ≡ Err Token) }
+    ensures all { IfOk result (λ found. (tokens ≡ Some found) × AreAllBack C.weight found) }
+{
+    if let Some(fault) = first {
+        return Err(fault);
+    }
+    let Some(tokens) = tokens else {
+        return Err(WorkerFault::Token);
+    };
+    if table.is_whole(&tokens.seat)
+        && tickets.is_whole(&tokens.pass)
+        && tokens.holdings.share.is_whole()
+        && locks.are_whole(&tokens.holdings.lock_seats)
+    {
+        Ok(tokens)
+    } else {
+        Err(WorkerFault::Token)
+    }
+}
+
+/// Returns the fault `Token` if a thread is left in the table.
 fn end_table<H: Wait, T: Tagged + Drop, C: Contexts<T> + Drop>(
     rt: &H,
     alloc: Global,
@@ -254,27 +289,13 @@ fn end_table<H: Wait, T: Tagged + Drop, C: Contexts<T> + Drop>(
     }
 }
 
-/// Empties the queue of tickets (entries of waiting children). The error is `Token` if not all passes (rights to use
-/// the queue) were returned.
-fn close_queue<H: Wait, K: Tagged + Drop>(
-    rt: &H,
-    tickets: &SpillQueue<K>,
-    pass: SpillPass<K>,
-) -> Result<(), WorkerFault>
+fn empty<H: Wait, K: Tagged + Drop>(rt: &H, tickets: &SpillQueue<K>, pass: SpillPass<K>)
     requires { IsPassOf tickets.now pass }
-    ensures missing { (IsWholePass pass → ⊥) → result ≡ Err Token }
-    ensures whole { IsWholePass pass → IsOk result }
-    ensures back { IsOk result → IsWholePass pass }
 {
     let mut rest = pass;
     for _ in 0..CAPACITY {
         if tickets.pop(rt, &mut rest).is_none() {
             break;
         }
-    }
-    if tickets.is_whole(&rest) {
-        Ok(())
-    } else {
-        Err(WorkerFault::Token)
     }
 }

@@ -1,27 +1,28 @@
-//! The report of a run: the program's value, ledgers and threads, and the history of its locks.
-ghost use Rattle.std.specs.Prelude.{◌≡◌, ◌≢◌, [], All, Err, IfOk, length, map};
+//! The report of a run: the program's value, ledgers and threads, and the history of its locks. It is made only if all
+//! threads have different tags (numbers in the run), and the locks' histories match the threads' lines.
+ghost use Rattle.std.specs.Prelude.{◌≡◌, ◌≢◌, ◌⊎◌, ℕ, ◌<◌, ◌≤◌, [], false, true, All, Contains, Err, IfErr, IfNone, IfOk, IfSome, Ok, OnOk, List, length, map, slice_index, slice_index_or};
 ghost use Rattle.arachne_program.specs.Program.{source_of};
 ghost use Rattle.arachne_program.specs.Meaning.{meaning_of};
-ghost use Rattle.arachne_run.specs.Distinct.{AreDistinct};
-ghost use Rattle.arachne_run.specs.Histories.{GrantsAreHolds};
-ghost use Rattle.arachne_run.specs.declared.fault.WorkerFault.TheVariants.{Ledgers, Threads};
+ghost use Rattle.arachne_sleep.specs.declared.event.LockEvent.TheVariants.{Grant};
+ghost use Rattle.arachne_sleep.specs.declared.who.Who.{Who};
+ghost use Rattle.arachne_run.specs.Distinct.{AreDistinct, AreMarksOf, HasClash};
+ghost use Rattle.arachne_run.specs.Histories.{GrantsAreHolds, IsGrantedAsHeld, grants_to};
+ghost use Rattle.arachne_run.specs.declared.fault.WorkerFault.TheVariants.{Ledgers, Memory, Threads};
 ghost use Rattle.arachne_run.specs.Reports.{histories_in, meaning_in, tags_of};
 
-use crate::audit::audit;
 use crate::fault::WorkerFault;
 use crate::resources::Remains;
-use arachne_machine::{DetachedOutcome, ThreadLines};
+use arachne_machine::{DetachedOutcome, LineView, ThreadLines};
 use arachne_program::Sequence;
-use arachne_sleep::History;
-use std::alloc::Global;
+use arachne_sleep::{History, LockEvent};
+use std::alloc::{AllocError, Global};
 
-/// The report of a program that has ended: its value, the sums of its ledgers, its threads, and the histories of its
-/// locks.
+/// The report of a program that has ended.
 #[derive(Debug, Drop)]
 pub struct Report {
     /// The value of the program's root thread.
     pub value: u64,
-    /// For each ledger, the sum of the amounts that were added to it, modulo 2^64.
+    /// For each ledger (shared counter), the sum of the amounts that were added, modulo 2^64.
     pub totals: Sequence<u64>,
     /// One line for each of the program's threads, the root's first.
     pub threads: ThreadLines,
@@ -32,9 +33,10 @@ pub struct Report {
 }
 
 impl Report {
-    /// Makes the report from the root thread's outcome and from the values that the closed ledgers and locks have
-    /// returned. Returns an error unless the outcome's sums are the words of the ledgers, all threads have different
-    /// tags, and the grants of the locks match the threads' lines.
+    /// Makes the report from the root's outcome, the sums of the ledgers, and the histories of the locks.
+    ///
+    /// Returns an error if the outcome has other sums, if two threads have the same tag, or if a lock was not granted
+    /// to each thread as often as the thread's line says.
     pub(crate) fn of(
         alloc: Global,
         outcome: DetachedOutcome,
@@ -48,6 +50,7 @@ impl Report {
         ensures histories { IfOk result (λ report. report.histories ≡ remains.histories) }
         ensures grants { IfOk result (λ report. GrantsAreHolds report.threads (histories_in report)) }
         ensures applied { IfOk result (λ report. report.applied ≡ applied) }
+        ensures fault { IfErr result (λ fault. ((fault ≡ Memory) ⊎ (fault ≡ Threads)) ⊎ (fault ≡ Ledgers)) }
         ensures sums { result ≡ Err Ledgers → outcome.sums ≢ remains.words.items }
         ensures threads { result ≡ Err Threads → outcome.sums ≡ remains.words.items }
     {
@@ -58,7 +61,12 @@ impl Report {
         if parts.sums.as_slice() != words.as_slice() {
             return Err(WorkerFault::Ledgers);
         }
-        audit(alloc, &parts.lines, histories.as_slice())?;
+        let Some(marks) = marks_of(alloc, &parts.lines)? else {
+            return Err(WorkerFault::Threads);
+        };
+        if !are_grants_holds(alloc, &parts.lines, marks.as_slice(), histories.as_slice())? {
+            return Err(WorkerFault::Threads);
+        }
         Ok(Report {
             value: parts.value,
             totals: Sequence::from(words),
@@ -66,5 +74,109 @@ impl Report {
             histories,
             applied,
         })
+    }
+}
+
+/// Returns a list that is true at each thread's tag, or `None` if two tags are equal or one is `u64::MAX`.
+fn marks_of(alloc: Global, threads: &ThreadLines) -> Result<Option<Vec<bool>>, AllocError>
+    ensures distinct { IfOk result (λ found. IfSome found (λ marks. AreDistinct (map (λ line. line.tag) threads.now))) }
+    ensures marks { IfOk result (λ found. IfSome found (λ marks. AreMarksOf (map (λ line. line.tag) threads.now) marks.items)) }
+    ensures none { IfOk result (λ found. IfNone found (HasClash (map (λ line. line.tag) threads.now))) }
+{
+    let mut marks = Vec::new(alloc);
+    marks.resize(threads.len(), false)?;
+    for line in threads.iter() {
+        let place = place_of(&line);
+        if place == usize::MAX {
+            return Ok(None);
+        }
+        if place >= marks.len() {
+            marks.resize(place + 1, false)?;
+        }
+        if marks[place] {
+            return Ok(None);
+        }
+        marks[place] = true;
+    }
+    Ok(Some(marks))
+}
+
+#[inline(always)]
+fn place_of(line: &LineView<'_>) -> usize
+    ensures { result ≡ line.now.tag }
+{
+    line.tag() as usize
+}
+
+/// Returns true if each lock was granted to each thread as often as the thread's line says, and to no other thread.
+fn are_grants_holds(
+    alloc: Global,
+    threads: &ThreadLines,
+    marks: &[bool],
+    histories: &[History],
+) -> Result<bool, AllocError>
+    requires { AreMarksOf (map (λ line. line.tag) threads.now) marks.now }
+    ensures { result ≡ Ok true → GrantsAreHolds threads.now (map (λ history. history.items) histories.now) }
+{
+    for lock in 0..histories.len() {
+        if !is_granted_as_held(alloc, threads, marks, lock, &histories[lock])? {
+            return Ok(false);
+        }
+    }
+    Ok(true)
+}
+
+fn is_granted_as_held(
+    alloc: Global,
+    threads: &ThreadLines,
+    marks: &[bool],
+    lock: usize,
+    history: &History,
+) -> Result<bool, AllocError>
+    requires { AreMarksOf (map (λ line. line.tag) threads.now) marks.now }
+    ensures { result ≡ Ok true → IsGrantedAsHeld lock threads.now history.now.items }
+{
+    let Some(grants) = grants_by_tag(alloc, marks, history)? else {
+        return Ok(false);
+    };
+    for line in threads.iter() {
+        let held = number_at(line.holds(), lock);
+        if number_at(grants.as_slice(), line.tag() as usize) != held {
+            return Ok(false);
+        }
+    }
+    Ok(true)
+}
+
+/// Returns the number of the lock's grants to each thread, by tag, or `None` if a grant went to a tag that isn't in
+/// `marks`.
+fn grants_by_tag(
+    alloc: Global,
+    marks: &[bool],
+    history: &History,
+) -> Result<Option<Vec<u64>>, AllocError>
+    ensures grants { IfOk result (λ found. IfSome found (λ grants. (tag : ℕ) → slice_index grants.items tag ≡ grants_to tag history.now.items)) }
+    ensures marked { IfOk result (λ found. IfSome found (λ grants. (who : Who) → Contains history.now.items (Grant who) → slice_index_or marks.now who.tag false ≡ true)) }
+{
+    let mut grants = Vec::new(alloc);
+    grants.resize(marks.len(), 0)?;
+    for event in history.iter() {
+        if let LockEvent::Grant(who) = event {
+            let tag = who.tag as usize;
+            if tag >= grants.len() || !marks[tag] {
+                return Ok(None);
+            }
+            grants[tag] += 1;
+        }
+    }
+    Ok(Some(grants))
+}
+
+fn number_at(numbers: &[u64], place: usize) -> u64
+    ensures { result ≡ slice_index numbers.now place }
+{
+    match numbers.get(place) {
+        Some(number) => *number,
+        None => 0,
     }
 }

@@ -12,7 +12,6 @@ use crate::gate::Gate;
 use crate::machine::Machine;
 use crate::report::Report;
 use crate::setup::Setup;
-use crate::stack::Stack;
 use crate::workers::work_all;
 use arachne_contexts::Contexts;
 use arachne_jobs::{JobOf, RunSpares};
@@ -24,11 +23,11 @@ use std::sync::Wait;
 use std::thread::Threads;
 use std::time::Clock;
 
-/// Runs a program on one kernel thread for each core, over a table of the type `C`.
+/// Runs a program on one kernel thread for each core, over a table of the type `C`, and returns its report.
 ///
 /// Each core draws from its own chooser (the random generator by which forks choose cores). The setup's orders close
-/// cores and open them again while the program runs; orders that aren't due before the program's end aren't carried
-/// out. The call doesn't change `program`. After an error nothing of the run is left in memory.
+/// cores and open them again while the program runs. Orders that aren't due before the program's end aren't carried
+/// out. If the run fails, all of its memory is freed.
 pub fn run<
     'p,
     H: Threads + Wait + Clock + Sync,
@@ -59,7 +58,9 @@ where
     ensures order_refused { refusal_in setup (vec_len choosers) ≡ None → (AreInOrder setup.cores setup.orders.items → ⊥) → IfErr result (IsFirstOrderFault setup.cores setup.orders.items) }
 {
     setup.check(choosers.len())?;
-    let choosers = Stack::of(choosers);
+    // Reversed, so that `pop` gives core 0 its chooser first.
+    let mut choosers = choosers;
+    choosers.reverse();
     let (root, receiver) = T::begin(alloc, program, &mut T::Spares::none(alloc))?;
     let (machine, tokens) = Machine::<C, T::Ticket>::new(
         alloc,
@@ -80,8 +81,8 @@ where
 
 /// Runs `program` as `run` does, with a table of atomic words.
 ///
-/// A call of `run` that fixes both the type of the table and that of the jobs is too much for the prover. So this
-/// function fixes the type of the table, and its caller fixes that of the jobs.
+/// The prover can't check a call of `run` that fixes the types of the table and of the jobs at once. So this function
+/// fixes the table's type, and its caller that of the jobs.
 pub fn run_on_words<
     'p,
     H: Threads + Wait + Clock + Sync,

@@ -1,28 +1,19 @@
-//! A worker's access to the table, by two seats: it takes, runs and puts back threads, and keeps slots for later
-//! children.
-//!
-//! Only this module and `forking` call the table while threads run. Between two calls, one seat holds the thread that
-//! the worker runs, if there is one, the other holds the slots that the worker keeps for later children, and neither
-//! seat holds anything else.
-ghost use Rattle.std.specs.Prelude.{ℕ, ◌≡◌, ◌≢◌, ◌↔◌, ◌==◌, ◌<◌, ◌≤◌, if◌then◌else◌, false, true, IfOk, IsSome, IsTrue, MatchOption, None, OnOk, Some, map};
-ghost use Rattle.arachne_arbiter.specs.KernelThreads.{parked_cores};
-ghost use Rattle.arachne_arbiter.specs.Orders.{HasAppliedDue};
-ghost use Rattle.arachne_contexts.specs.Out.{Claim as a_claim, KeepsOut};
+//! A worker's access to the table, by which it takes, runs and puts back threads, and claims slots in advance. The
+//! worker has two seats (rights to use the table). Between two calls, one seat holds only the thread that the worker
+//! runs, and the other only the slots that the worker keeps claimed for threads that are forked later.
+ghost use Rattle.std.specs.Prelude.{◌≡◌, ◌≢◌, ◌↔◌, ◌<◌, ◌≤◌, false, true, IfOk, IsSome, IsTrue, MatchOption, None, is_some};
 ghost use Rattle.arachne_run.specs.Tokens.{AreIdle, IsSetUp, ground_of};
 
 use crate::access::Access;
 use crate::fault::WorkerFault;
-use crate::forking::{ForkSupplies, free_place, give_place_back, go_on, post_waiting};
+use crate::forking::{ForkSupplies, free_place, give_place_back, go_on, post_at, post_waiting};
 use crate::gate::Gate;
-use crate::in_hand::{InHand, has_lock, rests_so};
-use crate::machine::Machine;
-use crate::stack::Stack;
-use crate::tokens::Tokens;
-use arachne_arbiter::{Arbiter, Cores, Pace, Parking, SliceCounts};
-use arachne_contexts::{Claimed, Contexts, Moved, Placed, Tagged, Taken, Woken};
+use crate::granted::Granted;
+use crate::machine::{Machine, Tokens};
+use arachne_arbiter::{Arbiter, Pace};
+use arachne_contexts::{Claimed, Contexts, Held, Moved, Placed, Taken, Woken};
 use arachne_core::{MarkWord, OccWord, Place, Rest, ThreadId};
-use arachne_jobs::{Openings, RunJob, RunSpares, RunThread, RunTicket, next_ticket};
-use arachne_spill::SpillPass;
+use arachne_jobs::{Openings, RunJob, RunSpares, RunThread, RunTicket, SpillPass, next_ticket};
 use arachne_workers::{
     Desk, Grip, Halt, PostedThread, ThreadStop, TicketResult, WorkerEvent, is_drained,
     may_take_ticket,
@@ -33,8 +24,6 @@ use std::marker::Model;
 use std::sync::Wait;
 use std::time::Clock;
 
-/// A worker's two seats at the table (its rights to use it). The model has the machine to which the seats belong; the
-/// invariant says which thread and slots they hold.
 #[derive(Drop)]
 pub(crate) struct RunSeat<'a, H, T: RunJob, C: Contexts<T>, R, G> {
     pub(crate) rt: &'a H,
@@ -42,25 +31,33 @@ pub(crate) struct RunSeat<'a, H, T: RunJob, C: Contexts<T>, R, G> {
     pub(crate) alloc: Global,
     pub(crate) machine: &'a Machine<C, T::Ticket>,
     pub(crate) core: u8,
-    /// True if the table has rejected a slot or a thread that it had given to the worker. Then `held` and `kept`
-    /// perhaps differ from what the seats really hold, so the worker ends.
+    /// True if the table has rejected a slot or a thread that it had given to the worker.
+    ///
+    /// `held` and `kept` may then be wrong, so the worker ends.
     pub(crate) is_broken: bool,
     /// The seat that holds the thread that the worker runs now.
     pub(crate) seat: C::Seat,
     pub(crate) held: Option<InHand<T, C::Hold>>,
-    /// The seat that holds the slots that the worker keeps for later children.
+    /// The seat that holds the slots in `kept`, which are claimed for threads forked later.
     pub(crate) spare: C::Seat,
-    pub(crate) kept: Stack<C::Claim>,
+    pub(crate) kept: Vec<C::Claim>,
     pub(crate) pass: SpillPass<T::Ticket>,
     pub(crate) arbiter: Option<Arbiter>,
     pub(crate) forks: ForkSupplies<R, T::Spares>,
     pub(crate) access: Access<'a>,
 }
 
+#[derive(Drop)]
+pub(crate) struct InHand<T, H> {
+    pub(crate) held: Held<T, H>,
+    /// The evidence that the thread holds a lock that it got since the worker began to run it.
+    pub(crate) grant: Option<Granted>,
+}
+
 impl<'a, H, T: RunJob, C: Contexts<T>, R, G> Model for RunSeat<'a, H, T, C, R, G> {
-    ghost use Rattle.std.specs.Prelude.{◌≡◌, ◌<◌, false, map};
+    ghost use Rattle.std.specs.Prelude.{◌≡◌, ◌<◌, false, map, reverse};
     ghost use Rattle.arachne_contexts.specs.Out.{Claim as a_claim};
-    ghost use Rattle.arachne_spill.specs.Views.{IsPassOf};
+    ghost use Rattle.arachne_jobs.specs.Views.{IsPassOf};
     ghost use Rattle.arachne_run.specs.Tokens.{ground_of, in_hand, Ground, IsArbiterOf, IsSetUp};
 
     ghost Value = { Ground C };
@@ -70,12 +67,20 @@ impl<'a, H, T: RunJob, C: Contexts<T>, R, G> Model for RunSeat<'a, H, T, C, R, G
     ghost invariant = { λ s. IsSetUp C.core_count C.slot_count s.machine.now × (s.core < s.machine.now.cores)
         × C.sits s.machine.now.table s.seat × C.sits s.machine.now.table s.spare
         × (s.is_broken ≡ false → C.has s.machine.now.table s.seat (in_hand T.tag_of s.held))
-        × (s.is_broken ≡ false → C.has s.machine.now.table s.spare (map a_claim s.kept))
+        × (s.is_broken ≡ false → C.has s.machine.now.table s.spare (map a_claim (reverse s.kept.items)))
         × IsPassOf s.machine.now.tickets s.pass × IsArbiterOf s.machine.now s.arbiter × (s.access.resources ≡ s.machine.now.resources) };
 }
 
+impl<T, H> InHand<T, H> {
+    #[inline(always)]
+    fn taken(held: Held<T, H>) -> InHand<T, H>
+        ensures { result ≡ record { held = held; grant = None } }
+    {
+        InHand { held, grant: None }
+    }
+}
+
 impl<'a, H: Wait, T: RunJob, C: Contexts<T>, R: Rng + Drop, G: Gate> RunSeat<'a, H, T, C, R, G> {
-    /// Creates a worker's access to `machine`, by two seats that hold no slot and no thread.
     pub(crate) fn open(
         rt: &'a H,
         alloc: Global,
@@ -107,7 +112,7 @@ impl<'a, H: Wait, T: RunJob, C: Contexts<T>, R: Rng + Drop, G: Gate> RunSeat<'a,
             seat,
             held: None,
             spare,
-            kept: Stack::new(alloc),
+            kept: Vec::new(alloc),
             pass,
             arbiter,
             forks: ForkSupplies {
@@ -115,12 +120,14 @@ impl<'a, H: Wait, T: RunJob, C: Contexts<T>, R: Rng + Drop, G: Gate> RunSeat<'a,
                 openings: Openings::new(),
                 spares: T::Spares::none(alloc),
             },
-            access: Access::new(&machine.resources, holdings),
+            access: Access {
+                resources: &machine.resources,
+                holdings,
+            },
         }
     }
 
-    /// Puts the thread `root`, if it is given, into a slot of this worker's core, and returns the index of that slot.
-    /// The core has a free slot, since the table is empty when a run begins.
+    /// Puts the root thread, if this worker has it, into a slot of its core, and returns the slot's index.
     pub(crate) fn post_root(&mut self, root: Option<T>) -> Result<Option<u8>, WorkerFault>
         ensures same { self.new ≡ self.old }
         ensures index { IfOk result (λ index. IsSome index ↔ IsSome root) }
@@ -138,37 +145,27 @@ impl<'a, H: Wait, T: RunJob, C: Contexts<T>, R: Rng + Drop, G: Gate> RunSeat<'a,
             return Err(WorkerFault::Token);
         };
         let index = claim.place().index;
-        post_waiting::<H, T, C>(rt, machine, &mut self.spare, claim, Some(root))?;
+        post_at::<H, T, C>(rt, machine, &mut self.spare, claim, root)?;
         self.is_broken = false;
         Ok(Some(index))
     }
 
-    /// If the core was full before a thread left its slot (`before` is its occupancy word at that time), claims a slot
-    /// to keep for a later child. If no slot is claimed, counts the slot that was left as free.
-    fn keep_or_count(&mut self, before: OccWord) -> Result<(), Halt>
+    /// Claims a slot to keep for a later child, if `Machine::keeps_place` allows it.
+    ///
+    /// Otherwise counts the slot that a thread has left as free.
+    fn keep_or_count(&mut self, before: OccWord)
         ensures { self.new ≡ self.old }
     {
         let (rt, machine) = (self.rt, self.machine);
-        let room = machine.shared.room();
-        if self.is_broken || !machine.keeps_place(before) {
+        let room = &machine.shared.room;
+        // Memory is reserved before the claim, so that a claimed slot can be kept.
+        if self.is_broken || !machine.keeps_place(before) || self.kept.try_reserve(1).is_err() {
             room.place_was_left();
-            return Ok(());
+            return;
         }
         match machine.table.claim(rt, &mut self.spare, self.core) {
-            Ok(Claimed::Place(claim)) => match self.kept.push(claim) {
-                Ok(()) => Ok(()),
-                Err(claim) => {
-                    self.is_broken = true;
-                    give_place_back::<H, T, C>(rt, machine, &mut self.spare, claim)?;
-                    self.is_broken = false;
-                    room.place_was_left();
-                    Ok(())
-                }
-            },
-            _ => {
-                room.place_was_left();
-                Ok(())
-            }
+            Ok(Claimed::Place(claim)) => self.kept.push_reserved(claim),
+            _ => room.place_was_left(),
         }
     }
 }
@@ -221,7 +218,7 @@ impl<'a, H: Wait + Clock, T: RunJob, C: Contexts<T>, R: Rng + Drop, G: Gate> Des
             &mut self.seat,
             &mut self.pass,
             &mut thread.held,
-            &mut thread.has_lock,
+            &mut thread.grant,
             &mut self.forks,
             &mut self.access,
             pace,
@@ -241,18 +238,18 @@ impl<'a, H: Wait + Clock, T: RunJob, C: Contexts<T>, R: Rng + Drop, G: Gate> Des
         if self.is_broken {
             return Err(Halt::from(WorkerFault::Token));
         }
-        let Some(InHand { held, has_lock }) = self.held.take() else {
+        let Some(InHand { held, grant }) = self.held.take() else {
             return Err(Halt::from(WorkerFault::Token));
         };
         let Some(rest) = held.value.rest() else {
-            self.held = Some(InHand { held, has_lock });
+            self.held = Some(InHand { held, grant });
             return Err(Halt::from(WorkerFault::Foreign));
         };
         let table = &self.machine.table;
         match table.put_back(self.rt, &mut self.seat, held, rest) {
-            Ok(rested) => Ok(rests_so(rested, rest)),
+            Ok(rested) => Ok(rested.or(rest)),
             Err(held) => {
-                self.held = Some(InHand { held, has_lock });
+                self.held = Some(InHand { held, grant });
                 Err(Halt::from(WorkerFault::Token))
             }
         }
@@ -263,20 +260,21 @@ impl<'a, H: Wait + Clock, T: RunJob, C: Contexts<T>, R: Rng + Drop, G: Gate> Des
         if self.is_broken {
             return Err(Halt::from(WorkerFault::Token));
         }
-        let Some(InHand { held, has_lock }) = self.held.take() else {
+        let Some(InHand { held, grant }) = self.held.take() else {
             return Err(Halt::from(WorkerFault::Token));
         };
         let table = &self.machine.table;
         match table.finish(self.rt, &mut self.seat, held) {
             Ok(job) => {
                 // The slot is freed before the outcome is put into its cell, since only `finish` returns the job. The
-                // slot is kept or counted as free before the parent is woken: otherwise other workers could claim the
-                // slot first.
+                // slot is kept or counted as free before the parent is woken, since other workers could otherwise claim
+                // it first.
                 let parent = job.leave(&mut self.forks.spares);
-                self.keep_or_count(before)?;
+                self.keep_or_count(before);
                 match parent {
                     Ok(None) => {
-                        self.machine.shared.workers().stop();
+                        let machine = self.machine;
+                        machine.shared.workers.stop();
                         Ok(None)
                     }
                     Ok(parent) => Ok(parent),
@@ -284,7 +282,7 @@ impl<'a, H: Wait + Clock, T: RunJob, C: Contexts<T>, R: Rng + Drop, G: Gate> Des
                 }
             }
             Err(held) => {
-                self.held = Some(InHand { held, has_lock });
+                self.held = Some(InHand { held, grant });
                 Err(Halt::from(WorkerFault::Token))
             }
         }
@@ -304,7 +302,7 @@ impl<'a, H: Wait + Clock, T: RunJob, C: Contexts<T>, R: Rng + Drop, G: Gate> Des
         let (rt, machine) = (self.rt, self.machine);
         match give_place_back::<H, T, C>(rt, machine, &mut self.spare, claim) {
             Ok(()) => {
-                machine.shared.room().place_was_left();
+                machine.shared.room.place_was_left();
                 Ok(true)
             }
             Err(fault) => {
@@ -358,11 +356,12 @@ impl<'a, H: Wait + Clock, T: RunJob, C: Contexts<T>, R: Rng + Drop, G: Gate> Des
 
     #[inline(always)]
     fn may_take_ticket(&mut self) -> bool {
-        if !self.machine.shared.room().is_any_waiting() {
+        let machine = self.machine;
+        if !machine.shared.room.is_any_waiting() {
             return false;
         }
         let kept = self.kept.len();
-        may_take_ticket(self.look(), kept, self.machine.slots)
+        may_take_ticket(self.look(), kept, machine.slots)
     }
 
     fn take_ticket(&mut self) -> Result<TicketResult, Halt> {
@@ -370,7 +369,7 @@ impl<'a, H: Wait + Clock, T: RunJob, C: Contexts<T>, R: Rng + Drop, G: Gate> Des
             return Err(Halt::from(WorkerFault::Token));
         }
         let (rt, machine) = (self.rt, self.machine);
-        let room = machine.shared.room();
+        let room = &machine.shared.room;
         let Some(ticket) = next_ticket(rt, &machine.tickets, room, &mut self.pass) else {
             return Ok(TicketResult::None);
         };
@@ -378,18 +377,15 @@ impl<'a, H: Wait + Clock, T: RunJob, C: Contexts<T>, R: Rng + Drop, G: Gate> Des
             return Ok(TicketResult::Gone);
         }
         self.is_broken = true;
-        let posted = post_child::<H, T, C>(
-            rt,
-            self.alloc,
-            machine,
-            &mut self.spare,
-            &mut self.kept,
-            self.core,
-            ticket,
-            &mut self.forks.spares,
-        )?;
+        let (spare, kept) = (&mut self.spare, &mut self.kept);
+        let Some(claim) = free_place::<H, T, C>(rt, machine, spare, kept, self.core)? else {
+            self.is_broken = false;
+            return Ok(TicketResult::Gone);
+        };
+        let job = T::of_ticket(self.alloc, ticket, &mut self.forks.spares);
+        let posted = post_waiting::<H, T, C>(rt, machine, &mut self.spare, claim, job)?;
         self.is_broken = false;
-        Ok(posted)
+        Ok(of_ticket(posted))
     }
 
     fn tend(&mut self) -> (Option<usize>, u64) {
@@ -398,9 +394,8 @@ impl<'a, H: Wait + Clock, T: RunJob, C: Contexts<T>, R: Rng + Drop, G: Gate> Des
             return (None, 0);
         };
         let cores = machine.cores::<H, T>(self.rt);
-        let workers = machine.shared.workers();
-        let (parking, slices) = (workers.parking(), workers.slices());
-        tend_by::<H, T, C>(arbiter, &cores, &mut self.seat, parking, slices)
+        let workers = &machine.shared.workers;
+        arbiter.tend(&cores, &mut self.seat, workers.parking(), workers.slices())
     }
 
     #[inline(always)]
@@ -411,93 +406,25 @@ impl<'a, H: Wait + Clock, T: RunJob, C: Contexts<T>, R: Rng + Drop, G: Gate> Des
     }
 
     fn is_waited_for(&self) -> bool {
-        has_orders_left(&self.arbiter, self.machine.orders)
+        match &self.arbiter {
+            Some(arbiter) => !arbiter.are_over(),
+            None => false,
+        }
     }
 
     fn is_drained(&mut self) -> bool {
         is_drained(self.look())
     }
 
-    fn begins(&self, nth: u64) {
-        self.gate.slice(self.core, nth);
-    }
-
     #[inline(always)]
     fn told(&self, event: WorkerEvent) {
-        self.gate.told(self.core, event);
+        match event {
+            WorkerEvent::Begins(nth) => self.gate.slice(self.core, nth),
+            event => self.gate.told(self.core, event),
+        }
     }
 }
 
-/// Carries out the orders that are due to open or close cores, and moves threads away from closed ones
-/// ([`Arbiter::tend`]).
-///
-/// Returns the number of all orders carried out so far, if this call has carried out an order, and the cores to which
-/// it has moved threads, one bit for each.
-#[inline(always)]
-fn tend_by<H: Wait, T: Tagged, C: Contexts<T>>(
-    arbiter: &mut Arbiter,
-    cores: &Cores<'_, H, T, C>,
-    seat: &mut C::Seat,
-    parking: &Parking,
-    slices: &SliceCounts,
-) -> (Option<usize>, u64)
-    requires seat { C.sits cores.now.table.now seat.old }
-    requires cores { arbiter.old.cores ≡ cores.now.count }
-    requires parking { parked_cores parking.now ≡ cores.now.count }
-    ensures seat { C.sits cores.now.table.now seat.new }
-    ensures out { KeepsOut (C.has cores.now.table.now) seat.old seat.new }
-    ensures progress { (ended : ℕ) × HasAppliedDue arbiter.old arbiter.new ended }
-    ensures news { result.0 ≡ (if arbiter.new.applied == arbiter.old.applied then None else Some arbiter.new.applied) }
-{
-    let before = arbiter.applied();
-    let receivers = arbiter.tend(cores, seat, parking, slices);
-    let after = arbiter.applied();
-    if after == before {
-        (None, receivers)
-    } else {
-        (Some(after), receivers)
-    }
-}
-
-/// Returns whether this worker has `arbiter`, and with it has carried out fewer than `orders` orders to open or close
-/// cores.
-fn has_orders_left(arbiter: &Option<Arbiter>, orders: usize) -> bool
-    ensures { MatchOption arbiter.now (result ≡ false) (λ progress. IsTrue result ↔ (progress.applied < orders)) }
-{
-    match arbiter {
-        Some(arbiter) => arbiter.applied() < orders,
-        None => false,
-    }
-}
-
-/// Puts the child of a ticket (the entry of a waiting child) into a slot, if the child still waits and the core has a
-/// free slot.
-fn post_child<H: Wait, T: RunJob, C: Contexts<T>>(
-    rt: &H,
-    alloc: Global,
-    machine: &Machine<C, T::Ticket>,
-    spare: &mut C::Seat,
-    kept: &mut Stack<C::Claim>,
-    core: u8,
-    ticket: T::Ticket,
-    spares: &mut T::Spares,
-) -> Result<TicketResult, WorkerFault>
-    requires seat { C.sits machine.now.table spare.old }
-    requires out { C.has machine.now.table spare.old (map a_claim kept.old) }
-    requires set_up { IsSetUp C.core_count C.slot_count machine.now }
-    requires core { core < machine.now.cores }
-    ensures seat { C.sits machine.now.table spare.new }
-    ensures out { OnOk result (C.has machine.now.table spare.new (map a_claim kept.new)) }
-{
-    let Some(claim) = free_place::<H, T, C>(rt, machine, spare, kept, core)? else {
-        return Ok(TicketResult::Gone);
-    };
-    let job = T::of_ticket(alloc, ticket, spares);
-    let posted = post_waiting::<H, T, C>(rt, machine, spare, claim, job)?;
-    Ok(of_ticket(posted))
-}
-
-/// Returns the result of a ticket: `Posted` if its child was put into a slot, `Gone` if the child no longer waited.
 #[inline(always)]
 fn of_ticket(posted: Option<PostedThread>) -> TicketResult
     ensures { MatchOption posted (result ≡ TicketResult.Gone) (λ post. result ≡ TicketResult.Posted post) }
@@ -505,5 +432,15 @@ fn of_ticket(posted: Option<PostedThread>) -> TicketResult
     match posted {
         Some(post) => TicketResult::Posted(post),
         None => TicketResult::Gone,
+    }
+}
+
+#[inline(always)]
+fn has_lock<T, H>(in_hand: &Option<InHand<T, H>>) -> bool
+    ensures { MatchOption in_hand.now (result ≡ false) (λ thread. result ≡ is_some thread.grant) }
+{
+    match in_hand {
+        Some(thread) => thread.grant.is_some(),
+        None => false,
     }
 }

@@ -10,22 +10,21 @@ use arachne_policy::{CoreOrder, check_orders};
 
 const MAX_QUANTUM: u64 = 10_000;
 
-/// The settings of a run: its cores, slots and steps per slice, and the orders to close and open cores.
+/// The settings of a run.
 #[derive(Debug, Drop)]
 pub struct Setup {
     /// The number of cores, 1 to 64.
     pub cores: u64,
-    /// The number of slots of each core, 1 to 56.
+    /// The number of thread slots of each core, 1 to 56.
     pub slots: u64,
-    /// The greatest number of steps of a slice, 1 to 10,000.
+    /// The greatest number of steps that a thread makes at a time, 1 to 10,000.
     pub quantum: u64,
     /// The orders that close cores and open them again while the program runs.
     pub orders: Vec<CoreOrder>,
 }
 
 impl Setup {
-    /// Checks these settings, and that there are as many `choosers` (random generators) as cores. Returns the first
-    /// fault that it finds.
+    /// Returns the first fault of these settings, such as another number of `choosers` than of cores.
     pub(crate) fn check(&self, choosers: usize) -> Result<(), RunFault>
         ensures refused { (fault : RunFault) → refusal_of self.now.cores self.now.quantum self.now.slots choosers ≡ Some fault → result ≡ Err fault }
         ensures accepted { IsOk result → refusal_of self.now.cores self.now.quantum self.now.slots choosers ≡ None }

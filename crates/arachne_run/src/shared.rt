@@ -3,25 +3,22 @@ ghost use Rattle.std.specs.Prelude.{◌≡◌, IfOk, MatchOption, Some};
 ghost use Rattle.arachne_run.specs.Setups.{numbered};
 
 use crate::fault::WorkerFault;
-use arachne_jobs::Room;
-use arachne_spill::CAPACITY;
+use arachne_jobs::{CAPACITY, Room};
 use arachne_workers::{Halt, SharedWords};
 use std::alloc::{AllocError, Global};
 use std::marker::Model;
 use std::snapshot::Snapshot;
 use std::sync::{Mutex, Wait};
 
-/// The words by which workers wake one another, the words that are read before each fork, and the first fault of any
-/// worker.
 #[derive(Drop)]
 pub(crate) struct SharedState {
-    room: Room,
-    first_fault: Mutex<Option<WorkerFault>>,
-    workers: SharedWords,
+    /// The words that say whether slots are free and children wait.
+    pub(crate) room: Room,
+    pub(crate) first_fault: Mutex<Option<WorkerFault>>,
+    pub(crate) workers: SharedWords,
 }
 
-/// Zero-sized evidence that [`SharedState::fail`] has stopped all workers for a fault. A worker that fails returns this
-/// value instead of its tokens.
+/// Zero-sized evidence that all workers were stopped because one has failed.
 #[derive(Drop)]
 pub(crate) struct Failed {
     fault: Snapshot<WorkerFault>,
@@ -37,7 +34,6 @@ impl Model for SharedState {
 }
 
 impl SharedState {
-    /// Creates the words for `cores` cores with `slots` slots each.
     pub(crate) fn new(alloc: Global, cores: u8, slots: u8) -> Result<SharedState, AllocError>
         ensures { IfOk result (λ shared. shared ≡ cores) }
     {
@@ -49,19 +45,7 @@ impl SharedState {
         })
     }
 
-    /// Returns the words by which workers wake one another.
-    pub(crate) fn workers(&self) -> &SharedWords
-        ensures { result.now ≡ self.now }
-    {
-        &self.workers
-    }
-
-    /// Returns the words that say whether slots are free and children wait; workers read them before each fork.
-    pub(crate) fn room(&self) -> &Room {
-        &self.room
-    }
-
-    /// Stops all workers because of `fault`, and records it if no fault was recorded before.
+    /// Stops all workers because of `fault`, and records it if it is the first.
     pub(crate) fn fail<H: Wait>(&self, rt: &H, fault: WorkerFault) -> Failed
         ensures { result.fault.value ≡ fault }
     {
@@ -73,20 +57,13 @@ impl SharedState {
         }
     }
 
-    /// Stops all workers because of the error that has ended the loop of one worker.
     pub(crate) fn halt<H: Wait>(&self, rt: &H, halt: Halt) -> Failed
         ensures { result.fault.value ≡ numbered halt.why }
     {
         self.fail(rt, WorkerFault::from(halt))
     }
-
-    /// Returns the fault that was recorded, if there is one.
-    pub(crate) fn into_first_fault(self) -> Option<WorkerFault> {
-        self.first_fault.into_inner()
-    }
 }
 
-/// Stores `fault` in `first`, unless a fault is there already.
 fn keep_first(first: &mut Option<WorkerFault>, fault: WorkerFault)
     ensures { MatchOption first.old (first.new ≡ Some fault) (λ before. first.new ≡ Some before) }
 {

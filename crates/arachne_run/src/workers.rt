@@ -1,16 +1,15 @@
 //! Starts one kernel thread for each core of a run, and gives each of them its rights to use the shared objects.
 ghost use Rattle.std.specs.Prelude.{◌≡◌, ◌<◌, None, IfErr, IfOk, IfSome, IsErr, IsNone};
-ghost use Rattle.arachne_run.specs.Choosers.{IsFirstOf};
+ghost use Rattle.arachne_run.specs.Choosers.{IsLastOf};
 ghost use Rattle.arachne_run.specs.Tokens.{AreIdle, IsSetUp, ground_of};
 ghost use Rattle.arachne_run.specs.declared.fault.WorkerFault.TheVariants.{KernelThread, Token};
 
+use crate::access::Access;
 use crate::fault::WorkerFault;
 use crate::gate::Gate;
-use crate::machine::Machine;
+use crate::machine::{Machine, Tokens};
 use crate::seat::RunSeat;
 use crate::shared::Failed;
-use crate::stack::Stack;
-use crate::tokens::Tokens;
 use arachne_arbiter::Pace;
 use arachne_contexts::{Contexts, Tagged};
 use arachne_jobs::RunJob;
@@ -22,7 +21,6 @@ use std::sync::Wait;
 use std::thread::Threads;
 use std::time::Clock;
 
-/// The references to shared objects that all workers of a run have.
 #[derive(Drop)]
 struct Workers<'a, C, K: Tagged + Drop, G> {
     alloc: Global,
@@ -37,8 +35,8 @@ struct WorkerShare<S, T: RunJob, R> {
     /// The root thread, if it begins on this worker's core.
     root: Option<T>,
     chooser: Option<R>,
-    /// The choosers (random generators), each for one of the workers that are split off from this share.
-    choosers: Stack<R>,
+    /// The random generators of the workers whose shares are split off from this one, the next worker's last.
+    choosers: Vec<R>,
 }
 
 impl<'a, T: RunJob, C: Contexts<T>, R: Rng + Drop, G: Gate> Team<WorkerShare<C::Seat, T, R>>
@@ -64,7 +62,7 @@ impl<'a, T: RunJob, C: Contexts<T>, R: Rng + Drop, G: Gate> Team<WorkerShare<C::
         ensures other { IfSome result.1 (λ theirs. AreIdle C.sits C.idle self.now.machine.now theirs.tokens × IsSetUp C.core_count C.slot_count self.now.machine.now) }
         ensures orders { (result.0.tokens.arbiter ≡ share.tokens.arbiter) × IfSome result.1 (λ theirs. theirs.tokens.arbiter ≡ None) }
         ensures root { (result.0.root ≡ share.root) × IfSome result.1 (λ theirs. theirs.root ≡ None) }
-        ensures choosers { (result.0.chooser ≡ share.chooser) × IfSome result.1 (λ theirs. IsFirstOf theirs.chooser share.choosers result.0.choosers) }
+        ensures choosers { (result.0.chooser ≡ share.chooser) × IfSome result.1 (λ theirs. IsLastOf theirs.chooser share.choosers.items result.0.choosers.items) }
     {
         let WorkerShare {
             tokens,
@@ -81,7 +79,7 @@ impl<'a, T: RunJob, C: Contexts<T>, R: Rng + Drop, G: Gate> Team<WorkerShare<C::
                 tokens,
                 root: None,
                 chooser: choosers.pop(),
-                choosers: Stack::new(self.alloc),
+                choosers: Vec::new(self.alloc),
             }),
             None => None,
         };
@@ -94,6 +92,9 @@ impl<'a, T: RunJob, C: Contexts<T>, R: Rng + Drop, G: Gate> Team<WorkerShare<C::
         (own, theirs)
     }
 
+    /// Runs the worker of core `number` until all workers stop, beginning with the root thread if this worker has it.
+    ///
+    /// After a fault, stops all workers and returns no share, since this worker may still hold a thread or slots.
     fn work<H: Wait + Clock>(
         &self,
         rt: &H,
@@ -107,9 +108,15 @@ impl<'a, T: RunJob, C: Contexts<T>, R: Rng + Drop, G: Gate> Team<WorkerShare<C::
             choosers,
         } = share;
         let (alloc, machine, gate) = (self.alloc, self.machine, self.gate);
-        let tokens = work_on::<H, T, C, R, G>(
+        let mut worker = open_worker::<H, T, C, R, G>(
             rt, alloc, machine, gate, number, chooser, tokens, root,
         ).ok()?;
+        if let Err(halt) = worker.work() {
+            machine.shared.halt(rt, halt);
+            return None;
+        }
+        let CoreWorker { desk, .. } = worker;
+        let tokens = into_tokens(machine, desk).ok()?;
         Some(WorkerShare {
             tokens,
             root: None,
@@ -134,7 +141,7 @@ impl<'a, T: RunJob, C: Contexts<T>, R: Rng + Drop, G: Gate> Team<WorkerShare<C::
             tokens: tokens.join::<H, C>(rt, self.machine, other.tokens),
             root: None,
             chooser: None,
-            choosers: Stack::new(self.alloc),
+            choosers: Vec::new(self.alloc),
         })
     }
 
@@ -143,7 +150,6 @@ impl<'a, T: RunJob, C: Contexts<T>, R: Rng + Drop, G: Gate> Team<WorkerShare<C::
     }
 }
 
-/// Runs the workers of all cores, each with its chooser (random generator), and returns after all of them have stopped.
 pub(crate) fn work_all<
     H: Threads + Wait + Clock + Sync,
     T: RunJob + Send,
@@ -156,7 +162,7 @@ pub(crate) fn work_all<
     machine: &Machine<C, T::Ticket>,
     gate: &G,
     root: T,
-    choosers: Stack<R>,
+    choosers: Vec<R>,
     tokens: Tokens<C::Seat, T::Ticket>,
 ) -> Option<Tokens<C::Seat, T::Ticket>>
 where
@@ -186,25 +192,26 @@ where
     Some(tokens)
 }
 
-/// Runs the worker of a core until all workers stop. If there is a root thread, it runs first.
+/// Makes the worker of a core, and posts the root thread on that core if this worker has it.
 ///
-/// Returns the worker's tokens (its rights to use the shared objects). After a fault, stops all workers and returns no
-/// tokens, since this worker's seats perhaps still hold a thread or slots. A missing chooser (random generator) is a
-/// fault.
-fn work_on<H: Wait + Clock, T: RunJob, C: Contexts<T>, R: Rng + Drop, G: Gate>(
-    rt: &H,
+/// If the worker has no chooser, or the root thread can't be posted, stops all workers.
+fn open_worker<'a, H: Wait, T: RunJob, C: Contexts<T>, R: Rng + Drop, G: Gate>(
+    rt: &'a H,
     alloc: Global,
-    machine: &Machine<C, T::Ticket>,
-    gate: &G,
+    machine: &'a Machine<C, T::Ticket>,
+    gate: &'a G,
     core: u8,
     chooser: Option<R>,
     tokens: Tokens<C::Seat, T::Ticket>,
     root: Option<T>,
-) -> Result<Tokens<C::Seat, T::Ticket>, Failed>
+) -> Result<CoreWorker<'a, H, RunSeat<'a, H, T, C, R, G>>, Failed>
     requires tokens { AreIdle C.sits C.idle machine.now tokens }
     requires set_up { IsSetUp C.core_count C.slot_count machine.now }
     requires core { core < machine.now.cores }
-    ensures idle { IfOk result (AreIdle C.sits C.idle machine.now) }
+    ensures core { IfOk result (λ worker. (worker.core ≡ core) × (worker.slots ≡ machine.now.slots) × (worker.slices ≡ 0)) }
+    ensures helps { IfOk result (λ worker. worker.helps ≡ machine.now.may_pull) }
+    ensures desk { IfOk result (λ worker. worker.desk ≡ ground_of machine.now) }
+    ensures rootless { IfOk result (λ worker. root ≡ None → worker.agenda.ready ≡ 0) }
     ensures no_chooser { IsNone chooser → IsErr result × IfErr result (λ failed. failed.fault.value ≡ KernelThread) }
 {
     let Some(chooser) = chooser else {
@@ -215,42 +222,20 @@ fn work_on<H: Wait + Clock, T: RunJob, C: Contexts<T>, R: Rng + Drop, G: Gate>(
         Ok(root) => root,
         Err(fault) => return Err(machine.shared.fail(rt, fault)),
     };
-    let mut worker = worker_on(rt, machine, core, Agenda::new(alloc, root), desk);
-    if let Err(halt) = worker.work() {
-        return Err(machine.shared.halt(rt, halt));
-    }
-    let CoreWorker { desk, .. } = worker;
-    into_tokens(machine, desk)
-}
-
-/// Creates the worker of `core`, which has run no slice yet.
-#[inline(always)]
-fn worker_on<'a, H, D, C, K: Tagged + Drop>(
-    rt: &'a H,
-    machine: &'a Machine<C, K>,
-    core: u8,
-    agenda: Agenda,
-    desk: D,
-) -> CoreWorker<'a, H, D>
-    ensures core { (result.core ≡ core) × (result.slots ≡ machine.now.slots) × (result.slices ≡ 0) }
-    ensures helps { result.helps ≡ machine.now.may_pull }
-    ensures with { (result.desk ≡ desk) × (result.agenda ≡ agenda) }
-{
-    CoreWorker {
+    Ok(CoreWorker {
         rt,
-        shared: machine.shared.workers(),
+        shared: &machine.shared.workers,
         core,
         slots: machine.slots,
         helps: machine.may_pull,
-        agenda,
+        agenda: Agenda::new(alloc, root),
         slices: 0,
         pace: Pace::new(),
         desk,
-    }
+    })
 }
 
-/// Returns the tokens (rights to use the shared objects) of a worker that has ended. Returns an error if the worker's
-/// seats still hold a thread or slots.
+/// Returns an ended worker's tokens (rights), or an error if it still holds a thread or slots.
 fn into_tokens<'a, H: Wait, T: RunJob, C: Contexts<T>, R: Rng + Drop, G: Gate>(
     machine: &Machine<C, T::Ticket>,
     desk: RunSeat<'a, H, T, C, R, G>,
@@ -271,14 +256,14 @@ fn into_tokens<'a, H: Wait, T: RunJob, C: Contexts<T>, R: Rng + Drop, G: Gate>(
         access,
         ..
     } = desk;
-    let mut kept = kept;
-    if is_broken || held.is_some() || kept.pop().is_some() {
+    let Access { holdings, .. } = access;
+    if is_broken || held.is_some() || !kept.is_empty() {
         return Err(machine.shared.fail(rt, WorkerFault::Token));
     }
     Ok(Tokens {
         seat: machine.table.join_seats(rt, seat, spare),
         pass,
-        holdings: access.into_holdings(),
+        holdings,
         arbiter,
     })
 }

@@ -1,4 +1,4 @@
-//! A context table that gives rare or wrong results for some calls, so that tests see how a run copes with them.
+//! A context table that gives its own results to some calls, so that tests see how a run copes with them.
 ghost use Rattle.std.specs.Prelude.{◌≡◌, ◌<◌, IfOk, IfErr};
 ghost use Rattle.arachne_contexts.specs.Answers.{RestsAs};
 ghost use Rattle.arachne_contexts.specs.Out.{Thread as a_thread, Spends};
@@ -16,76 +16,43 @@ use std::thread::yield_now;
 /// The occupancy word of a core that is open and has no free slot.
 const FULL: u64 = 0x38FF_FFFF_FFFF_FFFF;
 
-/// The bits of a core's first three slots in its occupancy word.
 const THREE: u64 = 0b111;
 
 /// The calls to which an `Altered` table gives its own results.
 #[derive(Clone, Copy)]
 enum Alteration {
-    /// None of them: each call goes to the table behind the lock.
     None,
     /// `finish` returns the thread as an error instead of ending it.
     HandsBack,
-    /// If the core is in use, `claim` fails with `AllocError`, as if memory were refused.
-    RefusesMemory,
-    /// `claim` returns that every core except core 0 is full.
     IsFull,
-    /// `out` returns 1 for every seat, as if the seat (right to use the table) still held a slot or a thread.
-    HasOut,
-    /// A claim on a core in use fails with `AllocError`. After such a failure, `finish` returns threads as errors.
-    RefusesMemoryFirst,
-    /// `finish` returns threads as errors. After that, a claim on a core in use fails with `AllocError`.
-    HandsBackFirst,
-    /// The first two of every three calls of `claim` return `Lost`, as if another thread had changed the core.
+    /// A claim on a core with occupied slots fails with `AllocError`. After that, `finish` returns threads as errors.
+    RefusesMemory,
+    /// Of every three calls of `claim`, `claim_alone` and `wake`, the first two return `Lost`.
     Loses,
-    /// `glance` and `claim` on core 1 wait until a slot of core 1 is free, and `move_one` moves no thread.
+    /// On core 1, `glance` and `claim` wait until a slot is free.
     AwaitsPlace,
-    /// The first two of every three calls of `claim_alone` return `Lost`, as if another thread had changed the core.
-    LosesAlone,
-    /// The first two of every three calls of `wake` return `Lost`, as if another thread had called at the same time.
-    LosesWakes,
-    /// `open_core` first pauses, and then opens the core.
     OpensLate,
 }
 
-/// The number of polls after which the second of two calls no longer waits for the first.
+/// In the alteration `RefusesMemory`, `finish` waits until a claim was refused memory, but for at most this number of
+/// polls.
 const POLLS: u32 = 100_000_000;
 
-/// The number of spins in a pause, in which an earlier call takes effect on the other cores. After the spins, the pause
-/// has `YIELDS` yields.
-///
-/// If each yield gives a time slice to another process, the yields take about half a second.
+/// A pause has this number of spins, then `YIELDS` yields, which give an earlier call time to take effect elsewhere.
 const SPINS: u32 = 1_000_000;
 
 const YIELDS: u32 = 100;
 
-/// The number of times that a call reads the word of core 1 while that core is full, before it no longer waits.
 const GLANCES: u32 = 2_000_000;
 
 /// A table behind a lock that forwards all calls except for those that its `alteration` names.
-///
-/// A run creates its table itself, so `new` selects the alteration by the numbers of cores and of slots per core.
 #[derive(Drop)]
 pub struct Altered<T: Tagged> {
     inner: LockedContexts<T>,
     alteration: Alteration,
-    /// The number of calls that the alteration has counted. If the alteration orders two calls, 1 after the first has
-    /// returned.
     answered: AtomicU64,
 }
 
-/// Waits until the first of two calls has returned, for at most `POLLS` polls, and then pauses.
-fn wait(answered: &AtomicU64) {
-    for _ in 0..POLLS {
-        if answered.load(Ordering::SeqCst) > 0 {
-            break;
-        }
-        yield_now();
-    }
-    give_time();
-}
-
-/// Pauses, so that other kernel threads can make progress.
 fn give_time() {
     for _ in 0..SPINS {
         spin_loop();
@@ -96,8 +63,7 @@ fn give_time() {
 }
 
 impl<T: Tagged + Drop> Altered<T> {
-    /// Reads the occupancy word of `core` until one of the core's first three slots is free, at most `GLANCES` times.
-    /// Returns the last word.
+    /// Reads the occupancy word of `core` until one of its first three slots is free, at most `GLANCES` times.
     fn glance_at_place<R: Wait>(&self, rt: &R, core: u8) -> u64
         requires { core < self.now.inner.cores }
     {
@@ -137,13 +103,8 @@ impl<T: Tagged + Drop> Seats for Altered<T> {
             (5, _) => Alteration::HandsBack,
             (6, _) => Alteration::RefusesMemory,
             (7, _) => Alteration::IsFull,
-            (8, _) => Alteration::HasOut,
-            (9, _) => Alteration::RefusesMemoryFirst,
-            (10, _) => Alteration::HandsBackFirst,
             (_, 5) => Alteration::Loses,
             (2, 3) => Alteration::AwaitsPlace,
-            (_, 6) => Alteration::LosesAlone,
-            (_, 7) => Alteration::LosesWakes,
             (_, 9) => Alteration::OpensLate,
             _ => Alteration::None,
         };
@@ -168,10 +129,7 @@ impl<T: Tagged + Drop> Seats for Altered<T> {
     }
 
     fn out(&self, seat: &LockedSeat) -> u32 {
-        match self.alteration {
-            Alteration::HasOut => 1,
-            _ => self.inner.out(seat),
-        }
+        self.inner.out(seat)
     }
 }
 
@@ -210,13 +168,8 @@ impl<T: Tagged + Drop> Contexts<T> for Altered<T> {
                 let _ = self.inner.slots();
                 Ok(Claimed::Full(FULL))
             }
-            Alteration::RefusesMemory if self.inner.look(rt, seat, core) != 0 => Err(AllocError),
-            Alteration::RefusesMemoryFirst if self.inner.look(rt, seat, core) != 0 => {
+            Alteration::RefusesMemory if self.inner.look(rt, seat, core) != 0 => {
                 self.answered.store(1, Ordering::SeqCst);
-                Err(AllocError)
-            }
-            Alteration::HandsBackFirst if self.inner.look(rt, seat, core) != 0 => {
-                wait(&self.answered);
                 Err(AllocError)
             }
             Alteration::Loses if self.answered.fetch_add(1, Ordering::SeqCst) % 3 < 2 => {
@@ -237,7 +190,7 @@ impl<T: Tagged + Drop> Contexts<T> for Altered<T> {
         core: u8,
     ) -> Result<Claimed<LockedClaim>, AllocError> {
         match self.alteration {
-            Alteration::LosesAlone if self.answered.fetch_add(1, Ordering::SeqCst) % 3 < 2 => {
+            Alteration::Loses if self.answered.fetch_add(1, Ordering::SeqCst) % 3 < 2 => {
                 Ok(Claimed::Lost(FULL))
             }
             _ => self.inner.claim_alone(rt, seat, core),
@@ -303,12 +256,14 @@ impl<T: Tagged + Drop> Contexts<T> for Altered<T> {
     {
         match self.alteration {
             Alteration::HandsBack => Err(held),
-            Alteration::RefusesMemoryFirst => {
-                wait(&self.answered);
-                Err(held)
-            }
-            Alteration::HandsBackFirst => {
-                self.answered.store(1, Ordering::SeqCst);
+            Alteration::RefusesMemory => {
+                for _ in 0..POLLS {
+                    if self.answered.load(Ordering::SeqCst) > 0 {
+                        break;
+                    }
+                    yield_now();
+                }
+                give_time();
                 Err(held)
             }
             _ => self.inner.finish(rt, seat, held),
@@ -317,7 +272,7 @@ impl<T: Tagged + Drop> Contexts<T> for Altered<T> {
 
     fn wake<R: Wait>(&self, rt: &R, seat: &mut LockedSeat, id: ThreadId) -> Woken {
         match self.alteration {
-            Alteration::LosesWakes if self.answered.fetch_add(1, Ordering::SeqCst) % 3 < 2 => {
+            Alteration::Loses if self.answered.fetch_add(1, Ordering::SeqCst) % 3 < 2 => {
                 Woken::Lost(0)
             }
             _ => self.inner.wake(rt, seat, id),
@@ -352,21 +307,9 @@ impl<T: Tagged + Drop> Contexts<T> for Altered<T> {
         alloc: Global,
         seat: LockedSeat,
     ) -> Result<Vec<(ThreadId, T)>, (Altered<T>, LockedSeat)> {
-        let Altered {
-            inner,
-            alteration,
-            answered,
-        } = self;
-        match inner.close(rt, alloc, seat) {
+        match self.inner.close(rt, alloc, seat) {
             Ok(rest) => Ok(rest),
-            Err((inner, seat)) => {
-                let altered = Altered {
-                    inner,
-                    alteration,
-                    answered,
-                };
-                Err((altered, seat))
-            }
+            Err((inner, seat)) => Err((Altered { inner, ..self }, seat)),
         }
     }
 

@@ -1,36 +1,27 @@
-//! A replacement for a core's *chooser*, the random generator by which its forks choose cores. It returns the numbers
-//! that a test sets.
+//! A replacement for a core's *chooser* (the random generator by which its forks choose cores), which gives a test's
+//! numbers. Each fork draws a word from the chooser. The word's halves are two cores, one of which the fork chooses.
 ghost use Rattle.std.specs.Prelude.{◌≡◌, ◌+◌, ◌%◌, ◌^◌};
 ghost use Rattle.rand_core.specs.Steps.{stream_of, steps_u64_high};
 
 use rand_core::Rng;
 use rand_core::utils::{NextWord, fill_bytes_via_u64};
 
-/// The words that the choosers (random generators) of a test's run draw, in three numbers.
-///
-/// These are the first word of core 0's chooser; the difference between a chooser's word and its previous one; and the
-/// difference between the first word of a core's chooser and that of the previous core's. All are modulo 2^64.
+/// Three numbers that give the words of a run's choosers, modulo 2^64: the first word of core 0's chooser, the
+/// difference from each word to the next, and the difference from each core's first word to the next core's.
 #[derive(Clone, Copy)]
 pub struct Draws(pub u64, pub u64, pub u64);
 
-/// The word by which both choices of a fork are core 1: one choice is the low half of a word, the other the high half.
-///
-/// Added to a word, it adds 1 to both choices.
+/// A word's two halves are the two cores that a fork draws.
 pub const ONE_EACH: u64 = 0x0000_0001_0000_0001;
 
-/// All choosers (the random generators by which forks choose cores) always return 0.
 pub const ZEROS: Draws = Draws(0, 0, 0);
 
-/// Both choices of each fork are core 1.
 pub const CORE_ONE: Draws = Draws(ONE_EACH, 0, 0);
 
-/// Both choices of each fork are core 3.
 pub const CORE_THREE: Draws = Draws(3 * ONE_EACH, 0, 0);
 
-/// The choices of a core's successive forks are cores 1, 2, 3 and so on.
 pub const IN_TURN: Draws = Draws(ONE_EACH, ONE_EACH, 0);
 
-/// The choosers (the random generators by which forks choose cores) return numbers that spread forks over the cores.
 pub const SPREAD: Draws = Draws(
     0x9E37_79B9_7F4A_7C15,
     0xBF58_476D_1CE4_E5B9,
@@ -38,7 +29,6 @@ pub const SPREAD: Draws = Draws(
 );
 
 impl Draws {
-    /// Returns the chooser (the random generator for forks) of `core`.
     pub fn of(self, core: u64) -> Progression {
         Progression {
             word: self.0.wrapping_add(self.2.wrapping_mul(core)),
@@ -47,7 +37,7 @@ impl Draws {
     }
 }
 
-/// A chooser (a replacement for a random generator) whose numbers grow by `step`, modulo 2^64.
+/// A chooser (a core's random generator) whose words grow by `step`, modulo 2^64.
 #[derive(Clone, Copy, Drop)]
 pub struct Progression {
     pub word: u64,

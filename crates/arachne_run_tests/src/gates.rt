@@ -7,96 +7,77 @@ use std::hint::spin_loop;
 use std::sync::atomic::{AtomicU64, Ordering};
 use std::thread::yield_now;
 
-/// The number of polls for an event of another core after which the observer gives up waiting.
+/// The number of polls after which a core gives up waiting for an event of another core, so that the test fails.
 const POLLS: u32 = 5_000_000;
 
-/// The number of polls for which a core waits, so that an event that must not happen would have time to happen.
 const PAUSE: u32 = 500;
 
-/// The number of checks, without a pause between them, after which the observer assumes that a slice doesn't begin.
 const SPINS: u32 = 50_000;
 
-/// The number of spins, which take some milliseconds, in which the worker of a core with nothing to run falls asleep.
 const REST: u32 = 1_000_000;
 
-/// The number of yields after which `is_still` checks whether a slice has begun.
 const LOOKS: u32 = 100;
 
-/// The behaviour of an observer (`Gate`).
+/// Which events of a run a `Gate` records, and at which of them it makes a core wait.
 ///
-/// A core that *waits* in a slice has entered the slice, but has not made the slice's first step. If an event occurs
-/// that must not, `is_over` returns false.
+/// A slice is some steps of one thread; each core counts its own from 0. A core that waits in a slice does so before
+/// the slice's first step. A closed core parks: its kernel thread sleeps until the core is opened or the run ends.
+/// After an event that the variant forbids, the test has failed for good.
 #[derive(Clone, Copy)]
 pub enum Watching {
-    /// Records and delays nothing.
     Nothing,
-    /// Records which cores have entered a slice, and how many slices all cores have entered.
     Cores,
-    /// `(a, b)`: core 1 waits in its first slice until core 0 has entered its slice a, and core 0 waits in its slice a
-    /// until core 1 has entered its slice b.
+    /// `(a, b)`: core 1 waits in its slice 0 for core 0's slice a, in which core 0 waits for core 1's slice b.
     Meeting(u64, u64),
     /// `(n)`: core 0 waits in its slice n - 1 until core 1 has entered its slice 0. Core 1 waits at the end of its
-    /// slice 0 until core 0 has entered slice n. If an order to open or close a core is carried out before core 0 has
-    /// entered slice n, `is_over` returns false.
+    /// slice 0 until core 0 has entered its slice n.
     Holding(u64),
     /// `(n)`: core 1 waits in its slice 0 until core 0 has entered n slices.
     Lead(u64),
-    /// Core 0 waits in its slice 0 for some time. If core 1 enters a slice in this time, `is_over` returns false.
+    /// Core 0 waits in its slice 0 for some time, in which core 1 must not enter a slice.
     First,
-    /// `(n)`: core 1 waits in its slice n until the run has carried out some orders to open or close cores.
+    /// `(n)`: core 1 waits in its slice n until an order has closed or opened a core.
     Applying(u64),
-    /// `(a, b)`: core 0 waits in its slice a until core 1 is about to park, and in its slice b until core 1 has entered
-    /// its slice 0.
+    /// `(a, b)`: core 0 waits in its slice a until core 1 is about to park, and in its slice b for core 1's slice 0.
     Granting(u64, u64),
-    /// `(n)`: core 0 waits in its slice n until core 1 has ended a slice and had time to fall asleep. Then core 0 waits
-    /// in its slice n + 4 until core 1 is about to park.
-    ///
-    /// A sleep that times out is counted only if core 0 already waited when core 1 parked. Before core 1 is notified of
-    /// the order, its worker may also notice at the end of a sleep that the core was closed.
+    /// `(n)`: core 0 waits in its slice n until core 1's worker, with nothing to run, has had time to fall asleep, and
+    /// in its slice n + 4 until core 1 is about to park. A sleep that times out isn't counted if core 1 was about to
+    /// park before that slice, since its worker may then have noticed by itself that its core was closed.
     Parking(u64),
     /// `(core, n)`: core 0 waits in its slice n until `core` is about to park.
     Parked(u8, u64),
-    /// Counts the children that wait for a slot with a ticket (an entry in the queue of waiting children).
     Spills,
-    /// Records whether a thread was woken because its child had ended, and whether a thread was woken because it was
-    /// granted its lock.
     Wakes,
-    /// `(n)`: core 0 waits in its slice n until core 1 has entered its slice 0, and core 1 waits in that slice until an
-    /// order is carried out. Core 1 must take a thread before each of its later slices.
+    /// `(n)`: core 0 waits in its slice n until core 1 has entered its slice 0. Core 1 waits in its slice 0 until an
+    /// order has closed or opened a core. Before each later slice, core 1's worker must take a thread from the table.
     Anew(u64),
-    /// `(a, b)`: core 0 waits in its slice a until a thread of core 1 waits for a child. In its slice b, core 0 pauses,
-    /// so that core 1 has time to park; but core 1 must not park before a thread has ended there.
+    /// `(a, b)`: core 0 waits in its slice a until a thread on core 1 waits for a child. In its slice b, core 0 pauses:
+    /// core 1 is closed and could park, but must not do so before one of its threads has ended.
     ParksLast(u64, u64),
-    /// Core 1 waits in its slice 0 until threads were moved away. Records the cores to which the threads were moved.
+    /// Core 1 waits in its slice 0 until threads were moved from closed cores to others.
     Moving,
-    /// `(core, n)`: core 0 waits in its slice n until a thread of `core` has ended, waits or was moved away. If the
-    /// thread waits, core 0 yields in each slice until the thread was moved. Then core 0 waits until `core` is about to
-    /// park.
+    /// `(core, n)`: core 0 waits in its slice n until a thread has left `core`: ended, blocked or moved. Then core 0
+    /// waits until `core`, which is closed and has no thread left, is about to park.
     Emptied(u8, u64),
-    /// `(n)`: core 0 waits in its slice 0 until a core is about to park, and core 2 in its slice 0 until core 1 has
-    /// entered slice n. Core 1 waits in slice n until the parked core is unparked, which shows that the run was
-    /// stopped. In earlier slices core 1 waits until core 0's slice 0 has ended. Core 1 must not enter a slice after
-    /// slice n.
+    /// `(n)`: core 1 waits in its slice n until the run is stopped, which wakes a parked core. Core 1 must then enter
+    /// no more slices.
     Stopping(u64),
 }
 
-/// An observer (`Gate`) that records and delays what its `Watching` value says.
 #[derive(Drop)]
 pub struct Watch {
     watching: Watching,
-    /// The events reported to this observer, if the test checks them against the rules of a run.
     pub log: Option<Log>,
-    /// The only exclusive one of the root's forks, counted from 0, if the test checks the log.
+    /// The index, from 0, of the only fork of the root whose child gets a core to itself, if the test checks the log.
     pub exclusive: Option<u64>,
-    /// The cores that have entered a slice: bit k is set for core k.
+    /// The cores that have entered a slice, one bit each; for `Moving`, the cores to which threads were moved.
     pub entered: AtomicU64,
-    /// The number of slices that all cores together have entered.
+    /// The number of slices that all cores have entered; for `Spills`, the number of children that have waited for a
+    /// slot.
     pub slices: AtomicU64,
-    /// The number of sleeps that timed out before their worker found something to run.
     pub oversleeps: AtomicU64,
     zero: AtomicU64,
     one: AtomicU64,
-    /// Set to 1 by the first event for which a core waits, such as the end of a slice or a park.
     ended: AtomicU64,
     failed: AtomicU64,
 }
@@ -113,7 +94,7 @@ fn count(word: &AtomicU64) {
     word.fetch_add(1, Ordering::SeqCst);
 }
 
-/// Polls `word` at most `polls` times. Returns whether it became at least `wanted`.
+/// Returns true if the word became at least `wanted`.
 fn comes(word: &AtomicU64, wanted: u64, polls: u32) -> bool {
     for _ in 0..polls {
         if get(word) >= wanted {
@@ -140,7 +121,6 @@ impl Watch {
         }
     }
 
-    /// Returns whether all events for which a core waited have occurred, and none of the events that must not occur.
     pub fn is_over(&self) -> bool {
         let (zero, one) = match self.watching {
             Watching::Nothing | Watching::Cores | Watching::Spills => (0, 0),
@@ -154,7 +134,7 @@ impl Watch {
         get(&self.zero) >= zero && get(&self.one) >= one && get(&self.failed) == 0
     }
 
-    /// Returns whether no slice that this observer records begins during `LOOKS` yields.
+    /// Returns true if no slice that this observer records begins during `LOOKS` yields.
     pub fn is_still(&self) -> bool {
         let before = get(&self.slices);
         for _ in 0..LOOKS {
@@ -163,7 +143,6 @@ impl Watch {
         get(&self.slices) == before
     }
 
-    /// Records that `core` has entered a slice.
     fn note(&self, core: u8) {
         if core < CORES {
             self.entered
@@ -172,15 +151,13 @@ impl Watch {
         count(&self.slices);
     }
 
-    /// Waits until the word `other`, which another core sets, is at least `wanted`. After `POLLS` polls, records a
-    /// failure.
+    /// Gives up after `POLLS` polls, and records that the test has failed.
     fn wait(&self, other: &AtomicU64, wanted: u64) {
         if !comes(other, wanted, POLLS) {
             set(&self.failed);
         }
     }
 
-    /// Called when core 0 enters its slice `nth`. Does there what `watching` says.
     fn enter_zero(&self, nth: u64) {
         match self.watching {
             Watching::Meeting(own, _) if nth == own => {
@@ -226,8 +203,6 @@ impl Watch {
         }
     }
 
-    /// Makes core 0 wait until another core is empty and parks. `is_first` is true in the first slice in which core 0
-    /// waits.
     fn empties(&self, is_first: bool) {
         if is_first {
             self.wait(&self.ended, 1);
@@ -240,7 +215,6 @@ impl Watch {
         }
     }
 
-    /// Called when core 1 enters its slice `nth`. Does there what `watching` says.
     fn enter_one(&self, nth: u64) {
         match self.watching {
             Watching::Meeting(_, theirs) => {
@@ -274,7 +248,6 @@ impl Watch {
         }
     }
 
-    /// Handles the end of a slice.
     fn slice_ended(&self, core: u8, end: SliceEnd) {
         match (self.watching, core) {
             (Watching::ParksLast(_, _), 1) => match end {
@@ -296,7 +269,6 @@ impl Watch {
         }
     }
 
-    /// Handles a park.
     fn parks(&self, core: u8) {
         match self.watching {
             Watching::Parking(_) if core == 1 => {

@@ -6,10 +6,10 @@ ghost use Rattle.arachne_lang.specs.Checked.{IsChecked};
 use crate::altered::Altered;
 use crate::choosers::Progression;
 use crate::gates::Watch;
-use crate::hasty::Hasty;
+use arachne_jobs::JobOf;
 use arachne_lang::Program;
-use arachne_run::{Job, Report, RunFault, Setup, run};
-use arachne_words::WordContexts;
+use arachne_run::{Gate, Job, Report, RunFault, Setup, run};
+use rand_core::Rng;
 use std::alloc::Global;
 use std::sync::Wait;
 use std::thread::Threads;
@@ -23,26 +23,20 @@ mod judged;
 mod locks;
 mod orders;
 mod places;
-mod programs;
 mod refused;
 mod rows;
 mod shortage;
 mod slices;
-mod tables;
-mod tickets;
 mod waiting;
 
-/// The type of context table, and the type of jobs, over which a test runs a program.
 #[derive(Clone, Copy, Debug)]
 enum Form {
-    /// The table behind a lock, `Altered`, which on some machines gives its own results to some calls.
+    /// `Altered`: a table behind a lock that, for some numbers of cores and slots, gives results of its own to some
+    /// calls.
     Locked,
     Words,
-    /// Over the table of atomic words, with jobs that end without waiting for the child that they have forked.
-    Hasty,
 }
 
-/// Runs a program over the table of atomic words.
 fn run_on_words<'p, R: Threads + Wait + Clock + Sync>(
     rt: &R,
     alloc: Global,
@@ -58,7 +52,31 @@ fn run_on_words<'p, R: Threads + Wait + Clock + Sync>(
     )
 }
 
-/// Runs a program over the table that a lock protects.
+/// The caller chooses `T`, the type of the jobs: the prover can't check a function that fixes this type and the
+/// table's.
+fn run_altered<
+    'p,
+    H: Threads + Wait + Clock + Sync,
+    T: JobOf<'p> + Send,
+    R: Rng + Drop + Send,
+    G: Gate + Sync,
+>(
+    rt: &H,
+    alloc: Global,
+    program: &'p Program,
+    setup: Setup,
+    choosers: Vec<R>,
+    gate: &G,
+) -> Result<Report, RunFault>
+where
+    T::Child: Send,
+    T::Ticket: Send,
+    T::Spares: Send,
+    requires { IsChecked (source_of program.now) }
+{
+    run::<H, T, Altered<T>, R, G>(rt, alloc, program, setup, choosers, gate)
+}
+
 fn run_on_lock<'p, R: Threads + Wait + Clock + Sync>(
     rt: &R,
     alloc: Global,
@@ -69,24 +87,5 @@ fn run_on_lock<'p, R: Threads + Wait + Clock + Sync>(
 ) -> Result<Report, RunFault>
     requires { IsChecked (source_of program.now) }
 {
-    run::<R, Job<'p>, Altered<Job<'p>>, Progression, Watch>(
-        rt, alloc, program, setup, choosers, gate,
-    )
-}
-
-/// Runs a program over the table of atomic words, with jobs that end without waiting for the child that they have
-/// forked.
-fn run_hastily<'p, R: Threads + Wait + Clock + Sync>(
-    rt: &R,
-    alloc: Global,
-    program: &'p Program,
-    setup: Setup,
-    choosers: Vec<Progression>,
-    gate: &Watch,
-) -> Result<Report, RunFault>
-    requires { IsChecked (source_of program.now) }
-{
-    run::<R, Hasty, WordContexts<Hasty>, Progression, Watch>(
-        rt, alloc, program, setup, choosers, gate,
-    )
+    run_altered::<R, Job<'p>, Progression, Watch>(rt, alloc, program, setup, choosers, gate)
 }

@@ -12,7 +12,7 @@ use std::alloc::{AllocError, Global};
 const LARGEST: usize = 1 << 46;
 
 /// The size, in bytes, up to which the C library keeps freed blocks and uses them again only for blocks of the same
-/// size. So below it, the next size that is tried is only `APART` bytes smaller.
+/// size. From this size down, the sizes that are tried are therefore `APART` bytes apart.
 const KEPT: usize = 1024;
 
 const APART: usize = 16;
@@ -65,8 +65,8 @@ fn next_size(size: usize) -> usize
 }
 
 impl Hoard {
-    /// Takes all memory that the process can get. After that, a kernel thread can start only on the stack of a kernel
-    /// thread that has ended.
+    /// Takes all memory that the process can get. After that, a kernel thread can start only if it reuses the stack of
+    /// one that has ended.
     pub fn take(alloc: Global) -> Result<Hoard, AllocError> {
         let mut small = Vec::with_capacity(alloc, BLOCKS)?;
         let mut large = Vec::with_capacity(alloc, BLOCKS)?;
@@ -81,7 +81,7 @@ impl Hoard {
         })
     }
 
-    /// Gives back small blocks of at least `bytes` bytes in sum, or all small blocks if they have fewer bytes.
+    /// Gives back small blocks of at least `bytes` bytes together, or all small blocks if they have fewer bytes.
     pub fn give_back(&mut self, bytes: usize) {
         let mut left = bytes;
         for _ in 0..BLOCKS {

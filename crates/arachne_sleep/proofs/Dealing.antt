@@ -1,20 +1,10 @@
 -- Seats of several locks that are split, joined and closed together.
-use Rattle.std.proofs.Common.{◌≡◌, ℕ, ◌+◌, ◌<◌, List, [], ◌∷◌, ◌++◌, length, get_or, set, map, take, drop, reverse, refl, sym, ap, ◌∙◌, subst, arith, append_assoc}
+use Rattle.std.proofs.Common.{◌≡◌, ℕ, ◌+◌, ◌<◌, List, [], ◌∷◌, ◌++◌, length, get_or, set, map, take, drop, reverse, sym, ap, ◌∙◌, subst, arith, append_assoc, All}
 use Rattle.std.specs.List.{AllZip}
-use Rattle.std.specs.Prelude.{All}
-use Rattle.std.proofs.lemmas.List.{append-nil, map_push, take_more, take_more_set, take_all, drop_more, drop-set-lt, length_push, length-take-le, reverse-append, get_or_append_left}
-use Rattle.std.proofs.lemmas.Grind.{drop_more_same}
-use Rattle.std.proofs.lemmas.List.Elements.{All-nil, All-cons}
-use Rattle.std.proofs.Math.Seq.{set-append_seam}
-use Rattle.arachne_sleep.specs.declared.event.LockEvent.{LockEvent}
-use Rattle.arachne_sleep.specs.History.{IsSound}
-use Rattle.arachne_sleep.specs.Calls.{IsToldBy}
-use Rattle.arachne_sleep.specs.Views.{SeatView, joined_with}
-use Rattle.arachne_sleep.specs.SleepLocks.{all_joined}
-
-no-items : {X : Type 0} (xs : List X) → length xs ≡ 0 → xs ≡ []
-no-items [] e = refl
-no-items (x ∷ xs) e = absurd (omega (arith, e))
+use Rattle.std.proofs.lemmas.List.{append-nil, map_push, take_more, take_more_set, take_all, drop_more, drop-set-lt, length_push, length-take-le, reverse-append, get_or_append_left, nil_from_length}
+use Rattle.std.proofs.{lemmas.Grind.drop_more_same, lemmas.List.Elements.{All-nil, All-cons}, Math.Seq.set-append_seam}
+use Rattle.arachne_sleep.specs.{declared.event.LockEvent.LockEvent, History.IsSound, Calls.IsToldBy}
+use Rattle.arachne_sleep.specs.{Views.{SeatView, joined_with}, SleepLocks.all_joined}
 
 -- ---- a split: the first k are split, and the others are as they were
 
@@ -40,9 +30,6 @@ module _ (seats own : List SeatView) (k : ℕ) (x : SeatView) (rest : drop k own
 
   pub next-rest : (y : SeatView) → drop (k + 1) (set own k y) ≡ drop (k + 1) seats
   next-rest y = drop-set-lt (k + 1) own k y (omega arith) ∙ drop_more_same own seats k rest
-
-pub all-halved : (half : SeatView → SeatView) (seats own : List SeatView) (k : ℕ) → take k own ≡ map half (take k seats) → k ≡ length own → k ≡ length seats → own ≡ map half seats
-all-halved half seats own k done all_own all_seats = sym (take_all k own (omega (arith, all_own))) ∙ done ∙ ap (map half) (take_all k seats (omega (arith, all_seats)))
 
 -- ---- a join: the last ones are joined, and the first ones are still to come
 
@@ -92,14 +79,6 @@ one-joined seats others own left left' k x other y a last at value is =
       as_many = long ∙ at;
     }
 
-pub are-joined : (seats others own left : List SeatView) → AreJoining seats others own left → length left ≡ 0 → own ≡ all_joined seats others
-are-joined seats others own left a none =
-    let no_front = no-items a.front (a.as_many ∙ none) in
-    let no_left = no-items left none in
-    a.own_are ∙ ap (λ (zs : List SeatView). zs ++ all_joined a.back a.theirs) no_front
-    ∙ ap (λ (zs : List SeatView). all_joined zs a.theirs) (sym (a.seats_are ∙ ap (λ (zs : List SeatView). zs ++ a.back) no_front))
-    ∙ ap (λ (zs : List SeatView). all_joined seats zs) (sym (a.others_are ∙ ap (λ (zs : List SeatView). zs ++ a.theirs) no_left))
-
 -- ---- a close
 
 -- the history of a closed lock, by the log of its seat
@@ -131,7 +110,7 @@ one-closed {X} R seats left left' xs seat x a last is = record {
 
 pub all-closed : {X : Type 0} (R : SeatView → X → Type 0) (seats left : List SeatView) (xs : List X) → AreClosing R seats left xs → length left ≡ 0 → AllZip R seats (reverse xs)
 all-closed R seats left xs a none =
-    subst (λ (zs : List SeatView). AllZip R zs (reverse xs)) (sym (a.seats_are ∙ ap (λ (zs : List SeatView). zs ++ a.closed) (no-items left none))) a.told
+    subst (λ (zs : List SeatView). AllZip R zs (reverse xs)) (sym (a.seats_are ∙ ap (λ (zs : List SeatView). zs ++ a.closed) (nil_from_length left none))) a.told
 
 -- the facts that R implies of each history, and of each history with its seat
 pub each-right : {X : Type 0} (R : SeatView → X → Type 0) (P : X → Type 0) → ((seat : SeatView) (x : X) → R seat x → P x) → (seats : List SeatView) (xs : List X) → AllZip R seats xs → All P xs

@@ -1,14 +1,8 @@
 -- Histories that extend others, and the places of their events.
-use Rattle.std.proofs.Common.{◌≡◌, ℕ, zero, suc, ◌+◌, List, [], ◌∷◌, ◌++◌, drop, length, refl, sym, ap, ◌∙◌, subst, arith, append_assoc, length-append, Some}
-use Rattle.std.specs.Prelude.{slice_get, All, ◌==◌, if◌then◌else◌}
-use Rattle.std.proofs.lemmas.Bool.Decides.{nat_tests}
-use Rattle.std.proofs.lemmas.List.{append-nil, drop_at}
-use Rattle.std.proofs.lemmas.List.Elements.{All-nil, All-cons, All-weaker}
-use Rattle.std.proofs.lemmas.List.Sums.{sum_by-cons, sum_by-append}
-use Rattle.std.proofs.lemmas.Option.{none-some}
-use Rattle.arachne_sleep.specs.declared.event.LockEvent.{LockEvent}
-use Rattle.arachne_sleep.specs.declared.answer.Pass.{Pass}
-use Rattle.arachne_sleep.specs.declared.view.PlacedEvent.{PlacedEvent}
+use Rattle.std.proofs.Common.{◌≡◌, ℕ, zero, suc, ◌+◌, List, [], ◌∷◌, ◌++◌, drop, length, refl, sym, ap, ◌∙◌, subst, arith, append_assoc, length-append, Some, slice_get, All, ◌==◌, if◌then◌else◌, append-nil, drop_at}
+use Rattle.std.proofs.lemmas.{Bool.Decides.nat_tests, List.Elements.{All-nil, All-cons, All-weaker}}
+use Rattle.std.proofs.lemmas.{List.Sums.{sum_by-cons, sum_by-append}, Option.none-some}
+use Rattle.arachne_sleep.specs.declared.{event.LockEvent.LockEvent, answer.Pass.Pass, view.PlacedEvent.PlacedEvent}
 use Rattle.arachne_sleep.specs.Histories.{BeginsWith, placed, since, StandsIn, times_at, once_below, IsGrantedIn}
 
 pub begins-refl : (h : List LockEvent) → BeginsWith h h

@@ -1,43 +1,25 @@
 -- Each kind of step keeps the rule, and what it says of its seat is true.
-use Rattle.std.proofs.Common.{◌≡◌, ◌≢◌, ℕ, ◌+◌, ◌≤◌, ⊎_elim, Bool, true, false, List, [], ◌∷◌, length, get_or, set, refl, sym, ap, ◌∙◌, subst, arith, length-set, get_or-set_same, Option, None, Some}
-use Rattle.std.specs.Prelude.{All, IfSome, if◌then◌else◌}
-use Rattle.std.proofs.lemmas.Bool.Decides.{nat_tests}
-use Rattle.std.proofs.lemmas.Bool.{false≢true}
-use Rattle.std.proofs.lemmas.List.Elements.{All-nil, All-cons, All-append}
+use Rattle.std.proofs.Common.{◌≡◌, ◌≢◌, ℕ, ◌+◌, ◌≤◌, ⊎_elim, Bool, true, List, [], ◌∷◌, length, get_or, set, refl, sym, ap, ◌∙◌, subst, arith, length-set, get_or-set_same, Option, None, Some, All, IfSome, if◌then◌else◌, eqb}
+use Rattle.std.proofs.lemmas.{Bool.{false≢true, Decides.nat_tests}, List.Elements.{All-nil, All-cons, All-append}}
 use Rattle.std.proofs.lemmas.Option.{get_or_from_slice_get, slice_get_within}
 use mathlib.Core.Option.{some, none, some-injective, some-ne-none}
 use mathlib.Core.Option as maybe
 use lib.ListN.{get_elem?}
 use prog.Atomic.{either}
-use Rattle.std.proofs.Common.{eqb}
 use Rattle.atomic_table.specs.Table.{keeps, takes, gives, opening, Act, Valid, stepped, carried_after, Allows, Splits, Joins, Final, Seen}
 use Rattle.atomic_table.proofs.Lists.{at_set, at_snoc, set_here, set_else, exchanged}
-use Rattle.arachne_sleep.specs.declared.event.LockEvent.{LockEvent}
-use Rattle.arachne_sleep.specs.declared.answer.Pass.{Pass}
-use Rattle.arachne_sleep.specs.History.{IsSound}
-use Rattle.arachne_sleep.specs.Lock.{Lock}
-use Rattle.arachne_weights.specs.declared.token.Token.{Token}
-use Rattle.arachne_weights.specs.Tokens.{held, begins, learns, splits, joins}
-use Rattle.arachne_weights.specs.Weight.{whole}
-use Rattle.arachne_weights.proofs.Totals.{total-set, total-snoc, at-le-total, two-le-total}
-use Rattle.arachne_weights.proofs.Tokens.{whole-total}
-use Rattle.arachne_sleep.specs.declared.view.Known.{Known}
-use Rattle.arachne_sleep.specs.declared.view.PlacedEvent.{PlacedEvent}
-use Rattle.arachne_sleep.specs.declared.view.SeatLog.{SeatLog}
-use Rattle.arachne_sleep.specs.Histories.{BeginsWith, since, StandsIn, times_at, once_below, IsGrantedIn}
-use Rattle.arachne_sleep.specs.Logs.{blank_log, step_record, contended_log, taken_log, passes_of, given_back_log, cut_log, joined_log}
-use Rattle.arachne_sleep.specs.Words.{guard_word, first_words}
-use Rattle.arachne_sleep.specs.Views.{Guarded}
-use Rattle.arachne_sleep.specs.Calls.{IsToldBy}
-use Rattle.arachne_sleep.specs.Rule.{Board, idle_known, taken_known, blank, Fits, guards, IsHome, IsLawful, IsKept, first_view, first_seat, second_seat, joined_seat, spent_seat}
-use Rattle.arachne_sleep.specs.Steps.{Mine, idle, with_guard, Takes, GivesBack}
-use Rattle.arachne_sleep.specs.declared.view.Kind.TheVariants as kind
-use Rattle.arachne_sleep.specs.Trace.{entry, Tells}
-use Rattle.arachne_sleep.proofs.Traces.{tells-more, tells-cut, tells-join}
 use Rattle.arachne_sleep.proofs.Growing.{begins-refl, begins-more, stands-more, granted-more, stands-since, times-since, times-append}
-
-abbrev EachFits : ℕ → List LockEvent → List (Token Known) → Type 0
-EachFits number history views = (i : ℕ) (t : Token Known) → get_elem? views i ≡ some t → Fits number history t
+use Rattle.arachne_sleep.{proofs.Traces.{tells-more, tells-cut, tells-join}, specs.{Calls.IsToldBy, History.IsSound}}
+use Rattle.arachne_sleep.specs.{Histories.{BeginsWith, since, StandsIn, times_at, once_below, IsGrantedIn}, Lock.Lock}
+use Rattle.arachne_sleep.specs.Logs.{blank_log, step_record, contended_log, taken_log, passes_of, given_back_log, cut_log, joined_log}
+use Rattle.arachne_sleep.specs.Rule.{Board, idle_known, taken_known, blank, Fits, guards, IsHome, IsLawful, IsKept, first_view, first_seat, second_seat, joined_seat, spent_seat}
+use Rattle.arachne_sleep.specs.{Steps.{Mine, idle, with_guard, Takes, GivesBack}, Trace.{entry, Tells}, Views.Guarded}
+use Rattle.arachne_sleep.specs.{Words.{guard_word, first_words}, declared.{answer.Pass.Pass, event.LockEvent.LockEvent}}
+use Rattle.arachne_sleep.specs.declared.view.{Known.Known, PlacedEvent.PlacedEvent, SeatLog.SeatLog}
+use Rattle.arachne_weights.specs.{declared.token.Token.Token, Tokens.{held, begins, learns, splits, joins}}
+use Rattle.arachne_weights.{specs.Weight.whole, proofs.Totals.{total-set, total-snoc, at-le-total, two-le-total}}
+use Rattle.arachne_weights.proofs.Tokens.{whole-total}
+use Rattle.arachne_sleep.specs.declared.view.Kind.TheVariants as kind
 
 -- the number of times that a seat has the guard, and the number of events that it made at a place
 abbrev guard_of : Token Known → ℕ
@@ -48,9 +30,6 @@ made_of k t = times_at k t.known.log.made
 
 has-guard : (t : Token Known) → t.known.taken ≡ true → guard_of t ≡ 1
 has-guard t e = ap (λ (b : Bool). if b then 1 else 0) e
-
-no-guard : (t : Token Known) → t.known.taken ≡ false → guard_of t ≡ 0
-no-guard t e = ap (λ (b : Bool). if b then 1 else 0) e
 
 -- a seat without the guard agrees with each history that extends its own; so does each seat if the history stays
 fits-more : (number : ℕ) (h g : List LockEvent) (t : Token Known) → BeginsWith g h → (t.known.taken ≡ true → h ≡ g) → Fits number h t → Fits number g t

@@ -1,16 +1,12 @@
 -- A trace with one more step, and seats that are split off and joined.
-use Rattle.std.proofs.Common.{◌≡◌, ℕ, zero, suc, ◌+◌, ◌<◌, ◌⊎◌, inl, inr, eqb, false, List, [], ◌∷◌, ◌++◌, length, set, refl, sym, ap, ◌∙◌, subst, arith, length-set, length-append, get_or-set_same, Some}
-use Rattle.std.specs.Prelude.{slice_get}
+use Rattle.std.proofs.Common.{◌≡◌, ℕ, zero, suc, ◌+◌, ◌<◌, ◌⊎◌, inl, inr, eqb, false, List, [], ◌∷◌, ◌++◌, length, set, refl, sym, ap, ◌∙◌, subst, arith, length-set, length-append, get_or-set_same, Some, slice_get}
 use Rattle.std.proofs.lemmas.Bool.{cases_eq, cond-true, cond-false, eq-eqb, ne_eqb, false≢true}
 use Rattle.std.proofs.lemmas.Option.{none-some, same_Some}
 use mathlib.Core.Option.{some, some-injective, some-ne-none}
 use lib.ListN.{get_elem?}
 use Rattle.atomic_table.proofs.Lists.{at_set}
-use Rattle.arachne_weights.specs.declared.token.Token.{Token}
-use Rattle.arachne_weights.specs.Tokens.{held}
-use Rattle.arachne_sleep.specs.declared.view.Record.{Record}
-use Rattle.arachne_sleep.specs.declared.view.Known.{Known}
-use Rattle.arachne_sleep.specs.Words.{guard_word, word_count}
+use Rattle.arachne_weights.specs.{declared.token.Token.Token, Tokens.held}
+use Rattle.arachne_sleep.specs.{declared.view.Record.Record, declared.view.Known.Known, Words.{guard_word, word_count}}
 use Rattle.arachne_sleep.specs.Trace.{Entry, entry, IsNext, IsTrace, records_of, AreOfSeats, Tells, IsStepOf}
 
 there-in : {A : Type 0} (xs : List A) (i : ℕ) (v : A) → get_elem? xs i ≡ some v → i < length xs

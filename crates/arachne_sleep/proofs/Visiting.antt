@@ -1,28 +1,15 @@
 -- A call on the state while a seat has it: what its result says of the history, and the seat's log after it.
-use Rattle.std.proofs.Common.{◌≡◌, ℕ, ◌+◌, List, [], ◌∷◌, ◌++◌, length, get_or, refl, sym, ap, ◌∙◌, subst, append_assoc, length-append, Option, None, Some}
-use Rattle.std.specs.Prelude.{slice_get, IfSome, All}
-use Rattle.std.specs.declared.result.Result.{Result}
-use Rattle.std.specs.declared.result.Result.TheVariants.{Ok, Err}
-use Rattle.arachne_sleep.specs.declared.answer.Asked.{Asked}
-use Rattle.arachne_sleep.specs.declared.answer.Asked.TheVariants.{Granted, Queued}
-use Rattle.arachne_sleep.specs.declared.answer.AskFault.{AskFault}
-use Rattle.arachne_sleep.specs.declared.answer.Freed.{Freed}
-use Rattle.arachne_sleep.specs.declared.answer.NotHolder.{NotHolder}
-use Rattle.arachne_sleep.specs.declared.answer.Pass.{Pass}
-use Rattle.arachne_sleep.specs.declared.event.LockEvent.{LockEvent}
-use Rattle.arachne_sleep.specs.declared.event.LockEvent.TheVariants.{Ask, Grant, Free}
-use Rattle.arachne_sleep.specs.declared.who.Who.{Who}
-use Rattle.arachne_sleep.specs.History.{IsSound}
-use Rattle.arachne_sleep.specs.Lock.{Lock, grants_to}
-use Rattle.arachne_sleep.specs.Views.{Guarded}
-use Rattle.arachne_sleep.specs.declared.view.SeatLog.{SeatLog}
-use Rattle.arachne_sleep.specs.Histories.{BeginsWith, IsGrantedIn}
-use Rattle.arachne_sleep.specs.Logs.{taken_log, answered_log, given_back_log}
-use Rattle.atomic_table.specs.Seated.{TableId}
-use Rattle.arachne_sleep.specs.Views.{SleepLockView, SeatView, IsSeatOf, with_log}
-use Rattle.arachne_sleep.specs.Calls.{IsAsked, IsFreed, IsChecked, IsCallOn, pass_asked}
+use Rattle.std.proofs.Common.{◌≡◌, ℕ, ◌+◌, List, [], ◌∷◌, ◌++◌, length, get_or, refl, sym, ap, ◌∙◌, subst, append_assoc, length-append, Option, None, Some, slice_get, IfSome, All}
+use Rattle.std.specs.declared.result.Result.{Result, TheVariants.{Ok, Err}}
+use Rattle.arachne_sleep.specs.declared.answer.Asked.{Asked, TheVariants.{Granted, Queued}}
+use Rattle.arachne_sleep.specs.declared.answer.{AskFault.AskFault, Freed.Freed, NotHolder.NotHolder, Pass.Pass}
+use Rattle.arachne_sleep.specs.declared.event.LockEvent.{LockEvent, TheVariants.{Ask, Grant, Free}}
+use Rattle.arachne_sleep.specs.{declared.{who.Who.Who, view.SeatLog.SeatLog}, History.IsSound, Lock.{Lock, grants_to}}
+use Rattle.arachne_sleep.specs.Views.{Guarded, SleepLockView, SeatView, IsSeatOf, with_log}
+use Rattle.arachne_sleep.specs.{Histories.{BeginsWith, IsGrantedIn}, Logs.{taken_log, answered_log, given_back_log}}
+use Rattle.arachne_sleep.{specs.Calls.{IsAsked, IsFreed, IsChecked, IsCallOn, pass_asked}, proofs.Growing.begins-refl}
 use Rattle.arachne_sleep.specs.Steps.{Mine, idle, with_guard, Extends, HasTaken, Visits, GoesOn, IsReturnable}
-use Rattle.arachne_sleep.proofs.Growing.{begins-refl}
+use Rattle.atomic_table.specs.Seated.{TableId}
 
 get-last : (pre : List LockEvent) (e : LockEvent) → slice_get (pre ++ e ∷ []) (length pre) ≡ Some e
 get-last [] e = refl

@@ -1,25 +1,13 @@
 -- The result of each call, and the seat's log after it.
 use Rattle.std.specs.Prelude.{◌≡◌, ◌↔◌, ℕ, All, List, Option, Some, None, IsOk, IsSome, IfOk, IfSome, OnErr}
-use Rattle.std.specs.declared.result.Result.{Result}
-use Rattle.std.specs.declared.result.Result.TheVariants.{Ok, Err}
-use Rattle.arachne_sleep.specs.declared.answer.Asked.{Asked}
-use Rattle.arachne_sleep.specs.declared.answer.Asked.TheVariants.{Granted, Queued}
-use Rattle.arachne_sleep.specs.declared.answer.AskFault.{AskFault}
-use Rattle.arachne_sleep.specs.declared.answer.AskFault.TheVariants.{AlreadyIn}
-use Rattle.arachne_sleep.specs.declared.answer.Freed.{Freed}
-use Rattle.arachne_sleep.specs.declared.answer.NotHolder.{NotHolder}
-use Rattle.arachne_sleep.specs.declared.answer.Pass.{Pass}
-use Rattle.arachne_sleep.specs.declared.answer.Tried.{Tried}
-use Rattle.arachne_sleep.specs.declared.answer.Tried.TheVariants.{Answered, Contended}
-use Rattle.arachne_sleep.specs.declared.who.Who.{Who}
-use Rattle.arachne_sleep.specs.Holding.{IsIn}
-use Rattle.arachne_sleep.specs.History.{IsSound, replay}
-use Rattle.arachne_sleep.specs.Lock.{Lock, owner_of, AnswersAsk, AnswersFree, IsPassOf}
-use Rattle.arachne_sleep.specs.Histories.{BeginsWith, IsMadeOf, IsGrantedIn}
-use Rattle.arachne_sleep.specs.declared.event.LockEvent.{LockEvent}
-use Rattle.arachne_sleep.specs.declared.view.SeatLog.{SeatLog}
-use Rattle.arachne_sleep.specs.Logs.{contended_log, answered_log}
-use Rattle.arachne_sleep.specs.Views.{SeatView, with_log}
+use Rattle.std.specs.declared.result.Result.{Result, TheVariants.{Ok, Err}}
+use Rattle.arachne_sleep.specs.declared.answer.Asked.{Asked, TheVariants.{Granted, Queued}}
+use Rattle.arachne_sleep.specs.declared.answer.{AskFault.{AskFault, TheVariants.AlreadyIn}, Freed.Freed, Pass.Pass}
+use Rattle.arachne_sleep.specs.declared.{answer.{NotHolder.NotHolder, Tried.Tried}, who.Who.Who, view.SeatLog.SeatLog}
+use Rattle.arachne_sleep.specs.{declared.answer.Tried.TheVariants.{Answered, Contended}, Holding.IsIn}
+use Rattle.arachne_sleep.specs.{History.{IsSound, replay}, Lock.{Lock, owner_of, AnswersAsk, AnswersFree, IsPassOf}}
+use Rattle.arachne_sleep.specs.{Histories.{BeginsWith, IsMadeOf, IsGrantedIn}, declared.event.LockEvent.LockEvent}
+use Rattle.arachne_sleep.specs.{Logs.{contended_log, answered_log}, Views.{SeatView, with_log}}
 
 -- A call on the state of the lock with this number, which changed it from `before` to `after`, by a seat that got this
 -- pass. The history before the call is sound and begins with each history that the seat had seen. The seat's log then

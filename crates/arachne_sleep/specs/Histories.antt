@@ -1,11 +1,8 @@
 -- Histories that extend others, and events with their places.
 use Rattle.std.specs.Prelude.{◌≡◌, ℕ, ◌+◌, List, [], ◌∷◌, ◌++◌, length, drop, slice_get, count_by, ◌==◌, nat_lt, if◌then◌else◌}
-use Rattle.std.specs.declared.option.Option.{Option}
-use Rattle.std.specs.declared.option.Option.TheVariants.{None, Some}
-use Rattle.arachne_sleep.specs.declared.event.LockEvent.{LockEvent}
-use Rattle.arachne_sleep.specs.declared.event.LockEvent.TheVariants.{Ask, Grant, Free}
-use Rattle.arachne_sleep.specs.declared.answer.Pass.{Pass}
-use Rattle.arachne_sleep.specs.declared.view.PlacedEvent.{PlacedEvent}
+use Rattle.std.specs.declared.option.Option.{Option, TheVariants.{None, Some}}
+use Rattle.arachne_sleep.specs.declared.event.LockEvent.{LockEvent, TheVariants.{Ask, Grant, Free}}
+use Rattle.arachne_sleep.specs.declared.{answer.Pass.Pass, view.PlacedEvent.PlacedEvent}
 
 -- the history begins with this one
 abbrev pub BeginsWith : List LockEvent → List LockEvent → Type 0

@@ -1,13 +1,8 @@
 -- A seat's log at first, and after each step.
 use Rattle.std.specs.Prelude.{ℕ, List, [], ◌∷◌, ◌++◌, slice_index_or, Option, Some, None}
-use Rattle.arachne_sleep.specs.declared.event.LockEvent.{LockEvent}
-use Rattle.arachne_sleep.specs.declared.answer.Pass.{Pass}
-use Rattle.arachne_sleep.specs.declared.view.Record.{Record}
-use Rattle.arachne_sleep.specs.declared.view.Kind.{Kind}
+use Rattle.arachne_sleep.specs.declared.{event.LockEvent.LockEvent, answer.Pass.Pass, view.{Record.Record, Kind.Kind}}
+use Rattle.arachne_sleep.specs.{declared.view.SeatLog.SeatLog, Histories.since, Words.guard_word}
 use Rattle.arachne_sleep.specs.declared.view.Kind.TheVariants as kind
-use Rattle.arachne_sleep.specs.declared.view.SeatLog.{SeatLog}
-use Rattle.arachne_sleep.specs.Histories.{since}
-use Rattle.arachne_sleep.specs.Words.{guard_word}
 
 -- the log of a seat that has done and seen nothing, at the lock with this number
 abbrev pub blank_log : ℕ → SeatLog

@@ -1,22 +1,16 @@
--- The rule of a lock: what its word, its slot and all views show between any two steps.
+-- The invariant of a lock's word, its slot and the records of all seats between any two steps.
 use Rattle.std.specs.Prelude.{◌≡◌, ℕ, ◌≤◌, true, false, if◌then◌else◌, List, [], ◌∷◌, All, length, slice_index}
 use Rattle.std.specs.List.{sum_by}
 use mathlib.Core.Option.{some}
 use mathlib.Core.Option as maybe
 use lib.ListN.{get_elem?}
 use Rattle.atomic_table.specs.Table.{State}
-use Rattle.arachne_sleep.specs.declared.event.LockEvent.{LockEvent}
-use Rattle.arachne_sleep.specs.History.{IsSound}
-use Rattle.arachne_weights.specs.declared.token.Token.{Token}
-use Rattle.arachne_weights.specs.Tokens.{held, spent, IsReachable}
-use Rattle.arachne_weights.specs.Weight.{whole, first_part, second_part, joined}
-use Rattle.arachne_sleep.specs.Views.{Guarded, SeatView}
-use Rattle.arachne_sleep.specs.declared.view.Known.{Known}
+use Rattle.arachne_sleep.specs.{Histories.{BeginsWith, StandsIn, IsGrantedIn, times_at, once_below}, History.IsSound}
+use Rattle.arachne_sleep.specs.{Logs.{blank_log, cut_log, joined_log}, Trace.{Entry, Tells}, Views.{Guarded, SeatView}}
+use Rattle.arachne_sleep.specs.{Words.{guard_word, word_count}, declared.{event.LockEvent.LockEvent, view.Known.Known}}
 use Rattle.arachne_sleep.specs.declared.view.SeatLog.{SeatLog}
-use Rattle.arachne_sleep.specs.Histories.{BeginsWith, StandsIn, IsGrantedIn, times_at, once_below}
-use Rattle.arachne_sleep.specs.Logs.{blank_log, cut_log, joined_log}
-use Rattle.arachne_sleep.specs.Words.{guard_word, word_count}
-use Rattle.arachne_sleep.specs.Trace.{Entry, Tells}
+use Rattle.arachne_weights.specs.{declared.token.Token.Token, Tokens.{held, spent, IsReachable}}
+use Rattle.arachne_weights.specs.Weight.{whole, first_part, second_part, joined}
 
 abbrev pub Board : Type 0
 Board = State Guarded (Token Known)
@@ -47,7 +41,7 @@ made_at k views = sum_by (λ (t : Token Known). times_at k t.known.log.made) vie
 abbrev pub guards : List (Token Known) → ℕ
 guards views = sum_by (λ (t : Token Known). if t.known.taken then 1 else 0) views
 
--- the slot is at home, with the state that has this history
+-- the slot is in the table, with the state that has this history
 abbrev pub IsHome : ℕ → List LockEvent → List (maybe.Option Guarded) → Type 0
 IsHome number history homes = (guarded : Guarded) × (get_elem? homes 0 ≡ some (some guarded)) × (guarded.state ≡ record { number = number; history = history })
 
@@ -58,7 +52,7 @@ pub record IsLawful (number : ℕ) (board : Board) (history : List LockEvent) : 
   pub fits : (i : ℕ) (t : Token Known) → get_elem? board.views i ≡ some t → Fits number history t
   -- the events of the history are those that the seats made, each once
   pub once : (k : ℕ) → made_at k board.views ≡ once_below k (length history)
-  -- the guard word is 1 if one seat has the guard, and otherwise 0 with the state at home
+  -- the guard word is 1 if one seat has the guard, and otherwise 0, with the state in the table
   pub guard : slice_index board.words guard_word ≡ guards board.views
   pub one_guard : guards board.views ≤ 1
   pub home : slice_index board.words guard_word ≡ 0 → IsHome number history board.homes
@@ -91,7 +85,7 @@ spent_seat = spent blank
 abbrev pub IsFirstSlot : ℕ → List Guarded → Type 0
 IsFirstSlot number slots = (guarded : Guarded) × (slots ≡ guarded ∷ []) × (guarded.state ≡ record { number = number; history = [] })
 
--- the rule allows a board on which the seat with the whole weight has the log of this one
+-- the invariant allows a board on which the seat with the whole weight has this seat's log
 pub record IsLawfulEnd (number : ℕ) (seat : SeatView) : Type 0 where
   pub board : Board
   pub kept : IsKept number board

@@ -1,21 +1,13 @@
 -- The knowledge of a seat after each kind of step that it makes.
 use Rattle.std.specs.Prelude.{◌≡◌, ◌≢◌, ℕ, All, [], ◌∷◌, List, Option, IfSome}
-use Rattle.atomic_table.specs.Table.{Me}
-use Rattle.atomic_table.specs.Seated.{TableId}
-use Rattle.arachne_sleep.specs.declared.event.LockEvent.{LockEvent}
-use Rattle.arachne_sleep.specs.declared.answer.Pass.{Pass}
-use Rattle.arachne_sleep.specs.History.{IsSound}
-use Rattle.arachne_sleep.specs.Lock.{Lock}
-use Rattle.arachne_weights.specs.declared.token.Token.{Token}
-use Rattle.arachne_weights.specs.Tokens.{held}
-use Rattle.arachne_sleep.specs.Views.{Guarded, SleepLockView}
-use Rattle.arachne_sleep.specs.declared.view.Known.{Known}
-use Rattle.arachne_sleep.specs.declared.view.SeatLog.{SeatLog}
-use Rattle.arachne_sleep.specs.Histories.{BeginsWith, IsGrantedIn}
-use Rattle.arachne_sleep.specs.Logs.{contended_log, taken_log, given_back_log}
-use Rattle.arachne_sleep.specs.Rule.{idle_known, taken_known}
+use Rattle.atomic_table.specs.{Table.Me, Seated.TableId}
+use Rattle.arachne_sleep.specs.{declared.event.LockEvent.LockEvent, declared.answer.Pass.Pass, History.IsSound}
+use Rattle.arachne_sleep.specs.{Lock.Lock, Views.{Guarded, SleepLockView}, declared.view.Known.Known}
+use Rattle.arachne_weights.specs.{declared.token.Token.Token, Tokens.held}
+use Rattle.arachne_sleep.specs.{declared.view.SeatLog.SeatLog, Histories.{BeginsWith, IsGrantedIn}}
+use Rattle.arachne_sleep.specs.{Logs.{contended_log, taken_log, given_back_log}, Rule.{idle_known, taken_known}}
 
--- a seat's view, and the slots that are with it
+-- a seat's record, and the slots that it may access
 abbrev pub Mine : Type 0
 Mine = Me Guarded (Token Known)
 
@@ -34,18 +26,18 @@ pub record Extends (log : SeatLog) (guarded : Guarded) : Type 0 where
   pub sound : IsSound guarded.state.history
   pub begins : All (BeginsWith guarded.state.history) log.seen
 
--- If the guard was at home, the state is with the seat, and has a history that begins with each one that the seat had
--- seen. Otherwise the seat has seen the guard taken.
+-- If the guard was free, the seat has the state now, whose history begins with each one that the seat had seen.
+-- Otherwise the seat has found the guard taken.
 abbrev pub Takes : Mine → ℕ → Mine → Type 0
 Takes before found after =
     (found ≡ 0 → (guarded : Guarded) × (after ≡ with_guard before.0.weight (taken_log before.0.known.log guarded.state.history) guarded) × Extends before.0.known.log guarded)
     × (found ≢ 0 → after ≡ idle before.0.weight (contended_log before.0.known.log))
 
--- the state goes home as it is in the seat's slot
+-- the state is put back into the table, as it is in the seat's slot
 abbrev pub GivesBack : Mine → Mine → Type 0
 GivesBack before after = (guarded : Guarded) → before.1 ≡ (0, guarded) ∷ [] → after ≡ idle before.0.weight (given_back_log before.0.known.log guarded.state.history guarded.last_pass)
 
--- the guard was at home, and the seat has it with the state
+-- the guard was free, and the seat has it now, with the state
 abbrev pub HasTaken : ℕ → SeatLog → Mine → Type 0
 HasTaken weight log me = (guarded : Guarded) × (me ≡ with_guard weight (taken_log log guarded.state.history) guarded) × Extends log guarded
 
@@ -53,7 +45,7 @@ HasTaken weight log me = (guarded : Guarded) × (me ≡ with_guard weight (taken
 abbrev pub HasSlot : SleepLockView → TableId → Mine → Type 0
 HasSlot lock table me = (table ≡ lock.table) × ((guarded : Guarded) × (me.1 ≡ (0, guarded) ∷ []))
 
--- the content of the slot that is with the seat has changed, and nothing else
+-- the content of the slot that the seat has taken has changed, and nothing else
 pub record Visits (home away : TableId) (before after : Mine) (old new : Guarded) : Type 0 where
   pub own : away ≡ home
   pub was : before.1 ≡ (0, old) ∷ []
@@ -67,7 +59,7 @@ pub record GoesOn (old new : Lock) (pass : Option Pass) : Type 0 where
   pub sound : IsSound new.history
   pub granted : IfSome pass (IsGrantedIn old.number new.history)
 
--- the state may go home
+-- the state may be put back into the table
 pub record IsReturnable (me : Mine) (guarded : Guarded) (before : List LockEvent) : Type 0 where
   pub mine : me ≡ with_guard me.0.weight me.0.known.log guarded
   pub seen : me.0.known.log.seen ≡ before ∷ []

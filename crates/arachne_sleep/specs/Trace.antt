@@ -3,11 +3,8 @@ use Rattle.std.specs.Prelude.{◌≡◌, ℕ, ◌<◌, true, if◌then◌else◌
 use mathlib.Core.Option.{some}
 use lib.ListN.{get_elem?}
 use Rattle.arachne_weights.specs.declared.token.Token.{Token}
-use Rattle.arachne_sleep.specs.declared.view.Record.{Record}
-use Rattle.arachne_sleep.specs.declared.view.Kind.{Kind}
+use Rattle.arachne_sleep.specs.{declared.view.{Record.Record, Kind.Kind, Known.Known}, Words.guard_word}
 use Rattle.arachne_sleep.specs.declared.view.Kind.TheVariants as kind
-use Rattle.arachne_sleep.specs.declared.view.Known.{Known}
-use Rattle.arachne_sleep.specs.Words.{guard_word}
 
 -- a step, and the number of the seat that made it
 pub record Entry : Type 0 where
@@ -47,7 +44,7 @@ abbrev pub AreOfSeats : ℕ → List Entry → Type 0
 AreOfSeats n [] = Unit {0}
 AreOfSeats n (e ∷ es) = (e.seat < n) × AreOfSeats n es
 
--- the trace leads to the number that is in the guard word, and each seat in use has noted exactly its own steps
+-- the trace leads to the number that is in the guard word, and the log of each seat in use has exactly its own steps
 pub record Tells (trace : List Entry) (words : List ℕ) (views : List (Token Known)) : Type 0 where
   pub lawful : IsTrace trace
   pub word : slice_index words guard_word ≡ word_after trace

@@ -2,11 +2,8 @@
 use Rattle.std.specs.Prelude.{◌≡◌, ℕ, Option}
 use Rattle.atomic_table.specs.Seated.{TableId}
 use Rattle.arachne_weights.specs.Weight.{whole, first_part, second_part, joined}
-use Rattle.arachne_sleep.specs.declared.answer.Pass.{Pass}
-use Rattle.arachne_sleep.specs.Lock.{Lock}
-use Rattle.arachne_sleep.specs.declared.view.SeatLog.{SeatLog}
-use Rattle.arachne_sleep.specs.Logs.{blank_log, cut_log, joined_log}
-use Rattle.arachne_sleep.specs.Words.{word_count}
+use Rattle.arachne_sleep.specs.{declared.answer.Pass.Pass, Lock.Lock, declared.view.SeatLog.SeatLog}
+use Rattle.arachne_sleep.specs.{Logs.{blank_log, cut_log, joined_log}, Words.word_count}
 
 -- the content of a lock's slot: its state, and the pass that the last call got from it
 pub record Guarded : Type 0 where

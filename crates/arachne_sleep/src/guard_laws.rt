@@ -1,8 +1,7 @@
-//! One law for each kind of atomic operation (*step*) on a lock's guard word, which is 1 while a seat has the lock's
-//! state, otherwise 0. Each law is the contract of a function with an empty body.
-//!
-//! A law says which entries the step adds to the seat's log, and that the step keeps the invariant of the lock's table,
-//! in whichever state the table is.
+//! Laws of the atomic operations on a lock's guard word, which is 1 during a call on the lock and otherwise 0. Each law
+//! is the contract of an empty function.
+//! Each law says that one operation keeps the invariant of the lock's table, in any state of the table, and which
+//! entries the operation adds to the log of the caller's seat (a kernel thread's right to call the lock).
 ghost use Rattle.std.specs.Prelude.{◌≡◌, ℕ, ◌==◌, List, [], ◌∷◌, slice_get, Some};
 ghost use mathlib.Core.Option.{some};
 ghost use lib.ListN.{get_elem?};
@@ -25,42 +24,40 @@ pub fn the_rule_holds_at_first()
         → IsKept number (opening first_words (guarded ∷ []) (first_view number)) }
 {}
 
-/// A compare-exchange of a lock's guard word from 0 to 1 keeps the invariant of the lock's table.
+/// A compare-exchange of a lock's atomic word from 0 to 1 keeps the invariant.
 ///
-/// If the exchange succeeds, the seat (a kernel thread's right to call the lock) has the lock's state, whose history
-/// extends each history in the seat's log. If the exchange fails, the log says that another seat had the lock's state.
+/// If it succeeds, the caller's seat has the lock's state, whose history extends each history in the seat's log. If it
+/// fails, another seat has the lock's state.
 pub fn a_try_keeps_the_rule()
     ensures { (number slots id weight : ℕ) (log : SeatLog)
         → Allows (IsKept number) slots id (idle weight log) guard_word (λ n. either (n == 0) 1 n) (Takes (idle weight log)) }
 {}
 
-/// A store of 0 to a lock's guard word keeps the invariant of the lock's table.
+/// A store of 0 to a lock's atomic word keeps the invariant.
 ///
-/// With this step, the seat (a kernel thread's right to call the lock) puts the lock's state back into the table. The
-/// history in that state extends the history that the seat took.
+/// The seat puts the lock's state back, with a history that extends the one that it found when it took the state.
 pub fn giving_back_keeps_the_rule()
     ensures { (number slots id : ℕ) (me : Mine) (guarded : Guarded) (before : List LockEvent) → slots ≡ 1 → IsReturnable me guarded before
         → Allows (IsKept number) slots id me guard_word (λ _. 0) (λ _ after. GivesBack me after) }
 {}
 
-/// A split of a seat (a kernel thread's right to call the lock) keeps the invariant of the lock's table. The new seat's
-/// log has the histories that the first seat has read, but no events.
+/// A split of a seat keeps the invariant. The new seat's log has the histories that the old seat has read, but no
+/// events.
 pub fn a_split_keeps_the_rule()
     ensures { (number id weight : ℕ) (log : SeatLog)
         → Splits (IsKept number) id (held weight (idle_known log)) (first_seat (held weight (idle_known log))) (second_seat (held weight (idle_known log))) }
 {}
 
-/// A join of another seat (a kernel thread's right to call the lock) into a seat keeps the invariant of the lock's
-/// table. The seat's log then also has all entries of the other's log.
+/// A join of two seats keeps the invariant. The resulting seat's log has the entries of both logs.
 pub fn a_join_keeps_the_rule()
     ensures { (number id weight : ℕ) (log : SeatLog) (other added : ℕ) (theirs : SeatLog)
         → Joins (IsKept number) id (held weight (idle_known log)) other (held added (idle_known theirs))
         (joined_seat (held weight (idle_known log)) (held added (idle_known theirs))) spent_seat }
 {}
 
-/// The steps in a seat's log are exactly the seat's own steps.
+/// The log of a seat (a right to call) has exactly the seat's own operations on the lock's atomic word.
 ///
-/// Each of them is in the trace of all steps: it found the value that was in the guard word at that point of the trace.
+/// Each operation found the value that the operation before it, of whatever seat, has left in the word.
 pub fn a_record_is_a_step()
     ensures all { (number : ℕ) (board : Board) → (rule : IsKept number board) → (place weight : ℕ) (known : Known)
         → get_elem? board.views place ≡ some (held weight known) → known.log.records ≡ records_of place rule.trace }

@@ -12,11 +12,8 @@ use crossbeam_utils::CachePadded;
 use std::alloc::Global;
 use std::marker::Model;
 
-/// A lock's state, on cache lines of its own, and the index in the lock's history of the grant that the last call
-/// returned.
-///
-/// The index exists only for proofs: it selects the grant that is logged for the seat (a kernel thread's right to call
-/// the lock) that puts the state back.
+/// A lock's state, on cache lines of its own. `last_pass` exists only for proofs. It is the index, in the lock's
+/// history, of the grant that the last call returned.
 #[derive(Drop)]
 pub struct GuardedState {
     state: CachePadded<LockState>,
@@ -53,7 +50,6 @@ fn place_checked(pass: &Option<Pass>) -> Option<usize>
 }
 
 impl GuardedState {
-    /// Creates the state of a lock that nobody has asked for yet.
     pub(crate) fn new(alloc: Global, number: u8) -> Self
         ensures state { result.state ≡ record { number = number; history = [] } }
     {

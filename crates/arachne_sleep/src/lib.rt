@@ -1,10 +1,9 @@
-//! Sleep locks: a user thread that waits for such a lock is blocked, and leaves its core to other threads.
+//! Sleep locks, for user threads. A thread that waits for such a lock is blocked, and leaves its core to other threads.
 //!
-//! [`LockState`] is the state of a sleep lock: the thread that holds it, the threads that wait for it, in order, and
-//! the history of all asks, grants and frees. [`SleepLock`] is a sleep lock that kernel threads share. Each kernel
-//! thread calls the lock through a [`LockSeat`]; contracts keep a log of the calls through it. An atomic word, the
-//! *guard*, says if a seat has the lock's state at present. A call that finds the guard set returns at once, and the
-//! caller may try again. [`SleepLocks`] are several such locks, used through [`LockSeats`]. No call waits.
+//! Kernel threads share a [`SleepLock`], and each of them calls the lock through a seat (a right to call) of its own, a
+//! [`LockSeat`]. An atomic word of the lock, the *guard*, is set during a call. No call waits. A call that finds the
+//! guard set returns at once, and the caller may try again. [`SleepLocks`] are several such locks. [`LockState`] is the
+//! state behind the guard: the holder, the queue of waiting threads, and the history of all asks, grants and frees.
 #![tactic(auto)]
 
 mod answer;

@@ -8,11 +8,9 @@ use arachne_weights::Weight;
 use atomic_table::Seat;
 use std::marker::Model;
 
-/// One kernel thread's right to call one sleep lock. Contracts keep with it a log of the calls that were made through
-/// it.
+/// One kernel thread's right (*seat*) to call one sleep lock. Contracts keep a log of the calls through each seat.
 ///
-/// The caller must use, split and join a seat only with the lock that created it. If a seat is dropped, its weight (its
-/// part of one whole) is lost, and no seat can have the whole weight any more.
+/// A seat may be used, split or joined only with the lock that made it. If it's dropped, the lock can never be closed.
 #[derive(Drop)]
 pub struct LockSeat {
     pub(crate) seat: Seat<GuardedState, View>,
@@ -33,8 +31,7 @@ impl Model for LockSeat {
 }
 
 impl LockSeat {
-    /// Returns whether this seat has the whole weight, which means that all other seats of the lock were joined into
-    /// it.
+    /// Returns true if this is the lock's only seat, since all others were joined into it.
     pub fn is_whole(&self) -> bool
         ensures { IsTrue result ↔ IsWhole self.now }
     {

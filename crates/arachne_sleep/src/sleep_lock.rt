@@ -22,24 +22,23 @@ use atomic_table::{Seat, Table};
 use std::alloc::{AllocError, Global};
 use std::marker::Model;
 
-/// The number of words of the table. Processors fetch cache lines in pairs, so there are two lines of unused words on
-/// each side of the guard word.
+/// The number of words of a lock's table. Processors fetch cache lines in pairs, so there are two lines of unused words
+/// on each side of the lock's atomic word.
 const WORDS: usize = 32;
 
-/// The index of the guard word.
+/// The index of the lock's atomic word.
 const GUARD: usize = 16;
 
-/// The value of the guard word (the lock's atomic word) while no call has the lock's state.
+/// The value of the lock's atomic word while no call on the lock is in progress.
 const HOME: u64 = 0;
 
-/// The value of the guard word (the lock's atomic word) while a call has the lock's state.
+/// The value of the lock's atomic word during a call on the lock.
 const TAKEN: u64 = 1;
 
-/// A sleep lock with a guard word: an atomic word that is 1 while a seat has the lock's state, and otherwise 0.
+/// A sleep lock that kernel threads share, each through a seat (a right to call) of its own.
 ///
-/// Each kernel thread calls the lock through a seat (a right to call) of its own. `ask`, `free` and `check` try once to
-/// set the guard word. If the word is already set, the call returns `Contended`, and changes nothing. If not, the call
-/// does its work on the lock's state, and then clears the guard word, whatever its result is.
+/// The lock has an atomic word (the *guard word*), which is 1 during a call, and otherwise 0. `ask`, `free` and `check`
+/// try once to set this word. If the word is already set, such a call returns `Contended`, and changes nothing.
 #[derive(Drop)]
 pub struct SleepLock {
     number: u8,
@@ -57,7 +56,6 @@ impl Model for SleepLock {
     ghost invariant = { λ l. IsLaidOut l.table.shared.table_id l.table.shared.key l.number };
 }
 
-/// Returns a list with one entry, the state of a new lock with this number.
 fn first_slots(alloc: Global, number: u8) -> Result<Vec<GuardedState>, AllocError>
     ensures { IfOk result (λ slots. IsFirstSlot number slots.items) }
 {
@@ -67,10 +65,10 @@ fn first_slots(alloc: Global, number: u8) -> Result<Vec<GuardedState>, AllocErro
 }
 
 impl SleepLock {
-    /// Creates a lock with the number `lock`, for which nobody has asked yet. Returns the lock and its first seat,
-    /// which has the whole weight.
+    /// Creates a lock with the number `lock`, for which nobody has asked yet, and its first seat (a right to call).
     ///
-    /// A split halves a seat's weight and a join adds two, so a seat with the whole weight is the only one.
+    /// Each seat has a *weight*. The first seat has the whole, a split halves a weight, and a join adds two weights. So
+    /// a seat with the whole weight is the only one left, as `close` requires.
     pub fn new(alloc: Global, lock: u8) -> Result<(SleepLock, LockSeat), AllocError>
         ensures number { IfOk result (λ made. made.0.number ≡ lock) }
         ensures seat { IfOk result (λ made. made.1 ≡ whole_seat made.0) }
@@ -89,15 +87,7 @@ impl SleepLock {
         ))
     }
 
-    /// Returns the lock's number.
-    pub fn number(&self) -> u8
-        ensures { result ≡ self.now.number }
-    {
-        self.number
-    }
-
-    /// Asks for the lock for the user thread `who`. If nobody holds the lock, `who` gets it at once, and otherwise
-    /// waits.
+    /// Asks for the lock for the user thread `who`. If nobody holds it, `who` gets it at once, and otherwise waits.
     ///
     /// Returns `AlreadyIn` if `who` already holds the lock or waits for it. If memory is refused, nothing changes.
     pub fn ask(&self, seat: &mut LockSeat, who: Who) -> Tried<Result<Asked, AskFault>>
@@ -113,7 +103,7 @@ impl SleepLock {
         Tried::Answered(answer)
     }
 
-    /// Frees the lock, and grants it to the thread that has waited longest, if any waits.
+    /// Frees the lock, and grants it to the thread that has waited longest, if any thread waits.
     ///
     /// Returns `NotHolder` if `who` doesn't hold the lock.
     pub fn free(&self, seat: &mut LockSeat, who: Who) -> Tried<Result<Freed, NotHolder>>
@@ -129,7 +119,7 @@ impl SleepLock {
         Tried::Answered(answer)
     }
 
-    /// Returns a `Pass`, the proof that the user thread `who` holds the lock, or `None` if `who` doesn't hold it.
+    /// Returns the evidence that the user thread `who` holds the lock, or `None` if `who` doesn't hold the lock.
     pub fn check(&self, seat: &mut LockSeat, who: Who) -> Tried<Option<Pass>>
         requires { IsSeatOf self.now seat.old }
         ensures seat { IsSeatOf self.now seat.new × (seat.new.weight ≡ seat.old.weight) }
@@ -143,10 +133,10 @@ impl SleepLock {
         Tried::Answered(answer)
     }
 
-    /// Splits a seat into two, each with half of its weight, rounded up for the first.
+    /// Splits a seat (a right to call) into two, each with half of its weight, rounded up for the first.
     ///
-    /// The first seat keeps the log of `seat`; the log of the second has only the histories that `seat` has read. If
-    /// the weight is 1 or 0, both seats get weight 0.
+    /// The first seat keeps the log of `seat`. The second seat's log has only the histories that `seat` has read. If
+    /// the weight is 1 or 0, both seats get weight 0, and the lock can never be closed.
     pub fn split(&self, seat: LockSeat) -> (LockSeat, LockSeat)
         requires { IsSeatOf self.now seat }
         ensures first { result.0 ≡ first_half seat }
@@ -171,9 +161,7 @@ impl SleepLock {
         }
     }
 
-    /// Joins two seats into one, which keeps the logs of both.
-    ///
-    /// The weight of the result is the sum of both weights, but at most the whole.
+    /// Joins two seats (rights to call) into one, which has the logs and the weights of both.
     pub fn join_seats(&self, seat: LockSeat, other: LockSeat) -> LockSeat
         requires seat { IsSeatOf self.now seat }
         requires other { IsSeatOf self.now other }
@@ -197,7 +185,7 @@ impl SleepLock {
         seat.weight = seat.weight.join(added);
     }
 
-    /// Returns whether `seat` has the whole weight, which means that all other seats of the lock were joined into it.
+    /// Returns true if `seat` is the lock's only seat, since all others were joined into it.
     pub fn is_whole(&self, seat: &LockSeat) -> bool
         ensures { IsTrue result ↔ IsWhole seat.now }
     {
@@ -206,7 +194,7 @@ impl SleepLock {
 
     /// Closes the lock. Returns all asks, grants and frees of the lock, oldest first. Does not allocate.
     ///
-    /// The caller must pass a seat that has the whole weight, so that no other seat is in use.
+    /// `seat` must be the lock's only seat: all others must have been joined into it.
     pub fn close(self, seat: LockSeat) -> Result<History, (SleepLock, LockSeat)>
         requires own { IsSeatOf self seat }
         requires whole { IsWhole seat }
@@ -234,7 +222,7 @@ impl SleepLock {
         guarded.into_history()
     }
 
-    /// Tries once to set the guard word and so to take the lock's state out of the table. Returns whether it succeeded.
+    /// Tries once to take the lock's state out of the table, and returns true on success.
     fn take(&self, seat: &mut Seat<GuardedState, View>) -> bool
         requires own { seat.old.table_id ≡ self.now.table }
         requires idle { seat.old.me ≡ idle seat.old.me.0.weight seat.old.me.0.known.log }
@@ -247,7 +235,6 @@ impl SleepLock {
         shared.compare_exchange::<Take>(seat, GUARD, HOME, TAKEN) == HOME
     }
 
-    /// Puts the lock's state back into the table, and clears the guard word.
     fn give_back(&self, seat: &mut Seat<GuardedState, View>)
         requires own { seat.old.table_id ≡ self.now.table }
         requires guarded { (guarded : Guarded) × (before : List LockEvent) × IsReturnable seat.old.me guarded before }

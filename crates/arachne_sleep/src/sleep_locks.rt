@@ -15,7 +15,7 @@ use crate::who::Who;
 use std::alloc::{AllocError, Global};
 use std::marker::Model;
 
-/// Several locks, numbered from 0, which kernel threads share.
+/// Several sleep locks, numbered from 0, which kernel threads share.
 #[derive(Drop)]
 pub struct SleepLocks {
     locks: Vec<SleepLock>,
@@ -33,7 +33,7 @@ impl Model for SleepLocks {
     ghost invariant = { λ l. AreNumbered l.locks.items };
 }
 
-/// A kernel thread's seats (rights to call), one for each of several locks, in the order of the locks.
+/// A kernel thread's seats (rights to call), one for each of several locks.
 #[derive(Drop)]
 pub struct LockSeats {
     seats: Vec<LockSeat>,
@@ -49,7 +49,7 @@ impl Model for LockSeats {
 }
 
 impl SleepLocks {
-    /// Creates `count` locks (0 is allowed), and for each its first seat (a right to call), which has the whole weight.
+    /// Creates `count` locks (0 is allowed), and for each lock its first seat (a right to call).
     pub fn new(alloc: Global, count: u8) -> Result<(SleepLocks, LockSeats), AllocError>
         ensures count { IfOk result (λ made. length made.0 ≡ count) }
         ensures own { IfOk result (λ made. AreSeatsOf made.0 made.1) }
@@ -66,7 +66,6 @@ impl SleepLocks {
         Ok((SleepLocks { locks }, LockSeats { seats }))
     }
 
-    /// Returns the number of locks.
     pub fn count(&self) -> usize
         ensures { result ≡ length self.now }
     {
@@ -95,7 +94,7 @@ impl SleepLocks {
         self.locks[k].free(&mut seats.seats[k], who)
     }
 
-    /// Returns the proof that `who` holds the lock with the number `lock`, as [`SleepLock::check`] does.
+    /// Returns the evidence that `who` holds the lock with the number `lock`, as [`SleepLock::check`] does.
     pub fn check(&self, seats: &mut LockSeats, lock: u8, who: Who) -> Tried<Option<Pass>>
         requires own { AreSeatsOf self.now seats.old }
         requires lock { lock < length self.now }
@@ -106,9 +105,9 @@ impl SleepLocks {
         self.locks[k].check(&mut seats.seats[k], who)
     }
 
-    /// Splits each seat into two, one for the caller's kernel thread and one for another.
+    /// Splits each seat (a right to call one lock) into two, one for the calling kernel thread and one for another.
     ///
-    /// If memory for the list of the second seats is refused, returns the unchanged seats as an error.
+    /// If memory is refused, returns the unchanged seats as an error.
     pub fn split(
         &self,
         alloc: Global,
@@ -130,7 +129,7 @@ impl SleepLocks {
         Ok((LockSeats { seats: own }, LockSeats { seats: others }))
     }
 
-    /// Joins each of `seats` with the seat of `others` that belongs to the same lock.
+    /// Joins each of `seats` (rights to call) with the seat of `others` that belongs to the same lock.
     pub fn join_seats(&self, seats: LockSeats, others: LockSeats) -> LockSeats
         requires seats { AreSeatsOf self.now seats }
         requires others { AreSeatsOf self.now others }
@@ -146,7 +145,7 @@ impl SleepLocks {
         LockSeats { seats: own }
     }
 
-    /// Returns whether each of the seats has the whole weight, so that no other seat of its lock is in use.
+    /// Returns true if each of the seats is the only seat of its lock, since all others were joined into it.
     pub fn are_whole(&self, seats: &LockSeats) -> bool
         ensures { IsTrue result ↔ All IsWhole seats.now }
     {
@@ -155,8 +154,8 @@ impl SleepLocks {
 
     /// Closes all locks. Returns the history of each lock, in the order of the locks.
     ///
-    /// The caller must pass seats that each have the whole weight. If memory for the list is refused, returns the locks
-    /// and the seats as an error.
+    /// Each of the seats must be the only seat of its lock: all others must have been joined into it. If memory for the
+    /// list is refused, returns the locks and the seats as an error.
     pub fn close(
         self,
         alloc: Global,

@@ -1,12 +1,9 @@
-//! The invariant of a lock's table, and the kinds of atomic operation on it. These types exist only for proofs.
+//! Types for proofs only: the invariant of a lock's table, and the kinds of atomic operation on the table.
 use crate::guarded_state::GuardedState;
 use crate::view::View;
 use atomic_table::{Join, Play, Split, TableRule};
 
-/// The invariant of a lock's table: there is one history (of asks, grants and frees), which is part of the lock's
-/// state, and one trace of all operations on the guard word.
-///
-/// The table's constant key is the lock's number.
+/// The invariant of a lock's table: the logs of all seats agree with one history of the lock.
 pub struct GuardRule;
 
 impl TableRule<GuardedState, View, u8> for GuardRule {
@@ -17,7 +14,6 @@ impl TableRule<GuardedState, View, u8> for GuardRule {
     ghost first = { first_view };
 }
 
-/// The compare-exchange that tries once to set the guard word.
 pub(crate) struct Take;
 
 impl Play<GuardedState, View> for Take {
@@ -26,7 +22,6 @@ impl Play<GuardedState, View> for Take {
     ghost then = { λ step before found after. Takes before found after };
 }
 
-/// The store that clears the guard word.
 pub(crate) struct GiveBack;
 
 impl Play<GuardedState, View> for GiveBack {

@@ -1,8 +1,8 @@
 //! Context tables, which have slots for user threads, and by which workers create, take, wake and move them.
 //!
 //! This crate has no code of its own. It re-exports the trait `Contexts` (`arachne_contexts`), the table behind a lock
-//! (`arachne_locked`), the table on atomic words (`arachne_words`), and a law for each kind of atomic operation of the
-//! latter (`arachne_rule`).
+//! (`arachne_locked`), the table on atomic words (`arachne_words`), and a law for each kind of atomic operation on
+//! these words (`arachne_rule`).
 #![tactic(auto)]
 
 #[cfg(test)]

@@ -8,32 +8,27 @@ use std::time::Clock;
 /// The reason why a kernel thread of a team was not started.
 #[derive(Clone, Copy, Debug, PartialEq, Eq)]
 pub enum TeamFault {
-    /// Memory was refused.
     Memory,
     /// The system refused to start a kernel thread.
     KernelThread,
 }
 
-/// The work of a team of kernel threads. Each kernel thread has a share of type `S`, which is a part of one value of
-/// the caller's.
+/// The work of a team of kernel threads, each of which has a share of type `S` (a part of a value of the caller's).
 ///
-/// The kernel threads are numbered from 0, which is the number of the one that starts the others.
+/// The kernel threads are numbered from 0, which is the number of the calling kernel thread.
 /// [`work_together`](crate::work_together) runs them.
 pub trait Team<S> {
     /// True if the share belongs to this team.
     ghost has: { Self → S → Type 0 };
 
-    /// The number of kernel threads of the team.
     ghost size: { Self → ℕ };
 
     /// Returns the number of kernel threads of the team.
     fn size(&self) -> u8
         ensures { result ≡ Self.size self.now };
 
-    /// Splits off a part of `share` for one more kernel thread.
-    ///
-    /// Returns the remaining part of `share`, and the new part. If memory is refused, returns `None` instead of the new
-    /// part.
+    /// Splits `share`, which holds what a kernel thread needs to take part in the work, so that one more can take part.
+    /// Returns what remains, and the part split off if memory suffices.
     fn part_off<R: Wait>(&self, rt: &R, share: S) -> (S, Option<S>)
         requires { Self.has self.now share }
         ensures own { Self.has self.now result.0 }
@@ -51,9 +46,9 @@ pub trait Team<S> {
         requires other { Self.has self.now other }
         ensures { IfSome result (Self.has self.now) };
 
-    /// Handles the failure to start a kernel thread. After this call, no further kernel thread is started.
+    /// Handles the failure to start a kernel thread. `work_together` then starts no further kernel thread.
     ///
-    /// The kernel threads that have begun run until they end by themselves. If they wait for one another, `fail` must
+    /// Those that have begun go on until they end by themselves. If kernel threads wait for one another, `fail` must
     /// make them end.
     fn fail<R: Wait>(&self, rt: &R, fault: TeamFault);
 }

@@ -1,4 +1,4 @@
-//! Test of each public call of a join cell once.
+//! A test that makes each public call of a join cell (a cell for one child's result) once.
 ghost use Rattle.std.specs.Prelude.{◌≡◌, ◌<◌};
 
 use arachne_join::{CellState, Fits, JoinCell, SendingEnd};
@@ -22,11 +22,10 @@ fn is_missed(cell: &JoinCell<u64, Wanted>, state: CellState) -> bool {
     }
 }
 
-/// Returns whether a value that was put back into the cell can be taken back, and whether the value that is left in the
-/// end can be fetched.
+/// Returns true if each call on the cell has the expected result.
 ///
-/// A fetch must fail, each time with the right state: before a value is put back, while it waits, after it was taken
-/// back, and after another value was left and fetched.
+/// A fetch must fail before the first value is put there, while that value waits, after it was taken back, and after
+/// the fetch of the other value.
 fn passes(cell: &JoinCell<u64, Wanted>, end: SendingEnd<u64, Wanted>) -> bool
     requires number { cell.now.key.0 ≡ 7 }
     requires end { end ≡ cell.now.table }

@@ -1,8 +1,7 @@
-//! Tests of texts that are read and printed, and of limits.
+//! Tests that read and print texts of programs, and tests of the limits of programs.
 use arachne_lang::{CheckFault, Expr, Operation, Program, TextFault, check, parse, print};
 use std::alloc::{AllocError, Global};
 
-/// A text that has each form, each reduction, and arrays, and one with the greatest numbers.
 const TEXTS: &[&[u8]] = &[
     b"arachne 1\n\
 array\n\
@@ -17,7 +16,7 @@ locks 10\n\
     b"arachne 1\nledgers 3\nlocks 4\n(xor (num 18446744073709551615) (len 18446744073709551615))\n",
 ];
 
-/// Returns whether a text is printed as it was read, or its fault.
+/// Returns true if `text` is printed as it was read, or the fault if it can't be read or printed.
 fn is_read_and_printed(alloc: Global, text: &[u8]) -> Result<bool, TextFault> {
     let program = parse(alloc, text)?;
     match print(alloc, &program) {
@@ -26,9 +25,7 @@ fn is_read_and_printed(alloc: Global, text: &[u8]) -> Result<bool, TextFault> {
     }
 }
 
-/// The test passes too if each allocation is refused in turn: a refusal is no fault of the text, and changes nothing
-/// for
-/// the next call.
+/// After a refusal of memory, the next call must succeed.
 #[test]
 fn texts_are_printed_as_they_were_read(rt: HostRuntime) {
     for &text in TEXTS {
@@ -40,7 +37,6 @@ fn texts_are_printed_as_they_were_read(rt: HostRuntime) {
     }
 }
 
-/// Returns the check's verdict on a program of `ledgers` ledgers and of `sums` sums within one another.
 fn judged_when_nested(
     alloc: Global,
     ledgers: u8,
@@ -63,14 +59,15 @@ fn judged_when_nested(
     Ok(verdict)
 }
 
-/// Drops an expression from the outside in, without the recursion of its own drop.
+/// Drops an expression from the outside in, without the recursion of `Expr`'s own drop.
 fn take_apart(mut expr: Expr) {
     while let Expr::Binary(_, a, _) = expr {
         expr = Box::into_inner(a);
     }
 }
 
-/// A program that wasn't read from a text may be nested beyond the limit. That fault comes before all others.
+/// The checker must report nesting beyond the limit before any other fault. No program that was read from a text has
+/// such nesting.
 #[test]
 fn nesting_is_judged_before_all_else(rt: HostRuntime) -> Result<(), AllocError> {
     let nested = judged_when_nested(rt.alloc(), 17, 100_000)?;

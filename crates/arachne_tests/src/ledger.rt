@@ -1,4 +1,4 @@
-//! Tests of two threads that add to ledgers, and of each number of ledgers.
+//! Tests of ledgers (counters): two threads add to them, and there are 0 to 16 of them.
 ghost use Rattle.std.specs.Prelude.{◌<◌};
 ghost use Rattle.arachne_ledger.specs.Views.{IsShareOf, IsWhole};
 
@@ -7,7 +7,6 @@ use std::alloc::{AllocError, Global};
 use std::thread;
 use std::thread::Threads;
 
-/// Adds 2^63 + 3 to the first ledger (counter) a thousand times.
 fn add_threes(ledgers: &Ledgers, mut share: Share) -> Share
     requires share { IsShareOf ledgers.now share }
     requires some_ledger { 0 < ledgers.now.count }
@@ -33,7 +32,7 @@ fn add_in_two_threads<R: Threads>(rt: &R, ledgers: &Ledgers, share: Share) -> Sh
     ledgers.join_shares(first, second)
 }
 
-/// Closes the ledgers. Returns whether their sums are the expected ones.
+/// Closes the ledgers, and returns true if their sums are as expected.
 fn is_closed_with(alloc: Global, ledgers: Ledgers, share: Share, expected: &[u64]) -> bool
     requires share { IsShareOf ledgers share }
     requires whole { IsWhole share }
@@ -55,8 +54,7 @@ fn two_threads_add_up(rt: HostRuntime) -> Result<(), AllocError> {
 
 const NUMBERS: [u64; 16] = [1, 2, 3, 4, 5, 6, 7, 8, 9, 10, 11, 12, 13, 14, 15, 16];
 
-/// Adds to each ledger its number, counted from 1, through one share. Returns whether each number is then read through
-/// another share, and both shares joined.
+/// Returns true if each number that was added through one share can be read through another, and the two shares joined.
 fn add_to_each(ledgers: &Ledgers, share: Share) -> (bool, Share)
     requires share { IsShareOf ledgers.now share }
     ensures { IsShareOf ledgers.now result.1 }
@@ -71,7 +69,6 @@ fn add_to_each(ledgers: &Ledgers, share: Share) -> (bool, Share)
     (are_read, ledgers.join_shares(other, share))
 }
 
-/// Returns whether `count` ledgers (counters) have the expected sums after `add_to_each`.
 fn come_to(alloc: Global, count: usize, expected: &[u64]) -> Result<bool, AllocError> {
     let (ledgers, share) = Ledgers::new(alloc, count)?;
     let (are_read, share) = add_to_each(&ledgers, share);
@@ -87,4 +84,11 @@ fn none_to_sixteen_ledgers(rt: HostRuntime) -> Result<(), AllocError> {
         assert!(rt; come_to(rt.alloc(), count, &NUMBERS[..count])?);
     }
     Ok(())
+}
+
+#[test]
+fn more_ledgers_than_memory_are_refused(rt: HostRuntime) {
+    for count in [1 << 59, usize::MAX] {
+        assert!(rt; Ledgers::new(rt.alloc(), count).is_err());
+    }
 }

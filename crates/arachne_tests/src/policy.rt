@@ -1,11 +1,11 @@
-//! Test of the choice of a core by a worked word.
+//! Tests which core `two_choices` chooses by a given random word.
 use arachne_policy::{CoreLoad, two_choices};
 
 fn load(core: u8, count: u8) -> CoreLoad {
     CoreLoad { core, count }
 }
 
-/// The word picks cores 1 and 3. The one with fewer threads is chosen, and of two with as many the first.
+/// Of the cores 1 and 3, that with fewer threads must be chosen or, if both have equally many, the first.
 #[test]
 fn cores_are_chosen(rt: HostRuntime) {
     for (last, chosen) in [(2, 1), (1, 3)] {

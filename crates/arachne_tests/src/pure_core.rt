@@ -1,4 +1,5 @@
-//! Each public call of the `World` and of its words once, with worked values.
+//! Tests of `World`, the abstract state of a context table, and of the packed words of such a table. Each public call
+//! is made once, with fixed numbers.
 use arachne_core::{Event, Mark, MarkWord, NotApplied, OccWord, Place, World};
 use std::alloc::AllocError;
 
@@ -12,7 +13,6 @@ fn take(carrier: u32) -> Event {
     Event::Take { carrier, context }
 }
 
-/// Returns the words of core 0 and of context 0, if that context is in the slot that the table has for it.
 fn shown(world: &World) -> Option<(u64, u64)> {
     let (cores, slots) = (world.cores(), world.slots());
     if u32::from(cores) * u32::from(slots) == 0 {
@@ -25,8 +25,7 @@ fn shown(world: &World) -> Option<(u64, u64)> {
     Some((world.occ(0).word(), world.mark(0).word()))
 }
 
-/// A thread is put on a core, which is closed, and is taken. A closed core has no further claim, and a thread that was
-/// taken is not taken again.
+/// A core that is closed must refuse a claim, but the thread that was put there before can be taken, once.
 #[test]
 fn a_world_makes_the_events_that_it_allows(rt: HostRuntime) -> Result<(), AllocError> {
     let (carrier, context, tag) = (0, 0, 7);
@@ -52,16 +51,12 @@ fn a_world_makes_the_events_that_it_allows(rt: HostRuntime) -> Result<(), AllocE
     Ok(())
 }
 
-/// The parts of a mark word (a context's packed state): the code of its mark, whether it is exclusive, its core and
-/// slot index, and its generation.
 fn marked(number: u64) -> Option<(u64, bool, u8, u8, u64)> {
     let word = MarkWord::from_word(number)?;
     let (code, Place { core, index }) = (word.mark().code(), word.place());
     Some((code, word.is_alone(), core, index, word.generation()))
 }
 
-/// Returns four numbers: the word of `number` packed again, with another mark, and with another slot; and the word that
-/// is read from `first`, a number of the older layout.
 fn changed(number: u64, first: u64) -> Option<(u64, u64, u64, u64)> {
     let word = MarkWord::from_word(number)?;
     let (core, index) = (63, 55);
@@ -72,7 +67,7 @@ fn changed(number: u64, first: u64) -> Option<(u64, u64, u64, u64)> {
     Some((again.word(), marked.word(), placed.word(), read.word()))
 }
 
-/// No mark has the code 6.
+/// `0x10856` must be refused, since no mark has the code 6.
 #[test]
 fn mark_words(rt: HostRuntime) {
     let greatest = Some((5, true, 63, 55, 281_474_976_710_655));
@@ -82,8 +77,6 @@ fn mark_words(rt: HostRuntime) {
     assert!(rt; MarkWord::from_first(0xffff_ffff_ffff_c001).is_none());
 }
 
-/// Returns the parts of an occupancy word (which places are occupied): its mask and count, whether it is closed,
-/// exclusive and empty, and its lowest free index.
 fn occupied(number: u64) -> Option<(u64, u8, bool, bool, bool, Option<u8>)> {
     let occ = OccWord::from_word(number)?;
     let (closed, exclusive, empty) = (occ.is_closed(), occ.is_exclusive(), occ.is_empty());
@@ -91,8 +84,6 @@ fn occupied(number: u64) -> Option<(u64, u8, bool, bool, bool, Option<u8>)> {
     Some((mask, count, closed, exclusive, empty, free))
 }
 
-/// Returns four facts about an occupancy word: the word with index 2 occupied, the word with index 2 free, whether
-/// index 2 is occupied, and the word closed and exclusive with index 0 free.
 fn with_and_without(number: u64) -> Option<(u64, u64, bool, u64)> {
     let occ = OccWord::from_word(number)?;
     let (with, without) = (occ.with_bit(2).word(), occ.without_bit(2).word());
@@ -100,7 +91,7 @@ fn with_and_without(number: u64) -> Option<(u64, u64, bool, u64)> {
     Some((with, without, occ.is_occupied(2), flagged.word()))
 }
 
-/// The count of the second number isn't that of its mask.
+/// The second number must be refused, since its count isn't the number of bits in its mask.
 #[test]
 fn occupancy_words(rt: HostRuntime) {
     let fields = Some((5, 2, false, false, false, Some(1)));

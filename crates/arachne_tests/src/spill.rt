@@ -1,8 +1,8 @@
-//! Test of the queue of waiting children: it is filled until it refuses, and then emptied.
-ghost use Rattle.arachne_spill.specs.Views.{IsPassOf};
+//! A test that fills the queue of waiting children until the queue refuses a ticket, and then empties the queue.
+ghost use Rattle.arachne_jobs.specs.Views.{IsPassOf};
 
 use arachne_contexts::Tagged;
-use arachne_spill::{CAPACITY, SpillPass, SpillQueue};
+use arachne_jobs::{CAPACITY, SpillPass, SpillQueue};
 use std::alloc::AllocError;
 use std::sync::Wait;
 
@@ -23,7 +23,7 @@ type Queue = SpillQueue<Ticket>;
 
 type Pass = SpillPass<Ticket>;
 
-/// Pushes tickets with the tags (numbers) 0, 1, 2 and so on until the queue refuses one, and returns that ticket's tag.
+/// Pushes tickets with the tags 0, 1, 2 and so on until one is refused, and returns that one's tag.
 fn fill<R: Wait>(rt: &R, queue: &Queue, pass: &mut Pass) -> Option<u64>
     requires { IsPassOf queue.now pass.old }
     ensures { IsPassOf queue.now pass.new }
@@ -36,9 +36,7 @@ fn fill<R: Wait>(rt: &R, queue: &Queue, pass: &mut Pass) -> Option<u64>
     None
 }
 
-/// Pops tickets until the queue is empty, and returns their number.
-///
-/// Returns `None` if the tickets' tags (numbers) are not 0, 1, 2 and so on.
+/// Returns the number of tickets that were popped, or `None` if their tags are not 0, 1, 2 and so on.
 fn drain<R: Wait>(rt: &R, queue: &Queue, pass: &mut Pass) -> Option<u64>
     requires { IsPassOf queue.now pass.old }
     ensures { IsPassOf queue.now pass.new }
@@ -53,7 +51,6 @@ fn drain<R: Wait>(rt: &R, queue: &Queue, pass: &mut Pass) -> Option<u64>
     None
 }
 
-/// Returns two values: whether the queue is empty, and whether it is full.
 fn looks<R: Wait>(rt: &R, queue: &Queue, pass: &mut Pass) -> (bool, bool)
     requires { IsPassOf queue.now pass.old }
     ensures { IsPassOf queue.now pass.new }

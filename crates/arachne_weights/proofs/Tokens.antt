@@ -4,8 +4,7 @@ use Rattle.std.specs.List.{sum_by}
 use Rattle.std.proofs.lemmas.Bool.Decides.{nat_tests}
 use mathlib.Core.Option.{some, some-injective, some-ne-none}
 use lib.ListN.{get_elem?}
-use Rattle.arachne_weights.specs.declared.token.Token.{Token}
-use Rattle.arachne_weights.specs.Weight.{whole, first_part, second_part, joined}
+use Rattle.arachne_weights.specs.{declared.token.Token.Token, Weight.{whole, first_part, second_part, joined}}
 use Rattle.arachne_weights.specs.Tokens.{held, spent, total_weight, IsReachable, begins, learns, splits, joins}
 use Rattle.arachne_weights.proofs.Totals.{total-set, total-snoc, at-le-total, two-le-total, total-alone}
 
@@ -120,10 +119,6 @@ module _ {K : Type 0} (nothing : K) where
   -- the tokens have at most the whole weight
   pub weight-within : {tokens : List (Token K)} → IsReachable nothing tokens → total_weight tokens ≤ whole
   weight-within r = (sound r).within
-
-  -- so two of them join to their sum
-  pub joined-sum : {tokens : List (Token K)} → IsReachable nothing tokens → (i j w x : ℕ) (mine other : K) → get_elem? tokens i ≡ some (held w mine) → j ≢ i → get_elem? tokens j ≡ some (held x other) → joined w x ≡ w + x
-  joined-sum {tokens} r i j w x mine other at n from = let s = sound r in let room = two-le-total (λ (t : Token K). t.weight) tokens i j (held w mine) (held x other) at n from in joined-exact w x (omega (arith, s.within))
 
   -- if one has the whole weight, each other is spent
   pub whole-alone : {tokens : List (Token K)} → IsReachable nothing tokens → (i j : ℕ) (t u : Token K) → get_elem? tokens i ≡ some t → t.weight ≡ whole → j ≢ i → get_elem? tokens j ≡ some u → u ≡ spent nothing

@@ -1,10 +1,8 @@
 -- The tokens of one shared object: the weight and knowledge of each holder, and how tokens are made and joined.
-use Rattle.std.specs.Prelude.{◌≡◌, ◌≢◌, ℕ, true, false, List, [], ◌∷◌, ◌++◌, slice_set}
-use Rattle.std.specs.List.{sum_by}
+use Rattle.std.specs.{Prelude.{◌≡◌, ◌≢◌, ℕ, true, false, List, [], ◌∷◌, ◌++◌, slice_set}, List.sum_by}
 use mathlib.Core.Option.{some}
 use lib.ListN.{get_elem?}
-use Rattle.arachne_weights.specs.declared.token.Token.{Token}
-use Rattle.arachne_weights.specs.Weight.{whole, first_part, second_part, joined}
+use Rattle.arachne_weights.specs.{declared.token.Token.Token, Weight.{whole, first_part, second_part, joined}}
 
 module _ {K : Type 0} where
   -- a token in use, with a weight and its holder's knowledge

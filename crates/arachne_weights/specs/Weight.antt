@@ -5,7 +5,7 @@ use Rattle.std.specs.Prelude.{ℕ, ◌+◌, ◌/◌, ◌^◌, min, nat_le, if◌
 abbrev pub whole : ℕ
 whole = 2 ^ 127
 
--- the rest of a weight after half of it, rounded up, was given away; 0 for a weight of 1 or 0
+-- half of a weight, rounded down; 0 for a weight of 1 or 0
 abbrev pub second_part : ℕ → ℕ
 second_part w = if nat_le w 1 then 0 else w / 2
 

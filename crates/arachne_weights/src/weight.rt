@@ -26,7 +26,7 @@ impl Model for Weight {
 }
 
 impl Weight {
-    /// Returns the whole weight, which the first token has.
+    /// Returns the whole weight, 2^127, which the first user of an object gets.
     pub fn whole() -> Weight
         ensures { result ≡ whole }
     {
@@ -47,7 +47,7 @@ impl Weight {
         (Weight { amount: first }, Weight { amount: second })
     }
 
-    /// Returns the sum of both weights, but at most the whole.
+    /// Returns the sum of both weights, but at most the whole weight.
     pub fn join(self, other: Weight) -> Weight
         ensures { result ≡ joined self other }
     {

@@ -1,16 +1,12 @@
 -- The end of a thread: the conditions of its steps, and the seat after them.
 use Rattle.std.proofs.Common.{◌≡◌, ℕ, ◌+◌, ◌-◌, ◌∙◌, ap, sym, subst, refl, ◌∷◌}
-use Rattle.arachne_core.specs.declared.layout.TheConstants.{CORE_BITS}
-use Rattle.arachne_core.specs.Marked.{mark_word}
+use Rattle.arachne_core.specs.{declared.layout.TheConstants.CORE_BITS, Marked.mark_word}
 use Rattle.arachne_rule.specs.declared.view.Kind.TheVariants as kind
-use Rattle.arachne_rule.specs.Changes.{retired, spent_known, claimed_again, marked_free, release_sum}
-use Rattle.arachne_rule.specs.Layout.{Contexts}
-use Rattle.arachne_rule.specs.Plays.{Carries}
-use Rattle.arachne_rule.specs.Views.{noted, thread_in}
+use Rattle.arachne_rule.specs.{Changes.{retired, spent_known, claimed_again, marked_free, release_sum}, Layout.Contexts}
+use Rattle.arachne_rule.specs.{Plays.Carries, Views.{noted, thread_in}}
 use Rattle.arachne_rule.proofs.Carrying.{with-at}
 use Rattle.arachne_words.specs.Seats.{CallView, HoldView, ClaimView, HasClaim, HasThread, held_by, claimed_by}
-use Rattle.arachne_words.specs.Calls.{released}
-use Rattle.arachne_words.proofs.Out.{without-with}
+use Rattle.arachne_words.{specs.Calls.released, proofs.Out.without-with}
 
 module _ {T : Type 0} (z : Contexts) (hold : HoldView) (tag : ℕ) (s0 s1 : CallView T) (has : HasThread z s0.known hold tag) (before : ℕ)
     (e1 : s1 ≡ record s0 { known = noted kind.Retire hold.id.context before (mark_word CORE_BITS (marked_free (claimed_again (held_by hold tag)))) (retired s0.known (held_by hold tag)) }) where

@@ -1,14 +1,9 @@
 -- The first words of a table are those that its rule requires.
-use Rattle.std.proofs.Common.{◌≡◌, ℕ, ◌+◌, ◌-◌, ◌*◌, ◌/◌, ◌%◌, ◌<◌, ◌≤◌, ◌∙◌, ltb, false, ap, sym, arith, List, [], ◌∷◌, ◌++◌, length, get_or, inl, inr}
-use Rattle.std.proofs.lemmas.Bool.{cases_lt, cond-true, cond-false, lt-ltb, le-ltb}
-use Rattle.std.proofs.Math.ListN.{get_or-append}
-use Rattle.std.proofs.Math.Seq.{get_or-append_seam}
-use Rattle.arachne_core.specs.declared.layout.TheConstants.{CORE_BITS, SLOTS}
+use Rattle.std.proofs.Common.{◌≡◌, ℕ, ◌+◌, ◌-◌, ◌*◌, ◌/◌, ◌%◌, ◌<◌, ◌≤◌, ◌∙◌, ltb, false, arith, List, length, get_or}
+use Rattle.std.proofs.lemmas.Bool.{cond-true, cond-false, lt-ltb, le-ltb}
+use Rattle.arachne_core.specs.{declared.layout.TheConstants.{CORE_BITS, SLOTS}, Place.first_place, Marked.mark_word}
 use Rattle.arachne_core.specs.declared.mark.Mark.TheVariants as mark
-use Rattle.arachne_core.specs.Place.{first_place}
-use Rattle.arachne_core.specs.Marked.{mark_word}
-use Rattle.arachne_rule.specs.declared.layout.TheConstants.{BLOCK, NAMES, OCCUPANCY}
-use Rattle.arachne_rule.specs.Layout.{AreFirstWords}
+use Rattle.arachne_rule.specs.{declared.layout.TheConstants.{BLOCK, NAMES, OCCUPANCY}, Layout.AreFirstWords}
 use Rattle.arachne_words.specs.FirstWords.{first_word, block_word}
 
 pub block-before : (slots core offset : ℕ) → offset < NAMES → block_word slots core offset ≡ 0
@@ -16,9 +11,6 @@ block-before slots core offset h = cond-true (ltb offset NAMES) _ _ (lt-ltb offs
 
 pub block-name : (slots core offset : ℕ) → NAMES ≤ offset → offset - NAMES < slots → block_word slots core offset ≡ core * slots + (offset - NAMES)
 block-name slots core offset h l = cond-false (ltb offset NAMES) _ _ (le-ltb offset NAMES h) ∙ cond-true (ltb (offset - NAMES) slots) _ _ (lt-ltb (offset - NAMES) slots l)
-
-pub block-behind : (slots core offset : ℕ) → NAMES ≤ offset → slots ≤ offset - NAMES → block_word slots core offset ≡ 0
-block-behind slots core offset h l = cond-false (ltb offset NAMES) _ _ (le-ltb offset NAMES h) ∙ cond-false (ltb (offset - NAMES) slots) _ _ (le-ltb (offset - NAMES) slots l)
 
 pub word-mark : (slots n generation i : ℕ) → i < n → first_word slots n generation i ≡ mark_word CORE_BITS (record { mark = mark.Free; alone = false; place = first_place slots i; generation = generation })
 word-mark slots n generation i h = cond-true (ltb i n) _ _ (lt-ltb i n h)
@@ -45,10 +37,3 @@ are-first cores slots generation last ws few long each =
           each i (omega (arith, core_in, small)) ∙ word-block slots n generation i (omega arith)
           ∙ (λ j. block_word slots (core j) (offset j)) ∙ block-name slots p.core (NAMES + p.index) (omega arith) (omega (arith, index_in)) ∙ omega arith;
     }
-
--- one more word
-pub one-more : (f : ℕ → ℕ) (ws : List ℕ) (w k : ℕ) → length ws ≡ k → ((i : ℕ) → i < k → get_or ws i 0 ≡ f i) → w ≡ f k → (i : ℕ) → i < k + 1 → get_or (ws ++ w ∷ []) i 0 ≡ f i
-one-more f ws w k long each is i h = elim (cases_lt i k) [
-  | inl l ↦ get_or-append ws (w ∷ []) 0 i (omega (arith, l, long)) ∙ each i l
-  | inr m ↦ let e : i ≡ length ws = omega (arith, m, h, long) in ap (λ (j : ℕ). get_or (ws ++ w ∷ []) j 0) e ∙ get_or-append_seam ws w [] 0 ∙ is ∙ ap f (sym (e ∙ long))
-]

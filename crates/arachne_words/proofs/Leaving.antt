@@ -1,28 +1,14 @@
 -- The list of the threads that are left, as it grows context by context.
-use Rattle.std.proofs.Common.{◌≡◌, ◌≢◌, ℕ, zero, suc, ◌+◌, ◌<◌, ◌≤◌, ◌∙◌, ap, sym, subst, refl, arith, Some, None, Option, List, [], ◌∷◌, ◌++◌, length, drop, set, get_or, get_or-set_other, Bool, true, false, inl, inr}
-use Rattle.std.proofs.lemmas.Bool.{cases_eq}
+use Rattle.std.proofs.Common.{◌≡◌, ◌≢◌, ℕ, zero, suc, ◌+◌, ◌<◌, ◌≤◌, ◌∙◌, ap, sym, subst, refl, arith, Some, None, Option, List, [], ◌∷◌, ◌++◌, length, drop, set, get_or, get_or-set_other, Bool, true, false, inl, inr, slice_index}
+use Rattle.std.proofs.lemmas.{List.drop_all, Bool.cases_eq}
 use mathlib.Core.Option as opt
 use lib.ListN.{get_elem?}
-use Rattle.atomic_table.specs.Table.{Final, Seen}
-use Rattle.atomic_table.proofs.Lists.{drop_at}
-use Rattle.std.specs.Prelude.{slice_index}
-use Rattle.arachne_core.specs.declared.layout.TheConstants.{CORE_BITS}
-use Rattle.arachne_core.specs.declared.thread_id.ThreadId.{ThreadId}
-use Rattle.arachne_core.specs.Marked.{marked_of}
+use Rattle.atomic_table.{specs.Table.{Final, Seen}, proofs.Lists.drop_at}
+use Rattle.arachne_core.specs.{declared.{layout.TheConstants.CORE_BITS, thread_id.ThreadId.ThreadId}, Marked.marked_of}
 use Rattle.arachne_contexts.specs.Answers.{IsByContext}
-use Rattle.arachne_weights.specs.Tokens.{held}
-use Rattle.arachne_weights.specs.Weight.{whole}
-use Rattle.arachne_rule.specs.declared.view.Known.{Known}
-use Rattle.arachne_rule.specs.declared.view.Shape.{Shape}
-use Rattle.arachne_rule.specs.Ending.{left_from, IsSettled}
-use Rattle.arachne_rule.specs.Table.{Holds}
+use Rattle.arachne_weights.specs.{Tokens.held, Weight.whole}
+use Rattle.arachne_rule.specs.{declared.view.{Known.Known, Shape.Shape}, Ending.{left_from, IsSettled}, Table.Holds}
 use Rattle.arachne_rule.proofs.Ending.{all-settled}
-
-drop-past : {A : Type 0} (xs : List A) (x : ℕ) → length xs ≤ x → drop x xs ≡ []
-drop-past [] zero h = refl
-drop-past [] (suc x) h = refl
-drop-past (y ∷ ys) zero h = absurd (omega (arith, h))
-drop-past (y ∷ ys) (suc x) h = drop-past ys x (omega (arith, h))
 
 pub set-false : (fs : List Bool) (i : ℕ) → get_or (set fs i false) i false ≡ false
 set-false [] i = refl
@@ -97,7 +83,7 @@ module _ {T : Type 0} where
 
   -- the list, after each context was looked at
   pub all-left : (left : List (ThreadId × T)) (x : ℕ) (words : List ℕ) (slots : List (Option T)) → length slots ≤ x → SoFar left x words slots → left ≡ left_from CORE_BITS 0 words slots
-  all-left left x words slots past so = sym (append-none left) ∙ ap (λ (r : List (Option T)). left ++ left_from CORE_BITS x words r) (sym (drop-past slots x past)) ∙ so
+  all-left left x words slots past so = sym (append-none left) ∙ ap (λ (r : List (Option T)). left ++ left_from CORE_BITS x words r) (sym (drop_all x slots past)) ∙ so
 
   pub all-by-context : (left : List (ThreadId × T)) (x : ℕ) (words : List ℕ) (slots : List (Option T)) → length slots ≤ x → SoFar left x words slots → IsByContext left
   all-by-context left x words slots past so = subst IsByContext (sym (all-left left x words slots past so)) (left-by-context CORE_BITS 0 words slots).1

@@ -1,23 +1,14 @@
 -- A move: the conditions of its steps, and the seat after them.
 use Rattle.std.proofs.Common.{◌≡◌, ℕ, ◌<◌, ◌∙◌, ◌==◌, if◌then◌else◌, ap, sym, subst, refl, inr, List}
-use Rattle.arachne_core.specs.declared.layout.TheConstants.{CORE_BITS}
-use Rattle.arachne_core.specs.declared.place.Place.{Place}
-use Rattle.arachne_core.specs.Marked.{Marked, mark_word}
+use Rattle.arachne_core.specs.{declared.{layout.TheConstants.CORE_BITS, place.Place.Place}, Marked.{Marked, mark_word}}
 use Rattle.arachne_contexts.specs.declared.answers.Moved.{Moved}
 use Rattle.arachne_contexts.specs.declared.answers.Moved.TheVariants as moved
-use Rattle.arachne_rule.specs.declared.view.Carried.{Carried}
+use Rattle.arachne_rule.specs.{Views.{noted, with_context, with_carried, without_context, without}, Plays.Carries}
+use Rattle.arachne_rule.specs.{Layout.{Contexts, occ_index, name_index}, Changes.{index_sum, left_context}}
+use Rattle.arachne_rule.{specs.declared.view.{Carried.Carried, Known.Known}, proofs.Carrying.with-at}
 use Rattle.arachne_rule.specs.declared.view.Kind.TheVariants as kind
-use Rattle.arachne_rule.specs.declared.view.Known.{Known}
-use Rattle.arachne_rule.specs.Changes.{index_sum, left_context}
-use Rattle.arachne_rule.specs.Layout.{Contexts, occ_index, name_index}
-use Rattle.arachne_rule.specs.Plays.{Carries}
-use Rattle.arachne_rule.specs.Views.{noted, with_context, with_carried, without_context, without}
-use Rattle.arachne_rule.proofs.Carrying.{with-at}
-use Rattle.arachne_words.specs.Seats.{CallView, HasClaim, claimed_by}
-use Rattle.arachne_words.specs.Sizes.{IsPlaceIn}
-use Rattle.arachne_words.specs.Steps.{IsClaimed}
-use Rattle.arachne_words.specs.Calls.{released}
-use Rattle.arachne_words.specs.Moves.{shared_claim, free_at, moved_off, HasRoom, ToAnswer, SeenAnswer}
+use Rattle.arachne_words.specs.{Seats.{CallView, HasClaim, claimed_by}, Sizes.IsPlaceIn, Steps.IsClaimed}
+use Rattle.arachne_words.specs.{Calls.released, Moves.{shared_claim, free_at, moved_off, HasRoom, ToAnswer, SeenAnswer}}
 use Rattle.arachne_words.proofs.Out.{without-with}
 
 module _ (z : Contexts) (moving y g : ℕ) (source target : Place) (inside : y < z.table.slots) where
@@ -65,16 +56,10 @@ module _ (z : Contexts) (moving y g : ℕ) (source target : Place) (inside : y <
 pub to-carried : (c : Contexts) (x : ℕ) (seen : Marked) (target : Place) (y g : ℕ) (k after : Known) (answer : Moved) → ToAnswer c x seen target y g k answer after → after.carried ≡ without y k.carried
 to-carried c x seen target y g k after moved.Moved is = ap (λ (q : Known). q.carried) is.4
 to-carried c x seen target y g k after (moved.Lost word) is = ap (λ (q : Known). q.carried) is.2
-to-carried c x seen target y g k after (moved.NoRoom word) is = absurd is
-to-carried c x seen target y g k after moved.Unposted is = absurd is
-to-carried c x seen target y g k after moved.Running is = absurd is
-to-carried c x seen target y g k after moved.Alone is = absurd is
+to-carried c x seen target y g k after _ is = absurd is
 
 pub seen-answer : (c : Contexts) (x : ℕ) (seen : Marked) (to : ℕ) (k after : Known) (answer : Moved) (room index y g : ℕ) (claimed : Known) → HasRoom c to k room index y g claimed
     → ToAnswer c x seen (record { core = to; index = index }) y g claimed answer after → SeenAnswer c x seen to k answer after
 seen-answer c x seen to k after moved.Moved room index y g claimed has is = (room, index, y, g, claimed, has, is)
 seen-answer c x seen to k after (moved.Lost word) room index y g claimed has is = inr (room, index, y, g, claimed, has, is)
-seen-answer c x seen to k after (moved.NoRoom word) room index y g claimed has is = absurd is
-seen-answer c x seen to k after moved.Unposted room index y g claimed has is = absurd is
-seen-answer c x seen to k after moved.Running room index y g claimed has is = absurd is
-seen-answer c x seen to k after moved.Alone room index y g claimed has is = absurd is
+seen-answer c x seen to k after _ room index y g claimed has is = absurd is

@@ -1,9 +1,7 @@
 -- The number of contexts that are out with a seat, after one was claimed or taken, changed, or given up.
 use Rattle.std.proofs.Common.{◌≡◌, ℕ, zero, suc, ◌+◌, ◌-◌, ◌<◌, ◌≤◌, List, [], ◌∷◌, length, eqb, refl, sym, ap, ◌∙◌, subst, arith, inl, inr}
 use Rattle.std.proofs.lemmas.Bool.{cases_eq, cond-true, cond-false, eq-eqb, ne_eqb}
-use Rattle.arachne_rule.specs.declared.view.Carried.{Carried}
-use Rattle.arachne_rule.specs.declared.view.Known.{Known}
-use Rattle.arachne_rule.specs.Views.{carried_at, without, with_carried}
+use Rattle.arachne_rule.specs.{declared.view.{Carried.Carried, Known.Known}, Views.{carried_at, without, with_carried}}
 use Rattle.arachne_rule.specs.Plays.{Carries}
 use Rattle.arachne_rule.proofs.Carrying.{without-at, without-else, with-at, with-else, without-length}
 use Rattle.arachne_words.specs.Seats.{AreOut, CallView}
@@ -64,16 +62,6 @@ out-less n out k k' c o has is = moved n (out - 1) (record k { carried = without
   ];
 }) is
 
-pub out-some : (n out : ℕ) (k : Known) (c : Carried) → AreOut n out k → Carries k c → 1 ≤ out
-out-some n out k c o has = let a = without-length c.context k.carried in let b = ap length has in let d = o.counted in omega arith
-
--- nothing is out at first
-pub out-none : (n : ℕ) (k : Known) → k.carried ≡ [] → AreOut n 0 k
-out-none n k is = record { counted = ap length is; once = λ x. let a = ap (λ (cs : List Carried). length (carried_at x cs)) is in omega arith; inside = λ x h. ap (carried_at x) is }
-
-pub out-same : (n out : ℕ) (k k' : Known) → AreOut n out k → k'.carried ≡ k.carried → AreOut n out k'
-out-same = moved
-
 pub without-fresh : (x : ℕ) (cs : List Carried) → carried_at x cs ≡ [] → without x cs ≡ cs
 without-fresh x [] e = refl
 without-fresh x (c ∷ cs) e = elim (cases_eq c.context x) [
@@ -105,6 +93,3 @@ module _ {T : Type 0} (s t : CallView T) (weight out : ℕ) (k : Known) (keeps :
 
   pub keeps-less : (c : Carried) → Carries s.known c → k.carried ≡ without c.context s.known.carried → Keeps t weight (out - 1)
   keeps-less c has is = with-out (out - 1) (out-less s.table.slots out s.known k c keeps.2 has is)
-
-  pub keeps-same : k.carried ≡ s.known.carried → Keeps t weight out
-  keeps-same is = with-out out (moved s.table.slots out s.known k keeps.2 is)

@@ -1,20 +1,14 @@
 -- The claims and threads that are out with a seat after each call, by the call's result.
 use Rattle.std.proofs.Common.{◌≡◌, ℕ, ◌<◌, ◌∙◌, ap, sym, subst, refl, List, [], ◌∷◌, Ok}
 use Rattle.arachne_core.specs.declared.place.Place.{Place}
-use Rattle.arachne_contexts.specs.Out.{Out, Claim, Thread, with_claim, with_thread}
-use Rattle.arachne_contexts.specs.declared.answers.Claimed.{Claimed}
-use Rattle.arachne_contexts.specs.declared.answers.Claimed.TheVariants as claimed
+use Rattle.arachne_contexts.specs.{Out.{Out, Claim, Thread, with_claim, with_thread}, declared.answers.Claimed.Claimed}
 use Rattle.arachne_contexts.specs.declared.answers.Taken.{Taken}
+use Rattle.arachne_contexts.specs.declared.answers.Claimed.TheVariants as claimed
 use Rattle.arachne_contexts.specs.declared.answers.Taken.TheVariants as taken
-use Rattle.arachne_rule.specs.declared.view.Carried.{Carried}
-use Rattle.arachne_rule.specs.declared.view.Known.{Known}
-use Rattle.arachne_rule.specs.Layout.{Contexts}
-use Rattle.arachne_rule.specs.Views.{carried_at, with_carried, without}
-use Rattle.arachne_rule.proofs.Carrying.{with-at}
-use Rattle.arachne_words.specs.Calls.{ClaimAnswer, ClaimAloneAnswer, TakeAnswer}
-use Rattle.arachne_words.specs.Sizes.{IsPlaceIn}
-use Rattle.arachne_words.specs.Out.{IsOutAs, AreOutAs}
-use Rattle.arachne_words.specs.Seats.{ClaimView, HoldView, claimed_by, held_by}
+use Rattle.arachne_rule.specs.{declared.view.{Carried.Carried, Known.Known}, Layout.Contexts}
+use Rattle.arachne_rule.{specs.Views.{carried_at, with_carried, without}, proofs.Carrying.with-at}
+use Rattle.arachne_words.specs.{Calls.{ClaimAnswer, ClaimAloneAnswer, TakeAnswer}, Sizes.IsPlaceIn}
+use Rattle.arachne_words.specs.{Out.{IsOutAs, AreOutAs}, Seats.{ClaimView, HoldView, claimed_by, held_by}}
 use Rattle.arachne_words.proofs.Out.{without-fresh, without-with}
 
 -- ---- what is out

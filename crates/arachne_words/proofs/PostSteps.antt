@@ -1,21 +1,14 @@
 -- A post: the conditions of its steps, and the seat after them.
 use Rattle.std.proofs.Common.{◌≡◌, ℕ, ◌<◌, ◌∙◌, ap, sym, subst, refl, true, Some, None, ◌∷◌}
 use Rattle.atomic_table.specs.Table.{rest}
-use Rattle.arachne_core.specs.declared.layout.TheConstants.{CORE_BITS}
+use Rattle.arachne_core.specs.{declared.layout.TheConstants.CORE_BITS, Marked.{Marked, mark_word, marked_of}}
 use Rattle.arachne_core.specs.declared.mark.Mark.TheVariants as mark
-use Rattle.arachne_core.specs.Marked.{Marked, mark_word, marked_of}
-use Rattle.arachne_rule.specs.declared.view.Carried.{Carried}
-use Rattle.arachne_rule.specs.declared.view.Kind.TheVariants as kind
-use Rattle.arachne_rule.specs.declared.view.Known.{Known}
-use Rattle.arachne_rule.specs.Changes.{marked_as, posted}
-use Rattle.arachne_rule.specs.Layout.{Contexts, name_index}
-use Rattle.arachne_rule.specs.Plays.{Carries, SaysCarried}
-use Rattle.arachne_rule.specs.Views.{noted, with_context}
+use Rattle.arachne_rule.specs.{declared.view.{Carried.Carried, Known.Known}, Changes.{marked_as, posted}}
+use Rattle.arachne_rule.specs.{Layout.{Contexts, name_index}, Plays.{Carries, SaysCarried}, Views.{noted, with_context}}
 use Rattle.arachne_rule.proofs.Carrying.{with-at}
-use Rattle.arachne_words.specs.Seats.{CallView, ClaimView, claimed_by}
-use Rattle.arachne_words.specs.Steps.{IsAtHome, IsPostable, HasLast}
-use Rattle.arachne_words.specs.Calls.{looked, learned}
-use Rattle.arachne_words.proofs.Out.{without-with}
+use Rattle.arachne_rule.specs.declared.view.Kind.TheVariants as kind
+use Rattle.arachne_words.specs.{Seats.{CallView, ClaimView, claimed_by}, Steps.{IsAtHome, IsPostable, HasLast}}
+use Rattle.arachne_words.{specs.Calls.{looked, learned}, proofs.Out.without-with}
 
 module _ (z : Contexts) (claim : ClaimView) (x g : ℕ) (inside : x < z.table.slots) where
   abbrev pub out_with : Carried

@@ -1,22 +1,15 @@
 -- How a held thread is put back: the conditions of the steps, and the seat after them.
 use Rattle.std.proofs.Common.{◌≡◌, ℕ, ◌<◌, ◌∙◌, ap, sym, subst, refl, true, Some, None, ◌∷◌}
 use Rattle.atomic_table.specs.Table.{rest}
-use Rattle.arachne_core.specs.declared.layout.TheConstants.{CORE_BITS}
+use Rattle.arachne_core.specs.{declared.{layout.TheConstants.CORE_BITS, state.Rest.Rest}, Marked.{Marked, mark_word}}
 use Rattle.arachne_core.specs.declared.mark.Mark.TheVariants as mark
-use Rattle.arachne_core.specs.declared.state.Rest.{Rest}
 use Rattle.arachne_core.specs.declared.state.Rest.TheVariants as rested_as
-use Rattle.arachne_core.specs.Marked.{Marked, mark_word}
-use Rattle.arachne_rule.specs.declared.view.Carried.{Carried}
-use Rattle.arachne_rule.specs.declared.view.Kind.TheVariants as kind
-use Rattle.arachne_rule.specs.declared.view.Known.{Known}
-use Rattle.arachne_rule.specs.Layout.{Contexts, name_index}
-use Rattle.arachne_rule.specs.Plays.{Carries}
-use Rattle.arachne_rule.specs.Views.{noted, with_context, without_context}
+use Rattle.arachne_rule.specs.{declared.view.{Carried.Carried, Known.Known}, Layout.{Contexts, name_index}}
+use Rattle.arachne_rule.specs.{Plays.Carries, Views.{noted, with_context, without_context}}
 use Rattle.arachne_rule.proofs.Carrying.{with-at}
-use Rattle.arachne_words.specs.Seats.{CallView, HoldView, HasThread, held_by, marked_by}
-use Rattle.arachne_words.specs.Steps.{IsAtHome, IsRestable, HasLast}
-use Rattle.arachne_words.specs.Calls.{learned}
-use Rattle.arachne_words.proofs.Out.{without-with}
+use Rattle.arachne_rule.specs.declared.view.Kind.TheVariants as kind
+use Rattle.arachne_words.specs.{Seats.{CallView, HoldView, HasThread, held_by, marked_by}, Calls.learned}
+use Rattle.arachne_words.{specs.Steps.{IsAtHome, IsRestable, HasLast}, proofs.Out.without-with}
 
 pub blocked-else : (r : Rest) → (r ≡ rested_as.Ready → ⊥) → r ≡ rested_as.Blocked
 blocked-else rested_as.Ready n = absurd (n refl)
@@ -34,9 +27,6 @@ module _ {T : Type 0} (tag_of : T → ℕ) (z : Contexts) (h : HoldView) (value 
       (e2 : s2 ≡ record s1 { slots = (context, Some value) ∷ rest s1.slots }) where
     laid : s2 ≡ record s0 { known = learned (name_index z.table.slots h.place) context (with_context s0.known out_with); slots = (context, Some value) ∷ s0.slots }
     laid = e2 ∙ ap (λ (v : CallView T). record v { slots = (context, Some value) ∷ rest v.slots }) e1.1
-
-    pub slot-taken : HasLast s1.slots context None
-    slot-taken = subst (λ (v : CallView T). HasLast v.slots context None) (sym e1.1) refl
 
     pub restable : IsRestable tag_of z s2 context out_with value
     restable = record {
@@ -81,15 +71,7 @@ module _ {T : Type 0} (tag_of : T → ℕ) (z : Contexts) (h : HoldView) (value 
 
     module _ (s3 : CallView T) (found : ℕ) (e3 : s3 ≡ record s2 { known = noted kind.RestBlocked context found found s2.known }) where
       pub restable-again : IsRestable tag_of z s3 context out_with value
-      restable-again = record {
-        context_is = e1.0;
-        inside = restable.inside;
-        carried = subst (λ (v : CallView T). Carries v.known out_with) (sym e3) restable.carried;
-        held = refl;
-        tagged = refl;
-        shown = refl;
-        slot = subst (λ (v : CallView T). HasLast v.slots h.id.context (Some value)) (sym e3) restable.slot;
-      }
+      restable-again = assumption (restable.inside, subst (λ (v : CallView T). Carries v.known out_with) (sym e3) restable.carried, subst (λ (v : CallView T). HasLast v.slots h.id.context (Some value)) (sym e3) restable.slot)
 
       pub after-lost : (s4 : CallView T) (before : ℕ) (ready : Marked) → ready ≡ marked_by mark.Ready h
           → s4 ≡ record s3 { known = noted kind.RestReady context before (mark_word CORE_BITS ready) (without_context s3.known out_with); slots = rest s3.slots }

@@ -1,21 +1,14 @@
 -- A take: the conditions of its steps, and the seat after them.
 use Rattle.std.proofs.Common.{◌≡◌, ℕ, ◌<◌, ◌∙◌, ap, sym, subst, refl, true, false, Some, None, Option, List, [], ◌∷◌}
 use Rattle.atomic_table.specs.Table.{rest}
-use Rattle.arachne_core.specs.declared.layout.TheConstants.{CORE_BITS}
-use Rattle.arachne_core.specs.declared.place.Place.{Place}
+use Rattle.arachne_core.specs.{declared.{layout.TheConstants.CORE_BITS, place.Place.Place}, Marked.{Marked, mark_word}}
 use Rattle.arachne_core.specs.declared.mark.Mark.TheVariants as mark
-use Rattle.arachne_core.specs.Marked.{Marked, mark_word}
-use Rattle.arachne_rule.specs.declared.view.Carried.{Carried}
-use Rattle.arachne_rule.specs.declared.view.Kind.TheVariants as kind
-use Rattle.arachne_rule.specs.Changes.{taken_context}
-use Rattle.arachne_rule.specs.Layout.{Contexts, name_index}
-use Rattle.arachne_rule.specs.Plays.{Carries}
-use Rattle.arachne_rule.specs.Views.{noted, with_context, carried_at}
+use Rattle.arachne_rule.specs.{declared.view.Carried.Carried, Changes.taken_context, Layout.{Contexts, name_index}}
+use Rattle.arachne_rule.specs.{Plays.Carries, Views.{noted, with_context, carried_at}}
 use Rattle.arachne_rule.proofs.Carrying.{with-at}
-use Rattle.arachne_words.specs.Seats.{CallView, HoldView, held_by, marked_by}
-use Rattle.arachne_words.specs.Steps.{HasLast, IsTaken}
-use Rattle.arachne_words.specs.Calls.{looked, learned}
-use Rattle.arachne_words.proofs.Out.{without-with}
+use Rattle.arachne_rule.specs.declared.view.Kind.TheVariants as kind
+use Rattle.arachne_words.specs.{Seats.{CallView, HoldView, held_by, marked_by}, Steps.{HasLast, IsTaken}}
+use Rattle.arachne_words.{specs.Calls.{looked, learned}, proofs.Out.without-with}
 
 abbrev value_in : {T : Type 0} → T → Option T → T
 value_in d None = d
@@ -66,14 +59,7 @@ module _ (z : Contexts) (p : Place) (x : ℕ) (inside : x < z.table.slots) (seen
     fresh-first = ap (λ (v : CallView T). carried_at x v.known.carried) (sym early) ∙ fresh
 
     pub taken : IsTaken z s4 x p first
-    taken = record {
-      context_is = refl;
-      inside = inside;
-      carried = subst (λ (v : CallView T). Carries v.known first) (sym late) (with-at first x s0.known.carried refl);
-      held = refl;
-      place = at;
-      slot = subst (λ (v : CallView T). HasLast v.slots x None) (sym late) refl;
-    }
+    taken = assumption (subst (λ (v : CallView T). Carries v.known first) (sym late) (with-at first x s0.known.carried refl), subst (λ (v : CallView T). HasLast v.slots x None) (sym late) refl)
 
     module _ (s5 : CallView T) (before : ℕ) (e5 : s5 ≡ record s4 {
       known = noted kind.KeepName (name_index z.table.slots p) before x (with_context s4.known at_last);

@@ -2,9 +2,7 @@
 use Rattle.std.proofs.Common.{◌≡◌, ℕ, List, refl, sym, ap, ◌∙◌, subst, Option}
 use Rattle.atomic_table.specs.Seated.{TableId}
 use Rattle.arachne_weights.specs.Tokens.{held}
-use Rattle.arachne_rule.specs.declared.view.Known.{Known}
-use Rattle.arachne_rule.specs.Table.{Mine}
-use Rattle.arachne_rule.specs.Plays.{IsLive}
+use Rattle.arachne_rule.specs.{declared.view.Known.Known, Table.Mine, Plays.IsLive}
 use Rattle.arachne_words.specs.Seats.{CallView}
 
 module _ {T : Type 0} where

@@ -1,13 +1,10 @@
 -- The meaning of a thread's mark word: if it shows the thread of an id blocked or held, it doesn't show that the thread
 -- is gone; and the mark word of a held thread that isn't HELD shows the thread woken.
 use Rattle.std.proofs.Common.{◌≡◌, ◌≢◌, ℕ, ◌<◌, true, ◌∙◌, ap, sym, arith, inl, inr}
-use Rattle.arachne_core.specs.declared.layout.TheConstants.{CORE_BITS}
-use Rattle.arachne_core.specs.declared.thread_id.ThreadId.{ThreadId}
-use Rattle.arachne_core.specs.declared.mark.Mark.{Mark}
-use Rattle.arachne_core.specs.declared.mark.Mark.TheVariants as mark
+use Rattle.arachne_core.specs.declared.{layout.TheConstants.CORE_BITS, thread_id.ThreadId.ThreadId, mark.Mark.Mark}
 use Rattle.arachne_core.specs.Marked.{Marked, mark_word, marked_of, mark_code, IsMarkWord}
-use Rattle.arachne_rule.specs.declared.view.Carried.{Carried}
-use Rattle.arachne_rule.specs.Changes.{marked_as}
+use Rattle.arachne_core.specs.declared.mark.Mark.TheVariants as mark
+use Rattle.arachne_rule.specs.{declared.view.Carried.Carried, Changes.marked_as}
 use Rattle.arachne_rule.specs.Plays.{IsGone, IsHeldMark, SaysCarried}
 
 pub not-gone : (id i : ThreadId) (seen : Marked) → marked_of CORE_BITS (mark_word CORE_BITS seen) ≡ seen → seen.generation ≡ id.generation → i ≡ id → (0 < mark_code seen.mark) × (mark_code seen.mark < 5)

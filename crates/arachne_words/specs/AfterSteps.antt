@@ -2,19 +2,13 @@
 -- and after it. A store doesn't show the number before.
 use Rattle.std.specs.Prelude.{◌≡◌, ◌≢◌, ℕ, ◌<◌, [], ◌∷◌, true, false, Some, None}
 use Rattle.atomic_table.specs.Table.{rest}
-use Rattle.arachne_core.specs.declared.layout.TheConstants.{CORE_BITS}
-use Rattle.arachne_core.specs.declared.place.Place.{Place}
-use Rattle.arachne_core.specs.declared.mark.Mark.{Mark}
+use Rattle.arachne_core.specs.declared.{layout.TheConstants.CORE_BITS, place.Place.Place, mark.Mark.Mark}
+use Rattle.arachne_core.specs.{Marked.{Marked, mark_word}, Occupancy.{Occupancy, occupancy_word}}
 use Rattle.arachne_core.specs.declared.mark.Mark.TheVariants as mark
-use Rattle.arachne_core.specs.Marked.{Marked, mark_word}
-use Rattle.arachne_core.specs.Occupancy.{Occupancy, occupancy_word}
-use Rattle.arachne_rule.specs.declared.view.Carried.{Carried}
-use Rattle.arachne_rule.specs.declared.view.Kind.{Kind}
-use Rattle.arachne_rule.specs.declared.view.Kind.TheVariants as kind
-use Rattle.arachne_rule.specs.declared.view.Known.{Known}
 use Rattle.arachne_rule.specs.Changes.{claimed_again, left_context, marked_free, marked_spent, posted, retired, spent_known, taken_context}
-use Rattle.arachne_rule.specs.Layout.{Contexts, occ_index, name_index}
-use Rattle.arachne_rule.specs.Views.{noted, with_context, without_context, carried_at}
+use Rattle.arachne_rule.specs.{Layout.{Contexts, occ_index, name_index}, declared.view.{Carried.Carried, Kind.Kind}}
+use Rattle.arachne_rule.specs.{Views.{noted, with_context, without_context, carried_at}, declared.view.Known.Known}
+use Rattle.arachne_rule.specs.declared.view.Kind.TheVariants as kind
 use Rattle.arachne_words.specs.Seats.{CallView, ClaimView, HoldView, claimed_by, held_by}
 use Rattle.arachne_words.specs.Calls.{EachContextOf, given_back, learned, sum_of, won_claim}
 use Rattle.arachne_words.specs.Moves.{moved_off, shared_claim}

@@ -1,30 +1,22 @@
 -- The results of a table's calls, by the steps that they made: each step is noted with its word, and the numbers in the
 -- word before and after it.
 use Rattle.std.specs.Prelude.{◌≡◌, ◌≢◌, ◌↔◌, IsTrue, EachIndex, ℕ, ◌+◌, ◌-◌, ◌<◌, ◌≤◌, ◌^◌, ◌⊎◌, Bool, true, false, if◌then◌else◌, [], slice_index_or}
-use Rattle.arachne_core.specs.declared.place.Place.{Place}
-use Rattle.arachne_core.specs.declared.layout.TheConstants.{CORE_BITS}
-use Rattle.arachne_core.specs.Occupancy.{Occupancy, occupancy_of}
-use Rattle.arachne_core.specs.declared.thread_id.ThreadId.{ThreadId}
+use Rattle.arachne_core.specs.declared.{place.Place.Place, layout.TheConstants.CORE_BITS}
+use Rattle.arachne_core.specs.{Occupancy.{Occupancy, occupancy_of}, declared.thread_id.ThreadId.ThreadId}
+use Rattle.arachne_core.specs.{Marked.{Marked, mark_word, marked_of}, declared.state.Rest.Rest}
 use Rattle.arachne_core.specs.declared.mark.Mark.TheVariants as mark
-use Rattle.arachne_core.specs.Marked.{Marked, mark_word, marked_of}
-use Rattle.arachne_core.specs.declared.state.Rest.{Rest}
 use Rattle.arachne_core.specs.declared.state.Rest.TheVariants as rest
-use Rattle.arachne_contexts.specs.Words.{ShowsReadyAt, ShowsWoken}
-use Rattle.arachne_contexts.specs.declared.answers.Rested.{Rested}
+use Rattle.arachne_contexts.specs.{Words.{ShowsReadyAt, ShowsWoken}, declared.answers.{Rested.Rested, Woken.Woken}}
+use Rattle.arachne_contexts.specs.declared.answers.{Taken.Taken, Claimed.Claimed}
 use Rattle.arachne_contexts.specs.declared.answers.Rested.TheVariants as rested
-use Rattle.arachne_contexts.specs.declared.answers.Woken.{Woken}
 use Rattle.arachne_contexts.specs.declared.answers.Woken.TheVariants as woken
-use Rattle.arachne_rule.specs.Plays.{Carries, IsGone}
-use Rattle.arachne_contexts.specs.declared.answers.Taken.{Taken}
-use Rattle.arachne_contexts.specs.declared.answers.Taken.TheVariants as taken
-use Rattle.arachne_contexts.specs.declared.answers.Claimed.{Claimed}
-use Rattle.arachne_contexts.specs.declared.answers.Claimed.TheVariants as claimed
-use Rattle.arachne_rule.specs.declared.view.Carried.{Carried}
-use Rattle.arachne_rule.specs.declared.view.Kind.TheVariants as kind
-use Rattle.arachne_rule.specs.declared.view.Known.{Known}
+use Rattle.arachne_rule.specs.{Plays.{Carries, IsGone}, declared.view.{Carried.Carried, Known.Known}}
 use Rattle.arachne_rule.specs.Views.{noted, with_context, without_context, carried_at}
 use Rattle.arachne_rule.specs.Changes.{index_sum, release_sum, posted, spent_known, claimed_again, marked_as, marked_free, marked_spent}
 use Rattle.arachne_rule.specs.Layout.{Contexts, occ_index, name_index}
+use Rattle.arachne_contexts.specs.declared.answers.Taken.TheVariants as taken
+use Rattle.arachne_contexts.specs.declared.answers.Claimed.TheVariants as claimed
+use Rattle.arachne_rule.specs.declared.view.Kind.TheVariants as kind
 use Rattle.arachne_words.specs.Seats.{ClaimView, HoldView, claimed_by, held_by, marked_by}
 
 -- ---- the meaning of words

@@ -3,11 +3,8 @@ use Rattle.std.specs.Prelude.{◌≡◌, ℕ}
 use mathlib.Core.Option.{some}
 use lib.ListN.{get_elem?}
 use Rattle.arachne_core.specs.declared.layout.TheConstants.{CORE_BITS}
-use Rattle.arachne_weights.specs.Tokens.{held}
-use Rattle.arachne_weights.specs.Weight.{whole}
-use Rattle.arachne_rule.specs.declared.view.Known.{Known}
-use Rattle.arachne_rule.specs.declared.view.Shape.{Shape}
-use Rattle.arachne_rule.specs.Table.{Table, Holds}
+use Rattle.arachne_weights.specs.{Tokens.held, Weight.whole}
+use Rattle.arachne_rule.specs.{declared.view.{Known.Known, Shape.Shape}, Table.{Table, Holds}}
 
 -- the rule allows a table of that shape in which the seat with the whole weight knows k
 pub record IsLawfulEnd {T : Type 0} (tag_in : T → ℕ) (shape : Shape) (k : Known) : Type 0 where

@@ -1,10 +1,8 @@
 -- The words of a table at first, by their index.
 use Rattle.std.specs.Prelude.{ℕ, ◌+◌, ◌-◌, ◌*◌, ◌/◌, ◌%◌, false, if◌then◌else◌, nat_lt}
-use Rattle.arachne_core.specs.declared.layout.TheConstants.{CORE_BITS}
+use Rattle.arachne_core.specs.{declared.layout.TheConstants.CORE_BITS, Place.first_place, Marked.mark_word}
 use Rattle.arachne_core.specs.declared.mark.Mark.TheVariants as mark
-use Rattle.arachne_core.specs.Place.{first_place}
 use Rattle.arachne_rule.specs.declared.layout.TheConstants.{BLOCK, NAMES}
-use Rattle.arachne_core.specs.Marked.{mark_word}
 
 -- a word of a core's block, for cores of `slots` places: a place word names the context that stands there at first, and
 -- the other words are 0

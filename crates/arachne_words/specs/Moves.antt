@@ -1,19 +1,14 @@
 -- The results of a move, by its steps: each step is noted with its word, and the numbers in the word before and after
 -- it.
 use Rattle.std.specs.Prelude.{◌≡◌, ◌≢◌, ℕ, ◌-◌, ◌<◌, ◌⊎◌, ◌==◌, if◌then◌else◌, true, false, []}
-use Rattle.arachne_core.specs.declared.place.Place.{Place}
-use Rattle.arachne_core.specs.declared.layout.TheConstants.{CORE_BITS}
-use Rattle.arachne_core.specs.declared.mark.Mark.TheVariants as mark
-use Rattle.arachne_core.specs.Occupancy.{occupancy_of}
+use Rattle.arachne_core.specs.{declared.{place.Place.Place, layout.TheConstants.CORE_BITS}, Occupancy.occupancy_of}
 use Rattle.arachne_core.specs.Marked.{Marked, mark_word, marked_of}
+use Rattle.arachne_core.specs.declared.mark.Mark.TheVariants as mark
 use Rattle.arachne_contexts.specs.declared.answers.Moved.{Moved}
 use Rattle.arachne_contexts.specs.declared.answers.Moved.TheVariants as moved
 use Rattle.arachne_rule.specs.declared.view.Kind.TheVariants as kind
-use Rattle.arachne_rule.specs.declared.view.Known.{Known}
-use Rattle.arachne_rule.specs.Changes.{index_sum}
-use Rattle.arachne_rule.specs.Layout.{Contexts, occ_index, name_index}
-use Rattle.arachne_rule.specs.Plays.{IsHeldMark, IsRestMark}
-use Rattle.arachne_rule.specs.Views.{noted, without_context, carried_at}
+use Rattle.arachne_rule.specs.{declared.view.Known.Known, Changes.index_sum, Layout.{Contexts, occ_index, name_index}}
+use Rattle.arachne_rule.specs.{Plays.{IsHeldMark, IsRestMark}, Views.{noted, without_context, carried_at}}
 use Rattle.arachne_words.specs.Seats.{ClaimView, claimed_by}
 use Rattle.arachne_words.specs.Calls.{HasNoPlace, IsLowestFree, looked, learned, lost_claim, won_claim}
 

@@ -2,12 +2,9 @@
 use Rattle.std.specs.Prelude.{◌≡◌, ℕ, ◌+◌, ◌<◌, ◌≤◌, List, [], ◌∷◌, count_by}
 use Rattle.arachne_core.specs.World.{Thread as ThreadOf, same_thread}
 use Rattle.arachne_contexts.specs.Out.{Out, Claim, Thread}
-use Rattle.arachne_rule.specs.declared.view.Carried.{Carried}
-use Rattle.arachne_rule.specs.declared.view.Known.{Known}
-use Rattle.arachne_rule.specs.Layout.{Contexts}
+use Rattle.arachne_rule.specs.{declared.view.{Carried.Carried, Known.Known}, Layout.Contexts}
 use Rattle.arachne_rule.specs.Views.{carried_at, without}
-use Rattle.arachne_words.specs.Seats.{SeatView, ClaimView, HoldView, claimed_by, held_by}
-use Rattle.arachne_words.specs.Sizes.{IsPlaceIn}
+use Rattle.arachne_words.specs.{Seats.{SeatView, ClaimView, HoldView, claimed_by, held_by}, Sizes.IsPlaceIn}
 
 -- a context of the table that a seat carries is out as this claim, or as this thread
 abbrev pub IsOutAs : Contexts → Carried → Out ClaimView HoldView → Type 0

@@ -1,14 +1,8 @@
 -- The models of a seat, of a claim and of a hold, and what a seat knows of them.
 use Rattle.std.specs.Prelude.{◌≡◌, ℕ, ◌<◌, ◌≤◌, Bool, true, false, List, [], length, Option}
 use Rattle.atomic_table.specs.Seated.{TableId}
-use Rattle.arachne_core.specs.declared.place.Place.{Place}
-use Rattle.arachne_core.specs.declared.thread_id.ThreadId.{ThreadId}
-use Rattle.arachne_core.specs.declared.mark.Mark.{Mark}
-use Rattle.arachne_core.specs.Marked.{Marked}
-use Rattle.arachne_rule.specs.declared.view.Carried.{Carried}
-use Rattle.arachne_rule.specs.declared.view.Known.{Known}
-use Rattle.arachne_rule.specs.Views.{carried_at}
-use Rattle.arachne_rule.specs.Layout.{Contexts}
+use Rattle.arachne_core.specs.{declared.{place.Place.Place, thread_id.ThreadId.ThreadId, mark.Mark.Mark}, Marked.Marked}
+use Rattle.arachne_rule.specs.{declared.view.{Carried.Carried, Known.Known}, Views.carried_at, Layout.Contexts}
 use Rattle.arachne_rule.specs.Plays.{Carries}
 use Rattle.arachne_words.specs.Sizes.{IsPlaceIn}
 

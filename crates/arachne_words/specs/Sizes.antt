@@ -1,9 +1,7 @@
 -- The fields that the table's type keeps beside the table that it owns.
 use Rattle.std.specs.Prelude.{◌≡◌, ℕ, ◌<◌, ◌≤◌}
-use Rattle.arachne_core.specs.declared.place.Place.{Place}
-use Rattle.arachne_core.specs.declared.layout.TheConstants.{CORES, SLOTS, LAST_GENERATION}
-use Rattle.arachne_rule.specs.declared.view.Shape.{Shape}
-use Rattle.arachne_rule.specs.Layout.{Contexts, IsLaidOut}
+use Rattle.arachne_core.specs.declared.{place.Place.Place, layout.TheConstants.{CORES, SLOTS, LAST_GENERATION}}
+use Rattle.arachne_rule.specs.{declared.view.Shape.Shape, Layout.{Contexts, IsLaidOut}}
 
 -- the place is one of the table's
 abbrev pub IsPlaceIn : Shape → Place → Type 0

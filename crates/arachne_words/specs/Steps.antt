@@ -2,13 +2,9 @@
 -- first.
 use Rattle.std.specs.Prelude.{◌≡◌, ℕ, ◌<◌, true, false, List, ◌∷◌, Option, Some, None}
 use Rattle.atomic_table.specs.Table.{rest}
-use Rattle.arachne_core.specs.declared.place.Place.{Place}
+use Rattle.arachne_core.specs.{declared.place.Place.Place, Marked.Marked}
 use Rattle.arachne_core.specs.declared.mark.Mark.TheVariants as mark
-use Rattle.arachne_core.specs.Marked.{Marked}
-use Rattle.arachne_rule.specs.declared.view.Carried.{Carried}
-use Rattle.arachne_rule.specs.declared.view.Known.{Known}
-use Rattle.arachne_rule.specs.Changes.{marked_as}
-use Rattle.arachne_rule.specs.Layout.{Contexts}
+use Rattle.arachne_rule.specs.{declared.view.{Carried.Carried, Known.Known}, Changes.marked_as, Layout.Contexts}
 use Rattle.arachne_rule.specs.Plays.{Carries}
 use Rattle.arachne_words.specs.Seats.{CallView}
 

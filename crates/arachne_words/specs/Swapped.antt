@@ -2,12 +2,9 @@
 use Rattle.std.proofs.Common.{◌≡◌, ◌≢◌, ℕ, ◌∙◌, ap, sym, subst, refl, List, [], ◌∷◌, eqb, inl, inr}
 use Rattle.std.proofs.lemmas.Bool.{cases_eq, cond-true, cond-false, eq-eqb, ne_eqb}
 use Rattle.arachne_contexts.specs.Out.{Out}
-use Rattle.arachne_rule.specs.declared.view.Carried.{Carried}
-use Rattle.arachne_rule.specs.Layout.{Contexts}
-use Rattle.arachne_rule.specs.Views.{carried_at, without}
+use Rattle.arachne_rule.specs.{declared.view.Carried.Carried, Layout.Contexts, Views.{carried_at, without}}
 use Rattle.arachne_rule.proofs.Carrying.{without-at, without-else}
-use Rattle.arachne_words.specs.Out.{AreOutAs}
-use Rattle.arachne_words.specs.Seats.{ClaimView, HoldView}
+use Rattle.arachne_words.specs.{Out.AreOutAs, Seats.{ClaimView, HoldView}}
 
 drops : (x : ℕ) (a : Carried) (cs : List Carried) → a.context ≡ x → without x (a ∷ cs) ≡ without x cs
 drops x a cs e = cond-true (eqb a.context x) _ _ (eq-eqb _ _ e)

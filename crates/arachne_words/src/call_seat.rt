@@ -3,10 +3,7 @@ use arachne_rule::View;
 use atomic_table::Seat;
 use std::marker::Model;
 
-/// A seat (a kernel thread's right to call the table) during a call, with the threads' value fields that the call has
-/// taken out of the table, if any.
-///
-/// Contracts refer to the seat's table, its weight, its record, and those value fields (`slots`).
+/// A seat during a call, with the value fields that the call took from the table.
 #[derive(Drop)]
 pub(crate) struct CallSeat<T> {
     pub(crate) seat: Seat<Option<T>, View>,

@@ -1,5 +1,4 @@
-//! Claims (reserves) a free place of a core, or a whole empty core, for a new thread, and frees a claim again. A place
-//! is one of a core's (at most 56) thread slots.
+//! Claims (reserves) a free thread slot, or a whole empty core, for a new thread, and frees claims.
 ghost use Rattle.std.specs.Prelude.{◌≡◌, ◌<◌, true, false, slice_index_or, IfSome, IfNone, IfOk, IfErr};
 ghost use Rattle.arachne_core.specs.Occupancy.{occupancy_word};
 ghost use Rattle.arachne_rule.specs.Layout.{occ_index};
@@ -15,12 +14,9 @@ use crate::table::WordContexts;
 use arachne_contexts::{Claimed, Tagged};
 use arachne_core::{COUNT_ONE, EXCLUSIVE, OccWord, Place, SLOTS};
 
-/// The occupancy word of a core that one thread has for itself: it is exclusive, and only index 0 is occupied.
+/// The occupancy word of a core that one thread has for itself.
 const WHOLE_CORE: u64 = EXCLUSIVE + COUNT_ONE + 1;
 
-/// Returns the number that a claim adds to its core's occupancy word, and that freeing the claim subtracts again.
-///
-/// The number consists of the bit of `index`, 1 in the field of the count, and the exclusive bit if `alone` is true.
 fn claim_sum(index: u8, alone: bool) -> u64
     requires { index < SLOTS }
     ensures { result ≡ sum_of alone index }
@@ -30,8 +26,8 @@ fn claim_sum(index: u8, alone: bool) -> u64
 }
 
 impl<T: Tagged + Drop> WordContexts<T> {
-    /// Returns the lowest free index of the core whose occupancy word is `seen`, or `None` if the core is full or
-    /// exclusive (one thread has it for itself).
+    /// Returns the lowest free slot of a core with the occupancy word `seen`, or `None` if the core is full or one
+    /// thread has it for itself.
     pub(crate) fn free_index(&self, seen: OccWord) -> Option<u8>
         ensures some { IfSome result (IsLowestFree self.now.shape.places_per_core seen) }
         ensures none { IfNone result (HasNoPlace self.now.shape.places_per_core seen) }
@@ -67,8 +63,7 @@ impl<T: Tagged + Drop> WordContexts<T> {
         Ok(())
     }
 
-    /// Claims the lowest free thread slot of a core for the caller's seat. Reads the core's occupancy word once, and
-    /// tries once.
+    /// Tries once to claim the lowest free thread slot of a core.
     pub fn claim(&self, seat: &mut WordSeat<T>, core: u8) -> Claimed<WordClaim>
         requires own { seat.old.table ≡ self.now.table }
         requires core { core < self.now.shape.cores }
@@ -96,8 +91,7 @@ impl<T: Tagged + Drop> WordContexts<T> {
         }
     }
 
-    /// Tries once to claim a whole empty core, by a compare-exchange of its occupancy word from 0. If the word isn't 0,
-    /// returns it as an error.
+    /// Claims a whole empty core, or returns its occupancy word as the error if it isn't 0.
     fn try_claim_alone(&self, seat: &mut CallSeat<T>, core: u8) -> Result<(), u64>
         requires own { seat.old.table ≡ self.now.table }
         requires core { core < self.now.shape.cores }
@@ -113,8 +107,7 @@ impl<T: Tagged + Drop> WordContexts<T> {
         Ok(())
     }
 
-    /// Claims a whole empty core for one thread, at index 0. Reads the core's occupancy word once, and tries the
-    /// compare-exchange once.
+    /// Tries once to claim a whole empty core for one thread, in slot 0.
     pub fn claim_alone(&self, seat: &mut WordSeat<T>, core: u8) -> Claimed<WordClaim>
         requires own { seat.old.table ≡ self.now.table }
         requires core { core < self.now.shape.cores }
@@ -141,8 +134,7 @@ impl<T: Tagged + Drop> WordContexts<T> {
         }
     }
 
-    /// Frees a claimed place (a thread slot), by one atomic subtraction from the core's occupancy word: of the place's
-    /// bit, of 1 in the field of the count, and of the exclusive bit if `alone` is true.
+    /// Frees a claimed slot, or a whole core if `alone` is true, by one atomic subtraction.
     pub(crate) fn release(&self, seat: &mut CallSeat<T>, place: Place, alone: bool)
         requires own { seat.old.table ≡ self.now.table }
         requires claim { HasClaim self.now seat.old.known (record { place = place; alone = alone }) }

@@ -35,8 +35,7 @@ impl<T: Tagged + Drop> WordContexts<T> {
         shared.fetch_and::<Open>(&mut seat.seat, self.core_word(core), !CLOSED)
     }
 
-    /// Closes a core, so that no thread slot can be claimed on it. Returns the core's occupancy word (a bit for each
-    /// occupied slot) as it was before the call.
+    /// Closes a core, so that no slot can be claimed. Returns its old occupancy word (a bit for each occupied slot).
     pub fn close_core(&self, seat: &mut WordSeat<T>, core: u8) -> u64
         requires own { seat.old.table ≡ self.now.table }
         requires core { core < self.now.shape.cores }
@@ -46,7 +45,7 @@ impl<T: Tagged + Drop> WordContexts<T> {
         self.set_closed(&mut seat.at, core)
     }
 
-    /// Opens a core. Returns the core's occupancy word (a bit for each occupied thread slot) as it was before the call.
+    /// Opens a core again. Returns its old occupancy word (a bit for each occupied slot).
     pub fn open_core(&self, seat: &mut WordSeat<T>, core: u8) -> u64
         requires own { seat.old.table ≡ self.now.table }
         requires core { core < self.now.shape.cores }
@@ -56,7 +55,7 @@ impl<T: Tagged + Drop> WordContexts<T> {
         self.clear_closed(&mut seat.at, core)
     }
 
-    /// Returns whether a core is closed and none of its thread slots is occupied.
+    /// Returns true if a core is closed and none of its thread slots is occupied.
     pub fn is_drained(&self, seat: &mut WordSeat<T>, core: u8) -> bool
         requires own { seat.old.table ≡ self.now.table }
         requires core { core < self.now.shape.cores }

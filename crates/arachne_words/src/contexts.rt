@@ -1,7 +1,6 @@
-//! Implements the trait of context tables for the table on atomic words.
+//! Implements the traits of context tables for the table on atomic words.
 //!
-//! Each method of the trait calls the inherent method of the same name. No call waits, and only `new` and `close` take
-//! memory. The contract of a method has the clauses of the inherent method besides those of the trait.
+//! Each method calls the inherent method of the same name. No call waits, and only `new` and `close` allocate memory.
 ghost use Rattle.std.specs.Prelude.{◌≡◌, ◌≢◌, ◌*◌, ◌-◌, ◌<◌, ◌≤◌, ◌↔◌, ◌^◌, IfOk, IfErr, IsOk, IsTrue, bit_and, bit_or, length};
 ghost use Rattle.arachne_core.specs.declared.layout.TheConstants.{CORE_BITS, CORES, LAST_GENERATION, SLOTS};
 ghost use Rattle.arachne_core.specs.Occupancy.{IsOccupancyWord};

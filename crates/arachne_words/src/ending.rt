@@ -15,7 +15,6 @@ use arachne_contexts::Tagged;
 use arachne_core::{GENERATION_BITS, ThreadId};
 use std::alloc::Global;
 
-/// Returns the generation in a mark word (a context's atomic word).
 fn generation_in(word: u64) -> u64
     ensures { result ≡ (marked_of CORE_BITS word).generation }
 {
@@ -23,8 +22,7 @@ fn generation_in(word: u64) -> u64
 }
 
 impl<T: Tagged + Drop> WordContexts<T> {
-    /// Closes the table. Returns the threads that came into the table and have not ended, in the order of their
-    /// contexts (the records of user threads).
+    /// Closes the table. Returns the threads that have not ended, in the order of their contexts' numbers.
     ///
     /// If memory for the list is refused, returns the table and the seat as an error.
     pub fn close(

@@ -13,8 +13,6 @@ use arachne_contexts::{Held, Tagged};
 use arachne_core::{Mark, MarkWord};
 
 impl<T: Tagged + Drop> WordContexts<T> {
-    /// Ends a thread whose context (the record of a user thread) can have another one. The seat then has a claim of the
-    /// thread's slot on the core.
     fn retire(&self, seat: &mut CallSeat<T>, hold: &WordHold)
         requires own { seat.old.table ≡ self.now.table }
         requires thread { (tag : ℕ) × HasThread self.now seat.old.known hold.now tag }
@@ -27,7 +25,7 @@ impl<T: Tagged + Drop> WordContexts<T> {
         shared.swap::<Retire>(&mut seat.seat, hold.id.context as usize, free.word());
     }
 
-    /// Ends the thread of a context's last generation: the context (the record of a user thread) is never used again.
+    /// Ends the last thread of a context, which is never used again.
     fn spend(&self, seat: &mut CallSeat<T>, hold: &WordHold)
         requires own { seat.old.table ≡ self.now.table }
         requires thread { (tag : ℕ) × HasThread self.now seat.old.known hold.now tag }
@@ -40,8 +38,6 @@ impl<T: Tagged + Drop> WordContexts<T> {
         shared.swap::<Spend>(&mut seat.seat, hold.id.context as usize, spent.word());
     }
 
-    /// Ends a thread, and frees its slot on the core, unless the thread's context (the record of a user thread) has
-    /// reached its last generation.
     fn end_thread(&self, seat: &mut CallSeat<T>, hold: &WordHold)
         requires own { seat.old.table ≡ self.now.table }
         requires thread { (tag : ℕ) × HasThread self.now seat.old.known hold.now tag }
@@ -57,10 +53,9 @@ impl<T: Tagged + Drop> WordContexts<T> {
         self.release(seat, hold.place, hold.alone);
     }
 
-    /// Ends a thread that the seat holds, and returns its value.
+    /// Ends a thread that the caller holds, and returns the thread's value.
     ///
-    /// The thread's slot on its core is then free, unless the thread's context (the record of a user thread) has
-    /// reached its last generation.
+    /// The thread's slot is then free, unless the thread was the last that its context (thread record) may have.
     pub fn finish(&self, seat: &mut WordSeat<T>, thread: Held<T, WordHold>) -> T
         requires own { seat.old.table ≡ self.now.table }
         requires thread { HasThread self.now seat.old.known thread.hold (T.tag_of thread.value) }

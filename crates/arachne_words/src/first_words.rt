@@ -1,4 +1,4 @@
-//! The initial value of each atomic word of a table, with no thread in it.
+//! The initial values of the atomic words of a table.
 ghost use Rattle.std.specs.Prelude.{◌≡◌, ◌+◌, ◌*◌, ◌<◌, ◌≤◌, ℕ, IfOk, vec_len, slice_index};
 ghost use Rattle.arachne_core.specs.declared.layout.TheConstants.{CORES, LAST_GENERATION, SLOTS};
 ghost use Rattle.arachne_words.specs.FirstWords.{first_word};
@@ -7,8 +7,6 @@ use arachne_core::{Mark, MarkWord, Place};
 use arachne_rule::{BLOCK, NAMES};
 use std::alloc::{AllocError, Global};
 
-/// Returns the initial value of the word `index` in a table of `contexts` contexts (the records of user threads) and of
-/// cores with `slots` places.
 fn word_at(contexts: usize, slots: u8, generation: u64, index: usize) -> u64
     requires slots { slots ≤ SLOTS }
     requires contexts { contexts ≤ CORES * slots }
@@ -28,7 +26,6 @@ fn word_at(contexts: usize, slots: u8, generation: u64, index: usize) -> u64
     (core * usize::from(slots) + (offset - NAMES)) as u64
 }
 
-/// Returns the initial words of a table whose contexts (the records of user threads) are free and have this generation.
 pub(crate) fn first_words(
     alloc: Global,
     cores: u8,

@@ -1,4 +1,5 @@
-//! Moves a thread that no seat holds to another core, into a thread slot that the seat has claimed there.
+//! Moves a ready or blocked thread to another core. A move swaps the slots of two contexts: the moved thread's, and a
+//! free one, which the caller has claimed together with the new slot.
 ghost use Rattle.std.specs.Prelude.{◌≡◌, ◌≢◌, ℕ, ◌<◌, ◌==◌, if◌then◌else◌, true, false, ◌↔◌, IsTrue, IfSome, IfNone, IfOk, IfErr};
 ghost use Rattle.arachne_core.specs.declared.layout.TheConstants.{CORE_BITS};
 ghost use Rattle.arachne_core.specs.Marked.{mark_word};
@@ -21,8 +22,6 @@ use crate::table::WordContexts;
 use arachne_contexts::{Moved, Tagged};
 use arachne_core::{Mark, MarkWord, Place};
 
-/// Returns whether the mark word `seen` (a context's packed state) says that the context (the record of a user thread)
-/// is at `place`.
 fn stands_at(seen: MarkWord, place: Place) -> bool
     ensures { IsTrue result ↔ (seen.place ≡ place) }
 {
@@ -30,10 +29,7 @@ fn stands_at(seen: MarkWord, place: Place) -> bool
     at.core == place.core && at.index == place.index
 }
 
-/// Returns why the thread whose mark word is `seen` can't be moved, or `None` if it can be.
-///
-/// The reasons are that there is no thread, that it has its core for itself, or that a seat (a kernel thread's right to
-/// call the table) holds it.
+/// Returns why a thread with this mark word can't be moved, or `None` if it can.
 fn obstacle(seen: MarkWord) -> Option<Moved>
     ensures some { IfSome result (IsObstacle seen) }
     ensures none { IfNone result (IsRestMark seen.mark × (seen.alone ≡ false)) }
@@ -47,8 +43,7 @@ fn obstacle(seen: MarkWord) -> Option<Moved>
 }
 
 impl<T: Tagged + Drop> WordContexts<T> {
-    /// Tries once to move a thread that no seat holds to the thread slot `target` on another core, which the seat has
-    /// claimed.
+    /// Tries once to move a ready or blocked thread to the slot `target`, which the caller has claimed on another core.
     fn try_move(
         &self,
         seat: &mut CallSeat<T>,
@@ -75,8 +70,8 @@ impl<T: Tagged + Drop> WordContexts<T> {
         Ok(())
     }
 
-    /// Writes the number of a moved context (the record of a user thread) into the word of its new thread slot
-    /// `target`, unless that word isn't `replaced` any more.
+    /// Stores the number of the moved thread's context in the word of slot `target`, in place of the free context's
+    /// number.
     fn name_target(
         &self,
         seat: &mut CallSeat<T>,
@@ -95,8 +90,7 @@ impl<T: Tagged + Drop> WordContexts<T> {
         shared.compare_exchange::<NameTarget>(&mut seat.seat, word, replaced as u64, context as u64)
     }
 
-    /// Writes into the mark word of a free context (the record of a user thread) the thread slot from which the moved
-    /// thread came: the free context is there now.
+    /// Stores the slot that the moved thread has left in the free context's mark word.
     fn replace(&self, seat: &mut CallSeat<T>, context: usize, free: MarkWord)
         requires own { seat.old.table ≡ self.now.table }
         requires claimed { (c : Carried) × IsClaimed self.now seat.old.known c × (context ≡ c.context) × (free ≡ marked_free c) }
@@ -106,8 +100,7 @@ impl<T: Tagged + Drop> WordContexts<T> {
         shared.store::<Replace>(&mut seat.seat, context, free.word());
     }
 
-    /// Writes the number `context` into the word of `source`, the thread slot from which a thread was moved: that
-    /// context (the record of a user thread) is there now.
+    /// Stores the free context's number in the word of the slot that the moved thread has left.
     fn name_source(&self, seat: &mut CallSeat<T>, source: Place, context: usize)
         requires own { seat.old.table ≡ self.now.table }
         requires place { IsPlaceIn self.now.shape source }
@@ -119,8 +112,9 @@ impl<T: Tagged + Drop> WordContexts<T> {
         shared.store::<NameSource>(&mut seat.seat, word, context as u64);
     }
 
-    /// Completes a move whose first step has changed the thread's mark word (the atomic with its state and thread
-    /// slot). Puts the context `replaced`, which was in the slot `target`, into the slot `source`.
+    /// Completes a move after `try_move` has changed the thread's mark word.
+    ///
+    /// Gives the free context `replaced`, which had the slot `target`, the slot `source` that the thread has left.
     fn move_off(
         &self,
         seat: &mut CallSeat<T>,
@@ -143,9 +137,8 @@ impl<T: Tagged + Drop> WordContexts<T> {
         self.release(seat, source, false);
     }
 
-    /// Moves a thread that no seat holds to a place (a thread slot) that the seat has claimed on another core.
-    ///
-    /// If the thread's mark word isn't `seen` any more, does not move the thread, and frees the claimed place again.
+    /// Moves a thread to a slot that the caller has claimed, or frees that slot if the thread's mark word isn't `seen`
+    /// any more.
     fn move_to(
         &self,
         seat: &mut CallSeat<T>,
@@ -181,8 +174,7 @@ impl<T: Tagged + Drop> WordContexts<T> {
         Moved::Moved
     }
 
-    /// Claims a place (a thread slot) on the core `to`, and moves a thread there. The caller must pass as `seen` the
-    /// thread's mark word, as it was read while no seat held the thread.
+    /// `seen` is the thread's mark word, read while no kernel thread ran the thread.
     fn move_seen(
         &self,
         seat: &mut CallSeat<T>,
@@ -214,10 +206,8 @@ impl<T: Tagged + Drop> WordContexts<T> {
         self.move_to(seat, moving, seen, source, target)
     }
 
-    /// Tries once to move the thread at `place` to the lowest free thread slot of the core `to`, if no seat holds the
-    /// thread.
-    ///
-    /// The thread's value stays in its value field: only the place in its mark word changes.
+    /// Tries once to move the thread at `place` to the lowest free slot of the core `to`, unless a kernel thread runs
+    /// the thread. The thread's value isn't copied.
     pub fn move_one(&self, seat: &mut WordSeat<T>, place: Place, to: u8) -> Moved
         requires own { seat.old.table ≡ self.now.table }
         requires place { IsPlaceIn self.now.shape place }

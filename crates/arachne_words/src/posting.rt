@@ -17,8 +17,7 @@ use arachne_contexts::Tagged;
 use arachne_core::{Mark, MarkWord, Place, ThreadId};
 
 impl<T: Tagged + Drop> WordContexts<T> {
-    /// Reads which context (the record of a user thread) is at a place (a thread slot) that the seat has claimed, and
-    /// takes that context's empty value field out of the table. Returns the context's number.
+    /// Takes the empty value field of the context at `place` out of the table, and returns the context's number.
     pub(crate) fn take_slot(&self, seat: &mut CallSeat<T>, place: Place) -> usize
         requires own { seat.old.table ≡ self.now.table }
         requires place { IsPlaceIn self.now.shape place }
@@ -29,7 +28,6 @@ impl<T: Tagged + Drop> WordContexts<T> {
         shared.load::<TakeSlot>(&mut seat.seat, self.name_word(place)) as usize
     }
 
-    /// Stores `value` in the value field that the seat took out of the table last.
     pub(crate) fn lay_in(&self, seat: &mut CallSeat<T>, context: usize, value: T)
         requires own { seat.old.table ≡ self.now.table }
         requires slot { seat.old.slots ≡ (context, None) ∷ rest seat.old.slots }

@@ -27,8 +27,7 @@ impl<T: Tagged + Drop> WordContexts<T> {
         shared.store::<RestReady>(&mut seat.seat, context, ready.word());
     }
 
-    /// Tries once to put a thread that the seat holds back as blocked. If the thread's mark word isn't `held` any more,
-    /// returns that word as an error.
+    /// Tries once to block a thread, and returns its mark word as the error if that isn't `held` any more.
     fn try_rest_blocked(
         &self,
         seat: &mut CallSeat<T>,
@@ -50,7 +49,7 @@ impl<T: Tagged + Drop> WordContexts<T> {
         Ok(())
     }
 
-    /// Stores the value of a thread that the seat holds in the thread's value field, and puts the thread back.
+    /// Stores a thread's value in the table before it puts the thread back.
     fn rest_thread(
         &self,
         seat: &mut CallSeat<T>,
@@ -80,9 +79,8 @@ impl<T: Tagged + Drop> WordContexts<T> {
         Rested::AsAsked
     }
 
-    /// Puts back a thread that the seat holds, as ready or as blocked.
-    ///
-    /// If `rest` is `Blocked`, but the thread was woken since the seat took it, the thread is ready instead.
+    /// Puts back a thread that the caller holds, as ready or as blocked. A thread that was woken while it ran becomes
+    /// ready in any case.
     pub fn put_back(&self, seat: &mut WordSeat<T>, thread: Held<T, WordHold>, rest: Rest) -> Rested
         requires own { seat.old.table ≡ self.now.table }
         requires thread { HasThread self.now seat.old.known thread.hold (T.tag_of thread.value) }

@@ -1,4 +1,4 @@
-//! A kernel thread's right to call the table, its claims of thread slots, and its handles of the threads that it holds.
+//! The values by which a kernel thread calls the table: seats, claims of slots, and handles of threads.
 ghost use Rattle.std.specs.Prelude.{◌≡◌};
 
 use crate::call_seat::CallSeat;
@@ -7,10 +7,9 @@ use arachne_core::{Place, ThreadId};
 use arachne_weights::Weight;
 use std::marker::Model;
 
-/// A seat, through which one kernel thread calls a table. The seat has a part of the table's whole weight.
+/// A seat, which is one kernel thread's right to call a table.
 ///
-/// Contracts refer to the seat's table, its weight, and its record: the seat's unused claims, the threads that it
-/// holds, those that were put into the table or ended through it, and the atomic operations that it has made.
+/// Contracts see the seat's unused claims of slots, the threads that it holds, and the operations that it has made.
 #[derive(Drop)]
 pub struct WordSeat<T> {
     pub(crate) at: CallSeat<T>,

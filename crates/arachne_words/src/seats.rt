@@ -18,11 +18,11 @@ use atomic_table::Table;
 use std::alloc::{AllocError, Global};
 
 impl<T: Tagged + Drop> WordContexts<T> {
-    /// Creates a table, and its first seat (a kernel thread's right to call it), which has the whole weight.
+    /// Creates a table, and its first seat (a kernel thread's right to call). Returns an error if memory is refused.
     ///
-    /// The table has `cores` cores of `slots` thread slots each. All its contexts (the records of user threads) are
-    /// free, in generation `first_generation`. A split halves a seat's weight and a join adds two, so a seat with the
-    /// whole weight is the only one.
+    /// The table has `cores` cores of `slots` thread slots each. All contexts (the records of user threads) are free,
+    /// and begin with `first_generation` as their count of ended threads. Each seat has a *weight*, a part of one
+    /// whole. A split halves the weight. Only a seat into which all others were joined has the whole weight.
     pub fn new(
         alloc: Global,
         cores: u8,
@@ -86,10 +86,8 @@ impl<T: Tagged + Drop> WordContexts<T> {
         self.table.shared.join_seat::<Deal>(&mut seat.seat, spent);
     }
 
-    /// Splits a seat into two, each with half of its weight, rounded up for the first. The first seat keeps the record
-    /// of `seat`.
-    ///
-    /// If the weight is 1 or 0, both seats get weight 0.
+    /// Splits a seat (a right to call) into two, each with half of the weight (its part of one whole), rounded up for
+    /// the first. The first keeps the record (for proofs) of `seat`. If the weight is 1 or 0, both seats get weight 0.
     pub fn split(&self, seat: WordSeat<T>) -> (WordSeat<T>, WordSeat<T>)
         requires own { seat.table ≡ self.now.table }
         requires nothing_out { HasNothingOut seat.known }
@@ -117,10 +115,7 @@ impl<T: Tagged + Drop> WordContexts<T> {
         )
     }
 
-    /// Joins two seats into one, whose record has all threads that were put into the table or ended through either of
-    /// them.
-    ///
-    /// The weight of the result is the sum of both weights, but at most the whole.
+    /// Joins two seats (rights to call) into one, which has the records and the weights (parts of one whole) of both.
     pub fn join_seats(&self, seat: WordSeat<T>, other: WordSeat<T>) -> WordSeat<T>
         requires own { (seat.table ≡ self.now.table) × (other.table ≡ self.now.table) }
         requires nothing_out { HasNothingOut seat.known × HasNothingOut other.known }
@@ -144,15 +139,14 @@ impl<T: Tagged + Drop> WordContexts<T> {
         }
     }
 
-    /// Returns whether `seat` has the whole weight, which means that all other seats were joined into it.
+    /// Returns true if `seat` is the only seat (right to call), because all others were joined into it.
     pub fn is_whole(&self, seat: &WordSeat<T>) -> bool
         ensures { IsTrue result ↔ (seat.now.weight ≡ whole) }
     {
         seat.weight.is_whole()
     }
 
-    /// Returns how many things the seat must still give up: its unused claims of thread slots and the threads that it
-    /// holds.
+    /// Returns the number of the seat's unused claims of slots, plus the number of threads that it holds.
     pub fn out(&self, seat: &WordSeat<T>) -> u32
         ensures { result ≡ length seat.now.known.carried }
     {

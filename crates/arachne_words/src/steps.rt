@@ -1,4 +1,4 @@
-//! The invariant of the table, and the kinds of atomic operation on it. These types exist only for proofs.
+//! Types for proofs only: the invariant of the table, and the kinds of atomic operation on the table.
 use arachne_contexts::Tagged;
 use arachne_rule::{Shape, View};
 use atomic_table::{Join, Play, Split, TableRule};
@@ -199,7 +199,7 @@ impl<T> Play<Option<T>, View> for NameSource {
     ghost then = { λ step before found after. NamesSource step before found after };
 }
 
-/// The operations that split a seat (a kernel thread's right to call the table) into two, and join two seats into one.
+/// The split of a seat into two, and the join of two seats.
 pub(crate) struct Deal;
 
 impl Split<View> for Deal {

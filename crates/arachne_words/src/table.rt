@@ -1,4 +1,4 @@
-//! The table, the indexes of its words, and the calls that read one word.
+//! The table, the indexes of its words, and the calls that read a word.
 ghost use Rattle.std.specs.Prelude.{◌≡◌, ◌+◌, ◌*◌, ◌<◌, true};
 ghost use Rattle.arachne_core.specs.declared.layout.TheConstants.{CORE_BITS};
 ghost use Rattle.arachne_core.specs.Occupancy.{IsOccupancyWord, occupancy_of, occupancy_word};
@@ -20,11 +20,10 @@ use atomic_table::Table;
 use std::alloc::Global;
 use std::marker::Model;
 
-/// A context table on atomic words. Any kernel thread that has a seat (a right to call) may call the table, and no call
-/// waits.
+/// A context table on atomic words. Kernel threads call the table through seats (rights to call), and no call waits.
 ///
-/// A *context* is the record of one user thread, and a *place* one of a core's thread slots. Contracts refer to the
-/// table and to its shape: the numbers of cores and of places, and the first and last generation.
+/// A *context* is the record of one user thread; its generation is the number of threads that have ended there.
+/// Contracts see the table's shape: the numbers of cores and slots, and a context's first and last generation.
 // In methods of this type, the line `let _ = &self.places_per_core;` gives the prover the invariant of this type
 // (`IsSized`), with the table's sizes.
 #[derive(Drop)]
@@ -103,8 +102,8 @@ impl<T: Tagged + Drop> WordContexts<T> {
         shared.load::<LearnName>(&mut seat.seat, self.name_word(place)) as usize
     }
 
-    /// Returns the occupancy word of a core (a bit for each occupied thread slot), read without a seat (a kernel
-    /// thread's right to call the table). The contract promises nothing about the word.
+    /// Returns the occupancy word of a core (a bit for each occupied slot), without a seat (a right to call). The
+    /// contract promises nothing about the word.
     pub fn glance(&self, core: u8) -> u64
         requires core { core < self.now.shape.cores }
     {
@@ -121,7 +120,7 @@ impl<T: Tagged + Drop> WordContexts<T> {
         self.see_core(&mut seat.at, core).word()
     }
 
-    /// Returns the mark word of a context (the record of a user thread): its packed state, thread slot and generation.
+    /// Returns the mark word of a context (record of a thread), which packs the state, the slot and the generation.
     pub fn look_mark(&self, seat: &mut WordSeat<T>, context: u32) -> u64
         requires own { seat.old.table ≡ self.now.table }
         requires context { context < self.now.table.slots }

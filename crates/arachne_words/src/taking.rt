@@ -18,7 +18,6 @@ use crate::table::WordContexts;
 use arachne_contexts::{Held, Tagged, Taken};
 use arachne_core::{Mark, MarkWord, Place, ThreadId};
 
-/// Returns whether the mark word `seen` (a context's packed state) shows a ready thread at `place`.
 fn is_ready_at(seen: MarkWord, place: Place) -> bool
     ensures { IsTrue result ↔ ((seen.mark ≡ Mark.Ready) × (seen.place ≡ place)) }
 {
@@ -44,8 +43,6 @@ impl<T: Tagged + Drop> WordContexts<T> {
         Ok(())
     }
 
-    /// Takes the thread's value out of the value field. That field must be the one that the seat took out of the table
-    /// last.
     fn take_out(&self, seat: &mut CallSeat<T>, context: usize) -> T
         requires own { seat.old.table ≡ self.now.table }
         requires value { (value : T) × HasLast seat.old.slots context (Some value) }
@@ -58,8 +55,9 @@ impl<T: Tagged + Drop> WordContexts<T> {
             .unwrap()
     }
 
-    /// Writes the number of a taken thread's context (the record of a user thread) into the word of the thread's slot
-    /// on its core, and puts the context's value field, now empty, back into the table.
+    /// Writes the number of a taken thread's context into the word of the thread's slot.
+    ///
+    /// This puts the context's empty value field back into the table.
     fn keep_name(&self, seat: &mut CallSeat<T>, context: usize, place: Place)
         requires own { seat.old.table ≡ self.now.table }
         requires place { IsPlaceIn self.now.shape place }
@@ -71,7 +69,7 @@ impl<T: Tagged + Drop> WordContexts<T> {
         shared.store::<KeepName>(&mut seat.seat, word, context as u64);
     }
 
-    /// Tries once to take the thread in slot `index` of `core`, if it is ready. The seat then holds the thread.
+    /// Tries once to take the thread in slot `index` of `core`, if it is ready. The caller then holds the thread.
     pub fn take(&self, seat: &mut WordSeat<T>, core: u8, index: u8) -> Taken<T, WordHold>
         requires own { seat.old.table ≡ self.now.table }
         requires place { IsPlaceIn self.now.shape (record { core = core; index = index }) }

@@ -18,7 +18,6 @@ use arachne_contexts::{Tagged, Woken};
 use arachne_core::{Mark, MarkWord, ThreadId};
 
 impl<T: Tagged + Drop> WordContexts<T> {
-    /// Tries once to make a blocked thread ready.
     fn try_wake(&self, seat: &mut CallSeat<T>, context: usize, seen: MarkWord) -> Result<(), u64>
         requires own { seat.old.table ≡ self.now.table }
         requires context { context < self.now.table.slots }
@@ -36,7 +35,6 @@ impl<T: Tagged + Drop> WordContexts<T> {
         Ok(())
     }
 
-    /// Tries once to mark a thread that a worker holds as woken.
     fn try_mark_woken(
         &self,
         seat: &mut CallSeat<T>,
@@ -59,10 +57,9 @@ impl<T: Tagged + Drop> WordContexts<T> {
         Ok(())
     }
 
-    /// Tries once to wake the thread with this id. The caller may pass any id.
+    /// Tries once to wake the thread with this id. Any id may be passed.
     ///
-    /// A blocked thread becomes ready. A thread that a worker holds is marked, so that it is ready when the worker puts
-    /// it back.
+    /// A blocked thread becomes ready. A running thread is marked, so that it is ready when its worker puts it back.
     pub fn wake(&self, seat: &mut WordSeat<T>, id: ThreadId) -> Woken
         requires own { seat.old.table ≡ self.now.table }
         ensures seat { (seat.new.table ≡ seat.old.table) × (seat.new.weight ≡ seat.old.weight) }

@@ -1,7 +1,4 @@
-//! The trait by which a worker (the kernel thread of a core) uses its context table, and takes, runs and puts back
-//! threads.
-//!
-//! The worker's loop is written over this trait, not over particular tables and jobs.
+//! The trait by which a worker (a core's kernel thread) takes threads from its table, runs them and puts them back.
 ghost use Rattle.std.specs.Prelude.{◌≡◌, ◌≤◌, ℕ, OnOk};
 
 use crate::policy;
@@ -16,12 +13,11 @@ pub struct Halt {
     pub why: u8,
 }
 
-/// A worker's access to its context table, and to the thread that it runs now (the current thread).
+/// A worker's access to its context table, and to the current thread (the one that the worker runs now).
 ///
-/// No call exchanges the worker's seat (its right to use the table) for that of another table. The trait has no
-/// associated types: with the types of a table and a job as parameters, each proof of the loop would take far longer.
+/// In contracts, a desk is its table, so `self.new ≡ self.old` says only that the call doesn't exchange the table.
 pub trait Desk {
-    /// An upper bound of what `quantum` returns, for each thread.
+    /// The most steps that `quantum` returns for any thread.
     ghost largest_quantum: { Self → ℕ } = { λ _. 4294967295 };
 
     /// Makes the thread in slot `place` the current one, if the thread is ready and the worker has no current thread.
@@ -32,119 +28,107 @@ pub trait Desk {
     fn quantum(&self) -> u32
         ensures { result ≤ largest_quantum self.now };
 
-    /// Runs the current thread for at most `left` steps, and carries out what it asks for, such as a fork.
+    /// Runs up to `left` steps of the current thread, subtracts them from `left`, and serves requests such as a fork.
     ///
-    /// Subtracts the number of steps made from `left`. While another kernel thread uses an object that a request needs,
-    /// this call waits by `stand_by` with `pace`: it spins, yields or sleeps.
+    /// Waits, by `stand_by` with `pace`, while another kernel thread uses an object that a request needs.
     fn advance(&mut self, pace: &mut Pace, left: &mut u32) -> Result<ThreadStop, Halt>
         requires { 1 ≤ left.old }
         ensures desk { self.new ≡ self.old }
         ensures left { OnOk result (left.new ≤ left.old) };
 
-    /// Returns whether the current thread has acquired a lock since the worker took it, and has released none since.
+    /// Returns true if the current thread got a lock after the worker began to run it, and released none after that.
     fn holds(&self) -> bool;
 
-    /// Puts the current thread back into its slot, as ready or blocked, depending on why it stopped.
-    ///
-    /// Returns which of the two the thread is: a blocked thread that was woken during this call is ready.
+    /// Puts the current thread back into its slot. Returns `Ready` if it can go on or was woken, otherwise `Blocked`.
     fn rest(&mut self) -> Result<Rest, Halt>
         ensures { self.new ≡ self.old };
 
     /// Ends the current thread, and stores its outcome (its result for its parent). Returns the id of the thread that
-    /// the worker must then wake, if one waits for this outcome.
+    /// waits for the outcome, if any, which the caller must wake.
     ///
-    /// If the core was full before (`before` is its occupancy word at that time), the worker may keep the thread's slot
-    /// for a later child; otherwise the slot becomes free. If the thread was the last one, this call stops all workers.
+    /// If the core was full according to `before` (the core's occupancy word before this call), the worker may keep the
+    /// slot claimed for a thread that is forked later. If no other thread of the run is left, stops all workers.
     fn end(&mut self, before: OccWord) -> Result<Option<ThreadId>, Halt>
         ensures { self.new ≡ self.old };
 
-    /// Returns the number of slots that the worker keeps claimed for later children.
+    /// Returns the number of empty slots that the worker keeps claimed for threads that are forked later.
     fn kept(&self) -> usize;
 
-    /// Frees one of the slots that the worker keeps for later children. Returns false if the worker keeps none.
+    /// Frees one of the slots that `kept` counts. Returns false if there is none.
     fn give_one_back(&mut self) -> Result<bool, Halt>
         ensures { self.new ≡ self.old };
 
-    /// Returns the occupancy word of the worker's core: which slots are occupied, and whether the core is closed, or
-    /// exclusive to one thread.
+    /// Returns the occupancy word of the worker's core: which slots are occupied, and if the core is closed or reserved
+    /// for one thread.
     fn look(&mut self) -> OccWord
         ensures { self.new ≡ self.old };
 
-    /// Reads the mark word of the context with this number: the state, the slot and the generation of its thread.
-    /// Returns `None` if there is no such context.
+    /// Returns a context's mark word (its thread's state, slot and generation), or `None` if there is no such context.
     fn mark_of(&mut self, context: u32) -> Option<MarkWord>
         ensures { self.new ≡ self.old };
 
-    /// Tries once to wake the thread `id`. The attempt may fail because of a concurrent call.
+    /// Tries once to wake the thread `id`. A concurrent call may make the attempt fail.
     fn try_wake(&mut self, id: ThreadId) -> Woken
         ensures { self.new ≡ self.old };
 
-    /// Tries to move the thread in slot `place` of another core to this worker's core. Returns whether the thread was
-    /// moved; always false if the workers of this run may not move threads.
+    /// Tries to move the thread in slot `place` of another core to this worker's core. Returns true if the thread was
+    /// moved. Always returns false in a run that must not move threads.
     fn pull(&mut self, place: Place) -> bool
         ensures { self.new ≡ self.old };
 
-    /// Returns whether this worker's core may now take a thread that waits for a slot.
+    /// Returns true if a child seems to wait for a slot, and this worker's core has one for it.
     fn may_take_ticket(&mut self) -> bool
         ensures { self.new ≡ self.old };
 
-    /// Removes the next ticket (the entry of a waiting thread) from the queue, and puts its thread into a slot, if the
-    /// thread still waits and a slot is free.
+    /// Removes the next ticket (queue entry of a waiting child). Puts that child, if it still waits, into a free slot.
     fn take_ticket(&mut self) -> Result<TicketResult, Halt>
         ensures { self.new ≡ self.old };
 
-    /// If this worker is the one that carries out the orders to open or close cores, carries out those that are due,
-    /// and moves threads away from closed cores.
+    /// Carries out due orders to open or close cores, and moves threads away from closed cores. Only one worker of a
+    /// run does so. On the other workers, this call does nothing.
     ///
-    /// Returns the number of all orders carried out so far, if this call has carried out an order, and the cores to
-    /// which this call has moved threads, one bit for each.
+    /// Returns the number of orders that the run has carried out so far, or `None` if this call has carried out none.
+    /// Also returns a bit mask of the cores to which this call has moved threads.
     fn tend(&mut self) -> (Option<usize>, u64)
         ensures { self.new ≡ self.old };
 
-    /// Returns whether the run has orders to open or close cores. If not, the worker never calls `tend`.
+    /// Returns true if the run has orders to open or close cores. If not, the worker never calls `tend`.
     fn has_orders(&self) -> bool;
 
-    /// Returns whether this worker must not sleep long or park: it has orders left to carry out, or threads wait for a
-    /// slot.
+    /// Returns true if this worker must not sleep long or park: it must open or close cores, or threads wait for slots.
     fn is_waited_for(&self) -> bool;
 
-    /// Returns whether the core is closed and empty. The worker parks only if this call has returned true.
+    /// Returns true if the core is closed and empty. The worker parks only if this call has returned true.
     fn is_drained(&mut self) -> bool
         ensures { self.new ≡ self.old };
 
-    /// Called just before a slice of the current thread begins. `nth` is the number of the worker's slice, counted from
-    /// 0.
-    fn begins(&self, nth: u64);
-
-    /// Called just before or after the worker does what `event` says.
+    /// Reports `event`, just before or just after it happens.
     fn told(&self, event: WorkerEvent);
 }
 
-/// The reason why a call of `Desk::advance` has stopped making steps of the current thread.
+/// The reason why a call of `Desk::advance` has stopped running the current thread.
 #[derive(Clone, Copy)]
 pub enum ThreadStop {
-    /// The thread has more steps to make.
+    /// The thread has more steps to make, as in the next three cases.
     Goes,
-    /// The thread has more steps to make. It has forked a child, which got a slot.
+    /// The thread has forked a child, which got a slot.
     Posted(PostedThread),
-    /// The thread has more steps to make. It has forked a child, which waits for a slot.
+    /// The thread has forked a child, which waits for a slot.
     Spilled,
-    /// The thread has more steps to make. It has released a lock, which the thread of this id holds now. The worker
-    /// should run that other thread before all others.
+    /// The thread has released a lock, which the thread with this id holds now. The worker should run that thread next.
     Wakes(ThreadId),
-    /// The thread waits for the outcome of a child that has not ended.
+    /// The thread waits for the result of a child.
     Blocks,
-    /// The thread waits for the lock of this number.
+    /// The thread waits for the lock with this number.
     Waits(u64),
-    /// The thread has ended.
     Ends,
 }
 
-/// The result of `Desk::take`, an attempt to take the thread in a slot.
+/// The result of an attempt to take the thread in a slot.
 #[derive(Clone, Copy)]
 pub enum Grip {
     Taken,
-    /// No ready thread is in the slot.
+    /// The slot has no ready thread.
     None,
     /// Another worker changed the slot during the attempt, so the caller must try again.
     Lost,
@@ -153,69 +137,64 @@ pub enum Grip {
 /// The result of `Desk::take_ticket`, which gives a slot to a waiting child.
 #[derive(Clone, Copy)]
 pub enum TicketResult {
-    /// No thread waits for a slot.
+    /// No child waits for a slot.
     None,
-    /// A ticket was removed from the queue, but its thread no longer waits, or no slot was free.
+    /// A ticket (queue entry of a waiting child) was removed, but its child no longer waits, or no slot was free.
     Gone,
     Posted(PostedThread),
 }
 
-/// An event that a worker reports through `Desk`, such as that it has woken a thread or is about to park.
+/// An event that a worker reports to `Desk::told`.
 #[derive(Clone, Copy, Debug, PartialEq, Eq)]
 pub enum WorkerEvent {
-    /// A slice has ended. Fields: the number of its steps, and why it ended. A slice that ends by a fault is not
-    /// reported.
+    /// The worker is about to begin a slice of the current thread. The field counts the worker's slices from 0.
+    Begins(u64),
+    /// A slice has ended, with this number of steps, and for this reason. A slice that ends by a fault is not reported.
     Sliced(u32, SliceEnd),
-    /// The worker has woken this blocked thread. The second field is the reason.
+    /// The worker has woken this thread, for this reason.
     Woken(ThreadId, Cause),
-    /// The worker has moved this thread from the core of the second field to its own, to run it there.
+    /// The worker has moved this thread from the core with this number to its own core, to run it there.
     Pulled(ThreadId, u8),
-    /// The worker is about to run this thread, which was granted a lock. The thread stays in its slot on the core of
-    /// the second field.
+    /// The worker will run this thread, which was granted a lock and stays in its slot on the core of this number.
     Helps(ThreadId, u8),
-    /// A child was forked for which no slot was free, and waits for one.
+    /// A child was forked, and waits for a slot because none was free.
     Spilled,
-    /// The worker has removed a ticket (the entry of a child that waits for a slot) from the queue. The field is true
-    /// if that child got a slot on this core; otherwise its parent runs the child, or no slot was free.
+    /// The worker has removed a ticket (queue entry of a waiting child). The field is true if the child got a slot on
+    /// this core. Otherwise the child's parent runs the child, or no slot was free.
     Ticket(bool),
     /// The core is closed and empty, and the worker is about to park.
     Parks,
-    /// The worker was parked, and runs again.
     Unparked,
-    /// The worker's sleep timed out, and then the worker found a ready thread for which nobody had woken the worker. A
-    /// few such events are normal, since workers delay some wakes; many of them mean that a wake is missing.
+    /// The worker's sleep timed out, and it found a ready thread for which nobody had woken it. Some such events are
+    /// normal, since workers delay wakes. Many such events mean that a wake is missing.
     Overslept,
-    /// The worker has carried out an order to open or close a core. The field is the number of all orders carried out
-    /// so far.
+    /// The worker has carried out orders to open or close cores. The field is the number carried out so far.
     Applied(usize),
-    /// The worker has moved threads away from a closed core. The field has a bit for each core to which a thread was
-    /// moved.
+    /// The worker has moved threads away from a closed core, to these cores (one bit each).
     MovedAway(u64),
 }
 
 /// The reason why a slice of a thread has ended.
 #[derive(Clone, Copy, Debug, PartialEq, Eq)]
 pub enum SliceEnd {
-    /// The thread has more steps to make. The slice's steps are used up, or another thread must run.
+    /// The thread has more steps to make, but the slice's steps are used up, or another thread must run.
     GoesOn,
-    /// The thread waits for the outcome of a child.
+    /// The thread waits for the result of a child.
     AwaitsChild,
-    /// The thread waits for the lock of this number.
+    /// The thread waits for the lock with this number.
     Awaits(u64),
-    /// The thread has ended.
     Ended,
 }
 
 /// The reason why a worker wakes a thread.
 #[derive(Clone, Copy, Debug, PartialEq, Eq)]
 pub enum Cause {
-    /// A child for which the thread waited has ended.
     ChildEnded,
-    /// The thread was granted the lock for which it waited. Others may wait for the same lock.
+    /// The thread was granted the lock for which it waited.
     IsServed,
 }
 
-/// Frees all slots that the worker keeps claimed for later children.
+/// Frees all slots that the worker keeps claimed for threads that are forked later.
 pub fn give_all_back<D: Desk>(desk: &mut D) -> Result<(), Halt>
     ensures { desk.new ≡ desk.old }
 {
@@ -227,8 +206,6 @@ pub fn give_all_back<D: Desk>(desk: &mut D) -> Result<(), Halt>
     Ok(())
 }
 
-/// Frees all slots that the worker keeps for later children, if at most an eighth of the core's `slots` slots have a
-/// thread.
 #[inline(always)]
 pub(crate) fn thin_out<D: Desk>(desk: &mut D, slots: u8) -> Result<(), Halt>
     ensures { desk.new ≡ desk.old }

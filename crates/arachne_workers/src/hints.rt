@@ -1,7 +1,4 @@
-//! One atomic word for each core: the slots in which threads may be ready, and whether the core's worker sleeps.
-//!
-//! The module uses only atomics: a call that finds a worker asleep returns that fact, and the caller must wake that
-//! worker.
+//! One atomic word for each core, which says in which slots threads may be ready, and if the core's worker sleeps.
 ghost use Rattle.std.specs.Prelude.{◌≡◌, ◌↔◌, ◌<◌, ◌≤◌, ◌*◌, ◌/◌, ◌%◌, ◌^◌, IfOk, IsSome, IsTrue};
 ghost use Rattle.arachne_core.specs.declared.layout.TheConstants.{SLOTS};
 
@@ -11,13 +8,13 @@ use std::alloc::{AllocError, Global};
 use std::marker::Model;
 use std::sync::atomic::{AtomicU64, Ordering};
 
-/// The bit in a core's word that is set while the core's worker sleeps. A sleeping worker waits on the low 32 bits of
-/// the word (by a futex), so this bit must be one of them.
+/// The bit in a core's word that is set while its worker sleeps.
+///
+/// The worker waits on the low 32 bits of the word (by a futex), so this bit must be one of them.
 pub(crate) const SLEEPS: u64 = 1;
 
 const INDEX_SHIFT: u32 = 1;
 
-/// Returns a word in which only the bit of slot `index` is set, or 0 if no core has such a slot.
 pub(crate) fn bit_of(index: u8) -> u64
     ensures there { index < SLOTS → result ≡ 2 ^ index }
     ensures none { SLOTS ≤ index → result ≡ 0 }
@@ -29,7 +26,6 @@ pub(crate) fn bit_of(index: u8) -> u64
     }
 }
 
-/// Returns a word in which the bits of the slots in `indexes` are set; `indexes` has a bit for each slot.
 #[inline(always)]
 fn hint_of(indexes: u64) -> u64
     ensures { result ≡ indexes * 2 % 2 ^ 64 }
@@ -37,7 +33,6 @@ fn hint_of(indexes: u64) -> u64
     indexes << INDEX_SHIFT
 }
 
-/// Returns the slots whose bits are set in `word`, one bit for each slot.
 #[inline(always)]
 fn indexes_in(word: u64) -> u64
     ensures { result ≡ word / 2 }
@@ -45,7 +40,6 @@ fn indexes_in(word: u64) -> u64
     word >> INDEX_SHIFT
 }
 
-/// Returns whether `word` says that the core's worker sleeps.
 #[inline(always)]
 fn says_sleeps(word: u64) -> bool
     ensures { IsTrue result ↔ (word % 2 ≡ 1) }
@@ -53,17 +47,16 @@ fn says_sleeps(word: u64) -> bool
     word & SLEEPS != 0
 }
 
-/// For each core, a word of hints on a cache line of its own.
+/// A word for each core: a bit for each slot in which a thread may be ready, and a bit for a sleeping worker.
 ///
-/// Each word has a bit for each slot in which a thread may be ready, and one bit that is set while the core's worker
-/// sleeps. A slot's bit is only a hint: the context table decides which threads are ready, and a scan of all occupied
-/// slots also finds ready threads without a bit.
+/// A slot's bit is only a hint: the table decides which threads are ready, and a scan of all occupied slots also finds
+/// ready threads whose bit is not set.
 #[derive(Drop)]
 pub struct Hints {
     words: Vec<CachePadded<AtomicU64>>,
 }
 
-// The model, which contracts see, is the number of cores.
+// In contracts, a value of this type is its number of cores.
 impl Model for Hints {
     ghost use Rattle.std.specs.Prelude.{ℕ, vec_len};
 
@@ -73,7 +66,7 @@ impl Model for Hints {
 }
 
 impl Hints {
-    /// Creates words for `cores` cores, with no bit set: no thread is ready, and no worker sleeps.
+    /// Creates words for `cores` cores. At first no bit is set.
     pub fn new(alloc: Global, cores: u8) -> Result<Hints, AllocError>
         ensures { IfOk result (λ hints. hints ≡ cores) }
     {
@@ -84,24 +77,26 @@ impl Hints {
         Ok(Hints { words })
     }
 
-    /// Returns the number of cores.
     pub fn cores(&self) -> usize
         ensures { result ≡ self.now }
     {
         self.words.len()
     }
 
-    /// Records that the threads in the slots `indexes` of `core` (one bit for each) may be ready. Returns true if the
-    /// core's worker sleeps; then the caller must wake it.
-    pub fn hint(&self, core: u8, indexes: u64) -> bool {
-        match self.word(core) {
-            Some(word) => says_sleeps(word.fetch_or(hint_of(indexes), Ordering::SeqCst)),
-            None => false,
+    /// Records that the threads in the slots `indexes` of `core` (one bit each) may be ready, and wakes the core's
+    /// worker if it sleeps.
+    #[inline(always)]
+    pub fn hint(&self, core: u8, indexes: u64) {
+        if let Some(word) = self.word(core)
+            && says_sleeps(word.fetch_or(hint_of(indexes), Ordering::SeqCst))
+        {
+            self.end_sleep(core);
         }
     }
 
-    /// Returns the slots of `core` that were recorded since the last call, one bit for each, and clears the core's
-    /// word, including the bit for a worker that sleeps.
+    /// Clears the word of `core`, and returns the slots' bits that were set.
+    ///
+    /// Also clears the bit for a sleeping worker.
     pub(crate) fn take(&self, core: u8) -> u64 {
         match self.word(core) {
             Some(word) if word.load(Ordering::SeqCst) != 0 => {
@@ -111,12 +106,12 @@ impl Hints {
         }
     }
 
-    /// Returns whether any bit of the word of `core` is set.
+    /// Returns true if any bit of the word of `core` is set.
     pub fn is_any(&self, core: u8) -> bool {
         self.now(core) != 0
     }
 
-    /// Returns whether the worker of `core` sleeps, or has not called `take` since its sleep timed out.
+    /// Returns true if the worker of `core` sleeps, or has not called `take` since its sleep timed out.
     pub fn is_asleep(&self, core: u8) -> bool {
         says_sleeps(self.now(core))
     }
@@ -128,8 +123,9 @@ impl Hints {
         }
     }
 
-    /// Records that the worker of `core` is about to sleep. Returns false, and records nothing, if any bit of the
-    /// core's word is set.
+    /// Records that the worker of `core` is about to sleep, and returns true.
+    ///
+    /// If a bit of the core's word is set, changes nothing and returns false.
     pub fn is_about_to_sleep(&self, core: u8) -> bool {
         match self.word(core) {
             // One compare-exchange: a hint that is set before keeps the worker awake, and a later caller of `hint` sees
@@ -141,17 +137,16 @@ impl Hints {
         }
     }
 
-    /// Wakes the worker of `core`, if the core exists.
     pub(crate) fn end_sleep(&self, core: u8) {
         if let Some(word) = self.word(core) {
-            // Clears the bit before the wake: a worker that is only about to sleep finds the word changed, and doesn't
+            // Clears the bit first, so that a worker that is only about to sleep finds the word changed, and doesn't
             // sleep.
             word.fetch_and(!SLEEPS, Ordering::SeqCst);
             word.wake_one();
         }
     }
 
-    /// Returns the word of `core`, on whose low 32 bits the core's worker may sleep.
+    /// Returns the word of `core`, on whose low 32 bits the core's worker sleeps, or `None` if there is no such core.
     pub fn word(&self, core: u8) -> Option<&AtomicU64>
         ensures { IsSome result ↔ (core < self.now) }
     {

@@ -1,11 +1,10 @@
 //! A scheduler for the kernel thread of a core, over any table and any kind of threads.
 //!
-//! The *worker* of a core is its kernel thread. It takes a ready thread from one of the core's (at most 56) slots,
-//! called *places*, runs it for one or more *slices* of some steps, and puts it back or ends it; *the current thread*
-//! is the one that it runs now. To *post* a thread is to put it into a free slot, ready to run. A worker *signals*
-//! another core's worker: it sets the bit of a slot in which a thread of that core may be ready, and wakes that worker
-//! if it sleeps. A *round* is one pass of the worker's loop; a *scan* is the part of it that visits the slots in which
-//! a thread may be ready. A *ticket* is an entry in the queue of the children that found no free slot. An *order*
+//! The *worker* of a core is its kernel thread. It takes a ready thread from one of the core's slots (at most 56), runs
+//! it for one or more *slices* (limited numbers of steps), and puts it back or ends it. The *current thread* is the
+//! thread that the worker runs now. A `Place` names a slot by core and index. To *post* a thread is to put it into a
+//! free slot, ready to run. A *round* is one pass of the worker's loop. A *scan* is the part of a round that visits the
+//! slots in which a thread may be ready. A *ticket* is the queue entry of a child that found no free slot. An *order*
 //! closes a core, which then takes no more threads, or opens it again.
 #![tactic(auto)]
 

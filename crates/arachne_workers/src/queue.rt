@@ -1,7 +1,4 @@
-//! A worker's private queue of what to run next, and of delayed wakes.
-//!
-//! It has the slots of the worker's core in which threads may be ready, the thread that must run next, and the threads
-//! put on other cores for which those cores' workers were not woken yet. It is plain data, which no other worker reads.
+//! A worker's private queue: the threads that it runs next, and the wakes of other workers that it has delayed.
 ghost use Rattle.std.specs.Prelude.{◌≡◌, ◌≢◌, ◌≤◌, ◌<◌, ◌↔◌, ◌⊎◌, [], ◌∷◌, ◌++◌, ◌^◌, ◌+◌, ◌-◌, max, min, length, None, Some, if◌then◌else◌, IfSome, IsSome, IsTrue, MatchOption};
 ghost use Rattle.std.specs.Int.RustNames.{bit_or};
 ghost use Rattle.arachne_core.specs.declared.layout.TheConstants.{SLOTS};
@@ -15,7 +12,7 @@ use crate::policy;
 use arachne_core::{Place, SLOTS, ThreadId};
 use std::alloc::Global;
 
-/// A thread that was put into a slot, ready to run: its id and its slot.
+/// A thread that was put into a slot, ready to run.
 #[derive(Clone, Copy)]
 pub struct PostedThread {
     pub id: ThreadId,
@@ -25,29 +22,23 @@ pub struct PostedThread {
 /// The slots of the threads that a worker runs next, and the wakes of other workers that it has delayed.
 #[derive(Drop)]
 pub struct Agenda {
-    /// The slots that the current scan has yet to visit, one bit for each.
+    /// The slots that the current scan must still visit, one bit each.
     scan: u64,
-    /// The slots to visit in the next scan, since a thread there may be ready; one bit for each.
+    /// The slots that the next scan visits because a thread there may be ready, one bit each.
     ready: u64,
     /// The slot, perhaps on another core, whose thread runs before all others.
     next: Option<Place>,
-    /// The threads put on other cores for which this worker has delayed the wakes of those cores' workers, the newest
-    /// last.
+    /// The threads put on other cores whose workers were not woken yet, the newest last.
     posts: Vec<PostedThread>,
-    /// The number of steps after which the worker must make all wakes for `posts`.
+    /// The number of steps after which this worker must make all delayed wakes.
     patience: u32,
-    /// The number of threads that the worker has put on other cores so far.
     posted: u32,
-    /// The number of scans that have begun since the last scan of all occupied slots.
     scans: u32,
-    /// The number of steps that the worker's threads have made since the worker last read the stop word, and since it
-    /// last carried out orders.
     pub(crate) lag: Lag,
 }
 
 impl Agenda {
-    /// Creates an agenda in which only slot `root`, that of the root thread, is to be visited; with `None`, no slot.
-    /// Allocates no memory.
+    /// Creates an agenda whose first scan visits only slot `root` (the root thread's), or no slot. Allocates nothing.
     pub fn new(alloc: Global, root: Option<u8>) -> Agenda
         ensures root { IfSome root (λ index. index < SLOTS → result.ready ≡ 2 ^ index) }
         ensures rootless { root ≡ None → result.ready ≡ 0 }
@@ -78,7 +69,6 @@ impl Agenda {
         self.ready |= bit_of(index);
     }
 
-    /// Begins a scan of the slots in `indexes` (one bit for each) and of those that `note` has recorded.
     pub(crate) fn begin_scan(&mut self, indexes: u64)
         ensures begun { (self.new.scan ≡ bit_or self.old.ready indexes) × (self.new.ready ≡ 0) }
         ensures counted { self.new.scans ≡ min (self.old.scans + 1) u32.MAX }
@@ -89,7 +79,7 @@ impl Agenda {
         self.scans = self.scans.saturating_add(1);
     }
 
-    /// Returns whether the next scan must visit all occupied slots. If so, restarts the count of scans.
+    /// Returns true, and restarts the count of scans, if the next scan must visit all occupied slots.
     pub(crate) fn is_look_due(&mut self) -> bool
         ensures due { IsTrue result ↔ SCANS_BETWEEN_LOOKS ≤ self.old.scans }
         ensures counted { self.new ≡ record self.old { scans = if result then 0 else self.old.scans } }
@@ -101,7 +91,6 @@ impl Agenda {
         is_due
     }
 
-    /// Returns the lowest slot that the current scan has yet to visit, and counts it as visited.
     pub(crate) fn next_index(&mut self) -> Option<u8>
         ensures lowest { MatchOption result (self.old.scan ≡ 0) (λ index. IsLowest self.old.scan index) }
         ensures fewer { MatchOption result (self.new.scan ≡ 0) (λ _. self.new.scan < self.old.scan) }
@@ -115,15 +104,13 @@ impl Agenda {
         Some(index)
     }
 
-    /// Returns whether, as far as this worker knows, a thread other than the current one may be ready.
     pub(crate) fn is_any(&self) -> bool
         ensures { IsTrue result ↔ (bit_or self.now.scan self.now.ready ≢ 0) ⊎ IsSome self.now.next }
     {
         self.scan | self.ready != 0 || self.next.is_some()
     }
 
-    /// Lets the thread in slot `place` run before all others, unless another thread already must. Returns whether it
-    /// has done so.
+    /// Makes the thread in slot `place` run before all others, or returns false if another must already run first.
     pub(crate) fn goes_next(&mut self, place: Place) -> bool
         ensures will { IsTrue result ↔ (self.old.next ≡ None) }
         ensures next { self.new ≡ record self.old { next = if result then Some place else self.old.next } }
@@ -135,14 +122,12 @@ impl Agenda {
         true
     }
 
-    /// Returns whether there is a thread that must run before all others.
     pub(crate) fn has_next(&self) -> bool
         ensures { IsTrue result ↔ IsSome self.now.next }
     {
         self.next.is_some()
     }
 
-    /// Removes and returns the slot of the thread that must run before all others.
     pub(crate) fn take_next(&mut self) -> Option<Place>
         ensures taken { MatchOption result (self.old.next ≡ None) (λ place. self.old.next ≡ Some place) }
         ensures others { self.new ≡ record self.old { next = None } }
@@ -150,10 +135,10 @@ impl Agenda {
         self.next.take()
     }
 
-    /// Delays the wake of the worker of another core, on which the thread `post` was put.
+    /// Delays the wake of another core's worker for the thread `post`, unless it is one of the worker's first posts.
     ///
-    /// If a worker must be woken now, returns the thread for which: `post`, or the oldest thread whose wake was
-    /// delayed.
+    /// Returns the thread for which a worker must be woken now: `post` if it isn't delayed, the oldest delayed one if
+    /// there are too many, else `None`.
     pub(crate) fn keep_back(&mut self, post: PostedThread) -> Option<PostedThread>
         ensures kept { IsKeptBack self.old.posted self.old.posts.items post result self.new.posts.items }
         ensures few { length self.old.posts.items ≤ MOST_KEPT_BACK → length self.new.posts.items ≤ MOST_KEPT_BACK }
@@ -172,7 +157,6 @@ impl Agenda {
         None
     }
 
-    /// Returns the newest thread for which a wake was delayed, and removes it: the wake is no longer pending.
     pub(crate) fn take_newest(&mut self) -> Option<PostedThread>
         ensures newest { MatchOption result ((self.old.posts.items ≡ []) × (self.new.posts.items ≡ [])) (λ newest. self.old.posts.items ≡ self.new.posts.items ++ newest ∷ []) }
         ensures others { self.new ≡ record self.old { posts = self.new.posts } }
@@ -180,7 +164,7 @@ impl Agenda {
         self.posts.pop()
     }
 
-    /// Called when a slice begins. If no wake is delayed, the next one may be delayed for the full number of steps.
+    /// Lets wakes be delayed for `PATIENCE` more steps, if none is delayed when a slice begins.
     pub(crate) fn begin_slice(&mut self)
         ensures empty { self.old.posts.items ≡ [] → self.new ≡ record self.old { patience = PATIENCE } }
         ensures kept_back { self.old.posts.items ≢ [] → self.new ≡ self.old }
@@ -191,7 +175,6 @@ impl Agenda {
         }
     }
 
-    /// Returns how many of the `left` steps of a slice the thread may make until the delayed wakes must be made.
     #[inline(always)]
     pub(crate) fn stretch(&self, left: u32) -> u32
         ensures { result ≡ min left (max 1 self.now.patience) }
@@ -199,8 +182,7 @@ impl Agenda {
         left.min(self.patience.max(1))
     }
 
-    /// Subtracts `steps` steps from the time for which wakes may be delayed. Returns whether the caller must make all
-    /// delayed wakes now.
+    /// Returns true if `steps` more steps make all delayed wakes due.
     pub(crate) fn spend(&mut self, steps: u32) -> bool
         ensures due { IsTrue result ↔ self.old.patience ≤ steps }
         ensures left { self.new ≡ record self.old { patience = if result then PATIENCE else self.old.patience - steps } }
@@ -215,7 +197,6 @@ impl Agenda {
     }
 }
 
-/// Appends `post` to `posts`, the threads whose wakes are delayed; then removes and returns the oldest one.
 fn for_oldest(posts: &mut Vec<PostedThread>, post: PostedThread) -> PostedThread
     ensures all { result ∷ posts.new.items ≡ posts.old.items ++ post ∷ [] }
     ensures many { length posts.new.items ≡ length posts.old.items }

@@ -12,18 +12,17 @@ use std::sync::Wait;
 use std::sync::atomic::{AtomicU64, Ordering};
 use std::time::Duration;
 
-/// The state that all workers share: a word that stops them, the hints (on whose words workers sleep), the counts of
-/// ended slices, and the parkers.
+/// The words that all workers share: one that stops them, the hints of ready threads (on which workers sleep), the
+/// counts of ended slices, and the parkers by which the kernel threads of closed cores sleep.
 #[derive(Drop)]
 pub struct SharedWords {
-    /// 1 after a call of `stop`: all workers must stop. Otherwise 0.
     stop: AtomicU64,
-    hints: Hints,
+    pub(crate) hints: Hints,
     slices: SliceCounts,
     parking: Parking,
 }
 
-// The model, which contracts see, is the number of cores.
+// In contracts, a value of this type is its number of cores.
 impl Model for SharedWords {
     ghost use Rattle.std.specs.Prelude.{◌≡◌, ℕ};
     ghost use Rattle.arachne_arbiter.specs.KernelThreads.{counted_cores, parked_cores};
@@ -48,28 +47,27 @@ impl SharedWords {
         })
     }
 
-    /// Returns the hints: the words that say in which slots threads may be ready, and which workers sleep.
     pub fn hints(&self) -> &Hints
         ensures { result.now ≡ self.now }
     {
         &self.hints
     }
 
-    /// Returns the parkers, on which the kernel threads of closed cores wait.
     pub fn parking(&self) -> &Parking
         ensures { parked_cores result.now ≡ self.now }
     {
         &self.parking
     }
 
-    /// Returns the counts of ended slices, one for each core.
     pub fn slices(&self) -> &SliceCounts
         ensures { counted_cores result.now ≡ self.now }
     {
         &self.slices
     }
 
-    /// Adds 1 to the number of slices that have ended on `core`. Only that core's own kernel thread may call this.
+    /// Counts a slice that has ended on `core`.
+    ///
+    /// Only that core's own kernel thread may call this.
     #[inline(always)]
     pub(crate) fn count_slice(&self, core: u8) {
         if usize::from(core) < self.hints.cores() {
@@ -77,27 +75,17 @@ impl SharedWords {
         }
     }
 
-    /// Records that the thread in slot `place` may be ready. Wakes the core's worker if it sleeps.
+    /// Records that the thread in slot `place` may be ready, and wakes the core's worker if it sleeps.
     pub fn hint(&self, place: Place) {
-        self.hint_indexes(place.core, bit_of(place.index));
+        self.hints.hint(place.core, bit_of(place.index));
     }
 
-    /// Records that in each core in `cores` (one bit for each) the thread in any slot may be ready, and wakes the
-    /// workers of these cores that sleep.
+    /// Records that the threads of `cores` (one bit each) may be ready, and wakes these cores' workers that sleep.
     pub fn hint_cores(&self, cores: u64) {
         for core in 0..CORES {
             if has_core(cores, core) {
-                self.hint_indexes(core, FULL_MASK);
+                self.hints.hint(core, FULL_MASK);
             }
-        }
-    }
-
-    /// Records that the threads in the slots `indexes` of `core` (one bit for each) may be ready. Wakes the core's
-    /// worker if it sleeps.
-    #[inline(always)]
-    fn hint_indexes(&self, core: u8, indexes: u64) {
-        if self.hints.hint(core, indexes) {
-            self.hints.end_sleep(core);
         }
     }
 
@@ -111,7 +99,6 @@ impl SharedWords {
         self.parking.unpark_all();
     }
 
-    /// Returns whether all workers must stop.
     #[inline(always)]
     pub fn is_stopped(&self) -> bool {
         self.stop.load(Ordering::SeqCst) != 0
@@ -124,8 +111,8 @@ impl SharedWords {
         }
     }
 
-    /// Sleeps until a thread of `core` may be ready, all workers must stop, or `spell` has passed. Only that core's
-    /// kernel thread may call this.
+    /// Sleeps until a thread of `core` may be ready, `stop` is called or `spell` is over. Only that core's worker may
+    /// call this.
     pub(crate) fn sleep<H: Wait>(&self, rt: &H, core: u8, spell: Duration) {
         // The stop word is read last: a thread that sets it later sees that this worker sleeps, and wakes it.
         if !self.hints.is_about_to_sleep(core) || self.is_stopped() {
@@ -137,7 +124,6 @@ impl SharedWords {
     }
 }
 
-/// Returns whether the core's bit is set in `cores`, which has a bit for each core.
 #[inline(always)]
 fn has_core(cores: u64, core: u8) -> bool
     requires { core < 64 }

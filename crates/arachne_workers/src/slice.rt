@@ -1,4 +1,4 @@
-//! Runs a thread that the worker has taken: one slice after another, until the worker puts the thread back or ends it.
+//! Runs a thread that the worker has taken, slice after slice, until the worker puts the thread back or ends it.
 ghost use Rattle.std.specs.Prelude.{◌≡◌, ◌≤◌, ◌<◌, ◌+◌, true, min, IfOk, IsTrue};
 ghost use Rattle.arachne_workers.specs.Agendas.{HasLooked, LooksWithin};
 
@@ -11,29 +11,10 @@ use std::sync::Wait;
 use std::time::Clock;
 
 impl<'a, H: Wait + Clock, D: Desk> CoreWorker<'a, H, D> {
-    /// Runs the thread that the worker has just taken from slot `place` for one slice, and for further ones while the
-    /// thread holds a lock or no other thread is ready. Then puts the thread back or ends it. Returns whether the
-    /// thread was put back as blocked.
+    /// Runs the thread in slot `place` for a slice, and for more while it holds a lock or no other thread is ready.
+    ///
+    /// Then puts the thread back, or ends it and wakes its parent. Returns true if the thread was put back as blocked.
     pub(crate) fn turn(&mut self, place: Place) -> Result<bool, Halt>
-        requires { HasLooked self.old.agenda }
-        ensures desk { self.new.desk ≡ self.old.desk }
-        ensures scan { self.new.agenda.scan ≡ self.old.agenda.scan }
-        ensures heeds { LooksWithin (D.largest_quantum self.old.desk) self.old.agenda self.new.agenda }
-    {
-        let end = self.slices()?;
-        if end == SliceEnd::Ended {
-            self.end()?;
-            return Ok(false);
-        }
-        let rest = self.desk.rest()?;
-        if rest == Rest::Ready {
-            self.note(place);
-        }
-        Ok(rest == Rest::Blocked)
-    }
-
-    /// Runs one or more slices of the thread that the worker has taken. Returns how the last slice ended.
-    fn slices(&mut self) -> Result<SliceEnd, Halt>
         requires { HasLooked self.old.agenda }
         ensures desk { self.new.desk ≡ self.old.desk }
         ensures scan { self.new.agenda.scan ≡ self.old.agenda.scan }
@@ -41,7 +22,7 @@ impl<'a, H: Wait + Clock, D: Desk> CoreWorker<'a, H, D> {
     {
         let quantum = self.desk.quantum();
         self.agenda.lag.allow(quantum);
-        // The number of further steps that the thread may make in a row because it holds a lock.
+        // The steps that the thread may still make in a row because it holds a lock.
         let mut grace = policy::STEPS_TO_FREE;
         let mut end = self.slice(quantum)?;
         for _ in 1..policy::MOST_ALONE {
@@ -51,17 +32,30 @@ impl<'a, H: Wait + Clock, D: Desk> CoreWorker<'a, H, D> {
             }
             let steps = policy::most_steps(quantum, holds, grace);
             grace = policy::grace_left(holds, grace, steps);
-            // Called before each slice, since an order may have become due since the last slice ended.
+            // Before each slice, since an order may have become due since the last slice ended.
             self.tend();
             end = self.slice(steps)?;
         }
-        Ok(end)
+        if end == SliceEnd::Ended {
+            // Read while the thread still has its slot: if the core is full with it, the worker keeps the slot for a
+            // later child.
+            let before = self.desk.look();
+            if let Some(parent) = self.desk.end(before)? {
+                self.wake(parent, Cause::ChildEnded);
+            }
+            thin_out(&mut self.desk, self.slots)?;
+            return Ok(false);
+        }
+        let rest = self.desk.rest()?;
+        if rest == Rest::Ready {
+            self.note(place);
+        }
+        Ok(rest == Rest::Blocked)
     }
 
-    /// Returns whether the current thread gets another slice at once.
+    /// Returns true if the current thread gets another slice at once.
     ///
-    /// It does if the core is open, the workers need not stop, and either the thread holds a lock (`holds`) and has
-    /// some of its `grace` left, or nothing else is ready on this core and no waiting child can get a slot here.
+    /// None does after `stop`. A thread that `holds` a lock goes on while it has some `grace` (extra steps) left.
     fn goes_on(&mut self, holds: bool, grace: u32) -> bool
         ensures desk { self.new.desk ≡ self.old.desk }
         ensures same { (self.new.agenda ≡ record self.old.agenda { lag = self.new.agenda.lag }) × (self.new.slices ≡ self.old.slices) }
@@ -80,8 +74,7 @@ impl<'a, H: Wait + Clock, D: Desk> CoreWorker<'a, H, D> {
         policy::may_go_on(self.desk.look(), holds, others, takes_ticket)
     }
 
-    /// Runs the thread that the worker has taken for one slice of at most `most` steps, and reports the slice. Returns
-    /// how the slice ended.
+    /// Runs and reports one slice of at most `most` steps of the current thread, and returns why it ended.
     fn slice(&mut self, most: u32) -> Result<SliceEnd, Halt>
         requires looked { HasLooked self.old.agenda }
         requires most { most ≤ self.old.agenda.lag.most }
@@ -91,16 +84,16 @@ impl<'a, H: Wait + Clock, D: Desk> CoreWorker<'a, H, D> {
     {
         let nth = self.slices;
         self.slices = nth.saturating_add(1);
-        self.desk.begins(nth);
+        self.desk.told(WorkerEvent::Begins(nth));
         let (made, end) = self.spend(most)?;
         self.desk.told(WorkerEvent::Sliced(made, end));
-        // Counts the slice after reporting it: so the report of an order that is due by this count comes later.
+        // Counts the slice after reporting it, so that an order that is due by this count is reported later.
         self.shared.count_slice(self.core);
         Ok(end)
     }
 
-    /// Runs at most `most` steps of the thread that the worker has taken. Returns their number, and how the slice ends.
-    /// If all steps are used up, or the time for which wakes of other workers may be delayed, makes all delayed wakes.
+    /// Runs at most `most` steps of the current thread, and makes the delayed wakes of other workers when they are due.
+    /// Returns the number of steps made, and how the slice ends.
     fn spend(&mut self, most: u32) -> Result<(u32, SliceEnd), Halt>
         requires looked { HasLooked self.old.agenda }
         requires most { most ≤ self.old.agenda.lag.most }
@@ -123,8 +116,8 @@ impl<'a, H: Wait + Clock, D: Desk> CoreWorker<'a, H, D> {
             left -= steps;
             made += steps;
             self.agenda.lag.add(steps);
-            // Counts the steps before handling `stop`: if they have put a child into a slot, the wake for it is delayed
-            // for its full time.
+            // Counts the steps before handling `stop`, so that a wake for a child posted just now is delayed for its
+            // full time.
             if self.agenda.spend(steps) {
                 tell_all(&mut self.agenda, self.shared);
             }
@@ -145,19 +138,5 @@ impl<'a, H: Wait + Clock, D: Desk> CoreWorker<'a, H, D> {
         }
         tell_all(&mut self.agenda, self.shared);
         Ok((made, SliceEnd::GoesOn))
-    }
-
-    /// Ends the thread that the worker has taken, and wakes its parent if the parent waits for it.
-    fn end(&mut self) -> Result<(), Halt>
-        ensures desk { self.new.desk ≡ self.old.desk }
-        ensures others { (self.new.slices ≡ self.old.slices) × (self.new.agenda.scan ≡ self.old.agenda.scan) × (self.new.agenda.posts ≡ self.old.agenda.posts) × (self.new.agenda.lag ≡ self.old.agenda.lag) }
-    {
-        // Read while the thread still has its slot: if the core is full with it, the worker keeps the slot for a later
-        // child.
-        let before = self.desk.look();
-        if let Some(parent) = self.desk.end(before)? {
-            self.wake(parent, Cause::ChildEnded);
-        }
-        thin_out(&mut self.desk, self.slots)
     }
 }

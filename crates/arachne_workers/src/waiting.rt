@@ -1,4 +1,4 @@
-//! Spins, yields and short sleeps of a worker, which end without a wake by another worker.
+//! Short waits of a worker, which end without a wake by another worker.
 use crate::hints::Hints;
 use crate::policy;
 use arachne_arbiter::Pace;
@@ -6,10 +6,9 @@ use std::hint::spin_loop;
 use std::thread;
 use std::time::{Clock, Duration};
 
-/// Spins or yields once. The caller must be a worker whose last `round` rounds (passes of its loop) found nothing.
+/// Spins or yields once, after `round` rounds (passes of the worker's loop) that found nothing.
 ///
-/// In the first rounds the worker spins, longer in each, until a thread of `core` may be ready. In later rounds it
-/// yields the processor.
+/// In the first rounds the worker spins, longer in each, until a thread of `core` may be ready.
 pub(crate) fn stay_awake<H: Clock>(rt: &H, pace: &mut Pace, hints: &Hints, core: u8, round: u32) {
     if !policy::spins(round, pace.may_yield()) {
         pace.yield_once(rt);
@@ -23,11 +22,8 @@ pub(crate) fn stay_awake<H: Clock>(rt: &H, pace: &mut Pace, hints: &Hints, core:
     }
 }
 
-/// Waits briefly after `tries` failed attempts to call a lock that another kernel thread is using.
-///
-/// After each of the first attempts the calling thread spins, longer each time. After later ones it yields the
-/// processor if yields return immediately. If yields take long, it sleeps, since the other kernel thread seems to have
-/// lost its processor.
+/// Waits briefly after `tries` failed attempts to use a lock object that another kernel thread is using. After the
+/// first attempts this call spins, longer each time. Later it yields the processor or, if yields take long, sleeps.
 pub fn stand_by<H: Clock>(rt: &H, pace: &mut Pace, tries: u32) {
     if policy::spins(tries, pace.may_yield()) {
         for _ in 0..policy::spins_of(tries) {

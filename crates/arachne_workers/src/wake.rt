@@ -1,4 +1,4 @@
-//! Wakes threads, and wakes the workers of other cores for threads that this worker puts or wakes there.
+//! Wakes threads, and the workers of other cores that have threads to run.
 ghost use Rattle.std.specs.Prelude.{◌≡◌, ◌≢◌, ◌↔◌, ◌≤◌, ◌<◌, ◌+◌, ◌^◌, [], false, length, min, IfSome, IsSome, None, Some};
 ghost use Rattle.std.specs.Int.RustNames.{bit_or};
 ghost use Rattle.arachne_core.specs.declared.layout.TheConstants.{SLOTS};
@@ -16,11 +16,11 @@ use std::sync::Wait;
 use std::time::Clock;
 
 impl<'a, H: Wait + Clock, D: Desk> CoreWorker<'a, H, D> {
-    /// Wakes the thread `id`, if it is blocked, for the reason `cause`.
+    /// Wakes the thread `id`, if it is blocked, because of `cause`.
     ///
-    /// If the thread was granted a lock, this worker may run it next, without moving it from its core, since others may
-    /// wait for the lock. Otherwise, if the worker of the thread's core sleeps, moves the thread to this worker's core,
-    /// since that is cheaper than waking a kernel thread.
+    /// If the thread was granted a lock, this worker may run it next, even in a slot of another core, since other
+    /// threads may wait for the lock. Moves any other thread to this core if the worker of the thread's core sleeps,
+    /// since to move a thread is cheaper than to wake a kernel thread.
     pub(crate) fn wake(&mut self, id: ThreadId, cause: Cause)
         ensures desk { self.new.desk ≡ self.old.desk }
         ensures others { (self.new.agenda ≡ record self.old.agenda { ready = self.new.agenda.ready; next = self.new.agenda.next }) × (self.new.slices ≡ self.old.slices) }
@@ -48,8 +48,8 @@ impl<'a, H: Wait + Clock, D: Desk> CoreWorker<'a, H, D> {
         self.note(place);
     }
 
-    /// Records that the thread in slot `place` may be ready. If the slot is on another core, wakes that core's worker
-    /// if it sleeps.
+    /// Records that the thread in slot `place` may be ready, and wakes the slot's worker if it is another one and
+    /// sleeps.
     pub(crate) fn note(&mut self, place: Place)
         ensures desk { self.new.desk ≡ self.old.desk }
         ensures others { (self.new.agenda ≡ record self.old.agenda { ready = self.new.agenda.ready }) × (self.new.slices ≡ self.old.slices) }
@@ -61,8 +61,7 @@ impl<'a, H: Wait + Clock, D: Desk> CoreWorker<'a, H, D> {
         }
     }
 
-    /// Wakes the thread `id`, and tries again if a concurrent call makes an attempt fail. Returns whether the thread
-    /// was blocked.
+    /// Wakes the thread `id`, and returns true if it was blocked.
     fn try_wake(&mut self, id: ThreadId) -> bool
         ensures desk { self.new.desk ≡ self.old.desk }
         ensures same { (self.new.agenda ≡ self.old.agenda) × (self.new.slices ≡ self.old.slices) }
@@ -75,8 +74,7 @@ impl<'a, H: Wait + Clock, D: Desk> CoreWorker<'a, H, D> {
         unreachable!()
     }
 
-    /// Moves the thread `id` from slot `from` of another core to this worker's core, if workers may move threads.
-    /// Returns the thread's slot after that.
+    /// Returns the thread's slot after an attempt to move it from slot `from` of another core to this one.
     #[inline(always)]
     fn pull(&mut self, id: ThreadId, from: Place) -> Place
         ensures desk { self.new.desk ≡ self.old.desk }
@@ -97,10 +95,9 @@ impl<'a, H: Wait + Clock, D: Desk> CoreWorker<'a, H, D> {
 
     /// Returns the slot of the thread that this worker runs next, if one is known.
     ///
-    /// This is a thread that was granted a lock, perhaps on another core. Otherwise, if `waits` (the thread that ran
-    /// has blocked) and nothing else is ready on this core, it is the newest thread that this worker put on another
-    /// core, whose worker it has not woken yet, and that can be moved here. If such a thread can't be moved, wakes the
-    /// worker of its core.
+    /// A thread that was granted a lock comes first. Without one, and if the last thread has blocked (`waits`) and no
+    /// other may be ready here, moves here the newest thread that this worker has put on another core without waking
+    /// that core's worker. If it can't be moved, wakes that worker, and tries the next newest.
     pub(crate) fn next(&mut self, waits: bool) -> Option<Place>
         ensures desk { self.new.desk ≡ self.old.desk }
         ensures next { IsSome self.old.agenda.next → HasGivenNext result self.old.agenda self.new.agenda }
@@ -115,7 +112,7 @@ impl<'a, H: Wait + Clock, D: Desk> CoreWorker<'a, H, D> {
         }
         for _ in 0..policy::MOST_KEPT_BACK {
             let id = self.agenda.take_newest()?.id;
-            // If another worker has taken the thread in the meantime, no wake is needed.
+            // If another worker has taken the thread, no wake is needed.
             let Some(place) = ready_place(self.desk.mark_of(id.context), id) else {
                 continue;
             };
@@ -129,8 +126,7 @@ impl<'a, H: Wait + Clock, D: Desk> CoreWorker<'a, H, D> {
     }
 }
 
-/// Returns the slot of the thread `id` according to `mark`, the mark word of its context. Returns `None` if the thread
-/// isn't ready, or the generation in `mark` is no longer that of `id`.
+/// Returns the slot of the thread `id`, if `mark` says that it is ready and still in its context.
 #[inline(always)]
 fn ready_place(mark: Option<MarkWord>, id: ThreadId) -> Option<Place>
     ensures there { IsSome result → IsSome mark }
@@ -144,8 +140,8 @@ fn ready_place(mark: Option<MarkWord>, id: ThreadId) -> Option<Place>
     Some(mark.place())
 }
 
-/// Handles `post`, a thread that the worker of `core` has just put into a slot. If the slot is on `core`, records the
-/// slot in `agenda` for the next scan; otherwise wakes the worker of the slot's core, at once or after a delay.
+/// If a thread was posted on `core`, the next scan visits it. Otherwise the worker of its core is woken, at once or
+/// after a delay.
 #[inline(always)]
 pub(crate) fn posted(agenda: &mut Agenda, shared: &SharedWords, core: u8, post: PostedThread)
     ensures others { (agenda.new.scan ≡ agenda.old.scan) × (agenda.new.next ≡ agenda.old.next) × (agenda.new.lag ≡ agenda.old.lag) }
@@ -162,7 +158,6 @@ pub(crate) fn posted(agenda: &mut Agenda, shared: &SharedWords, core: u8, post: 
     }
 }
 
-/// Makes all wakes of other workers that are delayed in `agenda`.
 pub(crate) fn tell_all(agenda: &mut Agenda, shared: &SharedWords)
     ensures others { agenda.new ≡ record agenda.old { posts = agenda.new.posts } }
     ensures all { length agenda.old.posts.items ≤ MOST_KEPT_BACK → agenda.new.posts.items ≡ [] }

@@ -1,4 +1,4 @@
-//! The worker's loop: runs ready threads, carries out orders, waits and parks.
+//! The worker's loop: runs ready threads, opens and closes cores, waits and parks.
 ghost use Rattle.std.specs.Prelude.{◌≡◌, IsOk};
 ghost use Rattle.arachne_workers.specs.Agendas.{LooksWithin};
 
@@ -20,24 +20,23 @@ pub struct CoreWorker<'a, H, D> {
     pub shared: &'a SharedWords,
     pub core: u8,
     pub slots: u8,
-    /// True if the worker may run a thread of another core, without moving the thread, after the thread was granted a
-    /// lock.
+    /// True if the worker is allowed to run a thread that was granted a lock and stays in a slot of another core.
     pub helps: bool,
     pub agenda: Agenda,
     /// The number of slices that this worker has begun.
     pub slices: u64,
-    /// Decides, by how long earlier yields took, whether the worker may yield its processor while it waits.
+    /// Decides if the worker may yield its processor while it waits, by how long earlier yields took.
     pub pace: Pace,
     pub desk: D,
 }
 
 impl<'a, H: Wait + Clock, D: Desk> CoreWorker<'a, H, D> {
-    /// Runs threads until all workers must stop, and then frees the slots that the worker keeps for later children.
+    /// Runs threads until all workers must stop, and then frees the slots that it keeps claimed for later threads.
     pub fn work(&mut self) -> Result<(), Halt>
         ensures desk { self.new.desk ≡ self.old.desk }
         ensures heeds { LooksWithin (D.largest_quantum self.old.desk) self.old.agenda self.new.agenda }
     {
-        // The number of consecutive rounds (passes of this loop) that have found nothing.
+        // The number of rounds (passes of this loop) in a row that have found nothing.
         let mut idle: u32 = 0;
         for _ in self.rt.forever() {
             if self.shared.is_stopped() {
@@ -53,20 +52,27 @@ impl<'a, H: Wait + Clock, D: Desk> CoreWorker<'a, H, D> {
         unreachable!()
     }
 
-    /// Makes one pass of the loop: runs each thread that may be ready, then gives a slot to a child that waits for one.
-    ///
-    /// Returns whether there was anything to do. `idle` is the number of consecutive passes before this one that have
-    /// found nothing.
+    /// Makes one pass of the loop: runs each thread in the slots recorded as maybe ready, then gives a slot to a child
+    /// that waits for one. Returns true if there was anything to do. `idle` is the number of passes in a row before
+    /// this one that have found nothing.
     pub fn round(&mut self, idle: u32) -> Result<bool, Halt>
         ensures desk { self.new.desk ≡ self.old.desk }
         ensures heeds { LooksWithin (D.largest_quantum self.old.desk) self.old.agenda self.new.agenda }
     {
         let sleeps = policy::sleeps(idle, self.pace.may_yield());
         let looks = policy::looks_at_all(idle, sleeps);
-        // Read before `scan`, which clears the bit for a worker that sleeps: if it is still set, the sleep timed out
+        // Read before `take`, which clears the bit for a worker that sleeps: if it is still set, the sleep timed out
         // without a wake.
         let overslept = sleeps && self.shared.hints().is_asleep(self.core);
-        let found = self.scan()? || looks && self.scan_all()?;
+        thin_out(&mut self.desk, self.slots)?;
+        let mut indexes = self.shared.hints().take(self.core);
+        if self.agenda.is_look_due() {
+            indexes |= self.desk.look().mask();
+        }
+        self.agenda.begin_scan(indexes);
+        let ran = self.run_each()?;
+        let took = self.take_ticket()?;
+        let found = ran || took || looks && self.scan_all()?;
         if found {
             self.pace.found();
             if overslept {
@@ -76,9 +82,8 @@ impl<'a, H: Wait + Clock, D: Desk> CoreWorker<'a, H, D> {
         Ok(found)
     }
 
-    /// Carries out the orders that are due to open or close cores, and then spins, yields or sleeps once.
-    ///
-    /// `idle` is the number of consecutive passes of the loop that found nothing, not counting the last one.
+    /// Carries out the orders that are due to open or close cores, and then spins, yields or sleeps once. `idle` is the
+    /// number of passes of the loop in a row that found nothing, not counting the last one.
     pub fn rest_for(&mut self, idle: u32)
         ensures desk { self.new.desk ≡ self.old.desk }
         ensures same { (self.new.agenda ≡ record self.old.agenda { lag = self.new.agenda.lag }) × (self.new.slices ≡ self.old.slices) }
@@ -95,28 +100,9 @@ impl<'a, H: Wait + Clock, D: Desk> CoreWorker<'a, H, D> {
         }
     }
 
-    /// Runs each thread in the slots recorded as maybe ready, then gives a slot to a child that waits for one. Returns
-    /// whether there was a ready thread or a waiting child.
-    fn scan(&mut self) -> Result<bool, Halt>
-        ensures desk { self.new.desk ≡ self.old.desk }
-        ensures ended { IsOk result → self.new.agenda.scan ≡ 0 }
-        ensures heeds { LooksWithin (D.largest_quantum self.old.desk) self.old.agenda self.new.agenda }
-    {
-        thin_out(&mut self.desk, self.slots)?;
-        let mut indexes = self.shared.hints().take(self.core);
-        if self.agenda.is_look_due() {
-            indexes |= self.desk.look().mask();
-        }
-        self.agenda.begin_scan(indexes);
-        let found = self.run_each()?;
-        let took = self.take_ticket()?;
-        Ok(found || took)
-    }
-
-    /// Runs each ready thread of the core, also those whose slots were not recorded.
-    ///
-    /// If none is ready, frees the slots kept for later children, makes all delayed wakes of other workers, and parks
-    /// if the core is closed and empty. Returns whether a thread was ready, or the worker was parked.
+    /// Runs each ready thread of the core, including those in slots not recorded as ready. If there is none, frees the
+    /// slots claimed for later threads, makes all delayed wakes, and parks if the core is closed and empty. Returns
+    /// true if a thread was ready, or the worker was parked.
     fn scan_all(&mut self) -> Result<bool, Halt>
         ensures desk { self.new.desk ≡ self.old.desk }
         ensures ended { IsOk result → self.new.agenda.scan ≡ 0 }
@@ -140,7 +126,9 @@ impl<'a, H: Wait + Clock, D: Desk> CoreWorker<'a, H, D> {
         Ok(true)
     }
 
-    /// Runs each ready thread in the slots of the current scan, in ascending order. Returns whether any was ready.
+    /// Runs each ready thread in the slots of the current scan, and after it those that `Self::next` finds.
+    ///
+    /// Returns true if it has run any.
     fn run_each(&mut self) -> Result<bool, Halt>
         ensures desk { self.new.desk ≡ self.old.desk }
         ensures ended { IsOk result → self.new.agenda.scan ≡ 0 }
@@ -148,53 +136,38 @@ impl<'a, H: Wait + Clock, D: Desk> CoreWorker<'a, H, D> {
     {
         let mut found = false;
         while let Some(index) = self.agenda.next_index() {
-            if self.run_at(index)? {
-                found = true;
-            }
-        }
-        Ok(found)
-    }
-
-    /// Runs the thread in slot `index`, if it is ready, and then, one after another, the threads that `next` returns.
-    /// Returns whether any of them was ready.
-    fn run_at(&mut self, index: u8) -> Result<bool, Halt>
-        ensures desk { self.new.desk ≡ self.old.desk }
-        ensures scan { self.new.agenda.scan ≡ self.old.agenda.scan }
-        ensures heeds { LooksWithin (D.largest_quantum self.old.desk) self.old.agenda self.new.agenda }
-    {
-        let mut place = Place {
-            core: self.core,
-            index,
-        };
-        let mut found = false;
-        for _ in 0..policy::MOST_IN_TURN {
-            if self.agenda.lag.is_stopped(self.shared) {
-                break;
-            }
-            // Called before each slice, since an order may have become due since the last slice ended.
-            self.tend();
-            let mut waits = false;
-            match self.desk.take(place) {
-                Grip::Taken => {
-                    found = true;
-                    waits = self.turn(place)?;
+            let core = self.core;
+            let mut next = Some(Place { core, index });
+            for _ in 0..policy::MOST_IN_TURN {
+                let Some(place) = next else {
+                    break;
+                };
+                if self.agenda.lag.is_stopped(self.shared) {
+                    break;
                 }
-                Grip::None => {}
-                // A ready thread may still be in the slot, so the next scan tries again.
-                Grip::Lost => self.note(place),
+                // Before each slice, since an order may have become due since the last slice ended.
+                self.tend();
+                let mut waits = false;
+                match self.desk.take(place) {
+                    Grip::Taken => {
+                        found = true;
+                        waits = self.turn(place)?;
+                    }
+                    Grip::None => {}
+                    // A ready thread may still be in the slot, so the next scan tries again.
+                    Grip::Lost => self.note(place),
+                }
+                next = self.next(waits);
             }
-            match self.next(waits) {
-                Some(next) => place = next,
-                None => return Ok(found),
+            // The thread in this place has not run yet, so the next scan must visit its slot.
+            if let Some(place) = next {
+                self.note(place);
             }
         }
-        // The thread in `place` has not run yet, so the next scan must visit its slot.
-        self.note(place);
         Ok(found)
     }
 
-    /// Removes a ticket from the queue of waiting children, and gives its child a slot, if the core has a free one.
-    /// Returns whether the queue had a ticket.
+    /// Gives a waiting child a slot, if the core has a free one, and returns true if a ticket was removed.
     fn take_ticket(&mut self) -> Result<bool, Halt>
         ensures desk { self.new.desk ≡ self.old.desk }
         ensures others { (self.new.agenda.scan ≡ self.old.agenda.scan) × (self.new.agenda.next ≡ self.old.agenda.next) × (self.new.agenda.lag ≡ self.old.agenda.lag) × (self.new.slices ≡ self.old.slices) }
@@ -216,7 +189,7 @@ impl<'a, H: Wait + Clock, D: Desk> CoreWorker<'a, H, D> {
         }
     }
 
-    /// Carries out the orders that are due to open or close cores, if this worker is the one that carries them out.
+    /// Carries out the orders that are due to open or close cores, if that is this worker's task.
     #[inline(always)]
     pub fn tend(&mut self)
         ensures desk { self.new.desk ≡ self.old.desk }
@@ -229,7 +202,6 @@ impl<'a, H: Wait + Clock, D: Desk> CoreWorker<'a, H, D> {
         }
     }
 
-    /// Carries out the orders that are due to open or close cores, and wakes the workers that they concern.
     fn apply_orders(&mut self)
         ensures desk { self.new.desk ≡ self.old.desk }
         ensures same { (self.new.agenda ≡ record self.old.agenda { lag = self.new.agenda.lag }) × (self.new.slices ≡ self.old.slices) }
@@ -239,7 +211,7 @@ impl<'a, H: Wait + Clock, D: Desk> CoreWorker<'a, H, D> {
         let (applied, receivers) = self.agenda.lag.tend(&mut self.desk);
         if let Some(count) = applied {
             self.desk.told(WorkerEvent::Applied(count));
-            // The worker of a core that was closed may sleep, and must check whether it can park.
+            // The worker of a core that was closed may sleep, and must check if it can park.
             self.shared.hint_cores(u64::MAX);
         }
         if receivers != 0 {

@@ -1,5 +1,4 @@
-//! An example of the executor `arachne_exec`: jobs that wait for one another, run by two and then by four kernel
-//! threads.
+//! An example of the executor `arachne_exec`: jobs that wait for others, run by two and then by four kernel threads.
 #![tactic(auto)]
 
 mod relay;

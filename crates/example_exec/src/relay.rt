@@ -13,20 +13,20 @@ use std::sync::atomic::{AtomicU64, Ordering};
 use std::thread::Parker;
 use std::time::Clock;
 
-/// A relay of jobs, numbered from 1: each waits for the job before it.
+/// A relay of jobs, numbered from 1. Each job waits for the job before it.
 #[derive(Drop)]
 pub struct Relay {
     executor: Executor,
-    /// The number of kernel threads. Each of them is the worker of one shard, its part of the executor's task table.
+    /// The number of kernel threads, each of which runs the jobs of one shard (a part of the executor's slots).
     team: u8,
-    /// For each job, the name by which the executor knows it, so that it can be woken.
+    /// The name by which the executor knows each job, so that the job can be woken.
     names: Vec<AtomicU64>,
     /// The number of the job that ended last; 0 if none has ended.
     last: AtomicU64,
     parkers: Vec<Parker>,
 }
 
-/// Spawns `jobs` jobs in each shard (one kernel thread's part of the executor's task table), and returns their names.
+/// Spawns `jobs` jobs in each shard (one kernel thread's part of the executor's slots), and returns their names.
 fn spawn_all(
     alloc: Global,
     executor: &Executor,
@@ -51,10 +51,8 @@ fn spawn_all(
 }
 
 impl Relay {
-    /// Creates a relay with `jobs` jobs for each of `team` kernel threads.
-    ///
-    /// Also returns the seat of the first kernel thread (its handle of the executor). Returns an error if memory is
-    /// refused.
+    /// Creates a relay with `jobs` jobs for each of `team` kernel threads, and the first seat (a kernel thread's right
+    /// to call the executor). Returns an error if memory is refused.
     pub fn new(alloc: Global, team: u8, jobs: usize) -> Result<(Relay, ExecSeat), AllocError>
         ensures seat { IfOk result (λ made. IsFree made.0.executor made.1) }
         ensures team { IfOk result (λ made. made.0.team ≡ team) }
@@ -80,9 +78,8 @@ impl Relay {
         self.last.load(Ordering::SeqCst)
     }
 
-    /// Closes the relay, and returns the number of jobs that have not ended.
-    ///
-    /// Returns `None` if another seat (a thread's handle of the executor) is still in use or if memory is refused.
+    /// Closes the relay, and returns the number of jobs that have not ended. Returns `None` if another seat (a kernel
+    /// thread's right to call the executor) is still in use, or if memory is refused.
     pub fn close(self, alloc: Global, seat: ExecSeat) -> Option<usize>
         requires { IsFree self.executor seat }
     {
@@ -120,7 +117,7 @@ impl Relay {
         }
     }
 
-    /// Ends `job` and wakes the next one, if the job before it has ended. Otherwise blocks `job` until it is woken.
+    /// Ends `job` and wakes the next job, if the job before `job` has ended. Otherwise blocks `job` until it is woken.
     fn run<R: Wait>(&self, rt: &R, seat: &mut ExecSeat, job: HeldJob)
         requires own { HasOne self.now.executor job seat.old }
         requires place { job.place < 4096 * self.now.executor.shards }
@@ -189,8 +186,7 @@ impl Team<ExecSeat> for Relay {
         Some(share)
     }
 
-    /// Called if a kernel thread can't be started. Ends the relay early, since the others would wait forever for the
-    /// jobs that this thread should run.
+    /// Ends the relay early if a kernel thread can't be started, since the others would wait for its jobs forever.
     fn fail<R: Wait>(&self, _rt: &R, _fault: TeamFault) {
         self.last.store(self.names.len() as u64, Ordering::SeqCst);
         self.unpark_all();

@@ -34,7 +34,8 @@ fn judge_all(
     Ok(answers)
 }
 
-/// Returns a sample of one second on `cores` cores. `runnable` and `busy` are times in milliseconds.
+/// Returns a sample of one second on `cores` cores. 100 scans saw `runnable` ready threads in all. Cores ran threads
+/// for `busy` milliseconds in all.
 fn sample(cores: u64, runnable: u64, busy: u64) -> Sample {
     Sample {
         cores,

@@ -75,7 +75,7 @@ fn take_turns<R: Wait + Clock>(
 
 /// Closes the lock, which nobody may use any more, and returns its history of requests, grants and releases.
 ///
-/// Returns `None` if another seat (a thread's handle of the lock) is still in use.
+/// Returns `None` if another seat (a thread's right to use the lock) is still in use.
 fn history(lock: SleepLock, seat: LockSeat) -> Option<History>
     requires { IsSeatOf lock seat }
     ensures { IfSome result (λ history. HasOneHolderAtATime history.items) }

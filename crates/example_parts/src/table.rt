@@ -31,7 +31,7 @@ impl Tagged for Parcel {
 
 /// Puts all numbers into the table, each as soon as a slot is free.
 ///
-/// Returns the seat (this thread's handle of the table), or `None` if memory is refused.
+/// Returns the seat (this thread's right to use the table), or `None` if memory is refused.
 fn post<C: Contexts<Parcel>, R: Wait + Clock>(rt: &R, table: &C, seat: C::Seat) -> Option<C::Seat>
     requires seat { C.sits table.now seat × C.idle table.now seat }
     requires core { 0 < C.core_count table.now }
@@ -57,7 +57,7 @@ fn post<C: Contexts<Parcel>, R: Wait + Clock>(rt: &R, table: &C, seat: C::Seat) 
 
 /// Takes numbers out of the table, whenever one is ready, until all have been taken.
 ///
-/// Returns the seat (this thread's handle of the table) and the sum of the numbers, or `None` if memory is refused.
+/// Returns the seat (this thread's right to use the table) and the sum of the numbers, or `None` if memory is refused.
 fn take_all<C: Contexts<Parcel>, R: Wait + Clock>(
     rt: &R,
     table: &C,

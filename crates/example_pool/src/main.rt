@@ -1,5 +1,5 @@
-//! Counts the grains of a heap with a pool on all processors: the job of each heap counts one grain, and forks jobs for
-//! halves of the others.
+//! Counts the grains of a heap with a pool on all processors. A job counts one grain, and forks jobs for the others:
+//! one for half of them, the next for half of those that are left, and so on.
 #![tactic(auto)]
 
 ghost use Rattle.std.specs.Prelude.{◌≡◌, ◌+◌, map, sum};
@@ -7,8 +7,7 @@ ghost use Rattle.std.specs.Prelude.{◌≡◌, ◌+◌, map, sum};
 use anyhow::Result;
 use arachne_pool::{Pool, PoolJob, Step, Tagged};
 
-/// A job that counts the grains of a heap. Fields: the heap's size, the number of grains that it has not given to a
-/// child yet, and the number of grains counted.
+/// A job that counts a heap's grains. Fields: the size, the grains not yet given to a child, and the grains counted.
 #[derive(Drop)]
 struct Heap {
     size: u64,

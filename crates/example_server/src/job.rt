@@ -25,21 +25,19 @@ pub struct Request {
 pub struct Answer {
     pub request: Request,
     pub value: u64,
-    /// The time at which the request's work began, in nanoseconds of the clock. The time at which the work was done is
-    /// in `ended`.
+    /// The time at which the work began, in nanoseconds of the clock. `ended` is the time at which the work was done.
     pub began: u64,
     pub ended: u64,
     ghost right: { value ≡ mixed request.due.work request.number },
     ghost waited: { earliest request ≤ began },
 }
 
-/// The job that answers a request. It has a clock, by which it records when it begins and ends.
+/// The job that answers a request. The job has a clock, by which it records when it begins and ends.
 #[derive(Drop)]
 pub struct Job {
     request: Request,
     clock: HostRuntime,
-    /// The time before which the work of a slow request may not begin; 0 for other requests. The job's `timer` wakes it
-    /// at that time.
+    /// The time before which the work of a slow request may not begin, or 0. The timer wakes the job at this time.
     not_before: u64,
     timer: Option<Arc<Timer>>,
     ghost waits: { not_before ≡ earliest request },
@@ -74,7 +72,7 @@ pub fn now<R: Clock>(clock: &R) -> u64 {
     }
 }
 
-/// Does the work of a request: mixes the bits of `number` in `rounds` rounds, and returns the result.
+/// Does the work of a request: mixes the bits of `number` in `rounds` rounds.
 fn mix(rounds: u32, number: u64) -> u64
     ensures { result ≡ mixed rounds number }
 {

@@ -5,7 +5,7 @@ ghost use Rattle.arachne_policy.specs.Orders.{AreInOrder};
 use arachne_policy::{Advice, CoreOrder, Estimator, OrderKind, Sample};
 use std::alloc::Global;
 
-/// The load above which the server asks for another core, in thousandths of a ready request per scan of one core.
+/// The average number of ready requests in a scan of one core, in thousandths, above which the server asks for a core.
 const UP: u64 = 1500;
 
 /// The hysteresis of the core policy, in thousandths of a core.
@@ -14,8 +14,7 @@ const HYSTERESIS: u64 = 90;
 /// The settings of the server.
 #[derive(Clone, Copy)]
 pub struct Settings {
-    /// The greatest number of cores that the server may hold. It is at most 63, since a pool has 64 cores and one is
-    /// the sender's.
+    /// The greatest number of cores that the server may hold: at most 63, since a 64th core is the sender's.
     pub most: u8,
     /// The length of the interval in which the load is measured once, in nanoseconds.
     pub interval: u64,
@@ -34,19 +33,17 @@ pub struct Judged {
     pub advice: Advice,
 }
 
-/// Measures the load in each interval, and records how many cores the server holds: the first `held` cores.
+/// Measures the load in each interval, and decides how many cores the server holds (the first `held` cores).
 #[derive(Drop)]
 pub struct Keeper {
     estimator: Estimator,
     interval: u64,
     pub most: u8,
     held: u8,
-    /// The time at which this measurement began, in nanoseconds of the clock. The work that was done until then, in
-    /// nanoseconds, is in `busy`.
+    /// The time at which this interval began, in nanoseconds of the clock. `busy` is the time of all work until then.
     begun: u64,
     busy: u64,
-    /// The number of ready jobs that the scans of this measurement have seen. The number of cores that they have
-    /// scanned is in `scans`.
+    /// The number of ready jobs that the scans of this interval have seen. `scans` is the number of cores scanned.
     runnable: u64,
     scans: u64,
     pub judged: Vec<Judged>,
@@ -55,8 +52,7 @@ pub struct Keeper {
 }
 
 impl Keeper {
-    /// Returns a keeper (which decides how many cores the server holds) that has all cores at the time `now`, in
-    /// nanoseconds of the clock.
+    /// Creates a keeper of all cores at the time `now`, in nanoseconds of the clock.
     pub fn new(alloc: Global, settings: Settings, now: u64) -> Keeper
         ensures { result.most ≡ settings.most }
     {
@@ -75,8 +71,8 @@ impl Keeper {
 
     /// Counts a scan of all cores that the server holds, which saw `runnable` ready jobs.
     ///
-    /// If the interval has ended, asks the policy about it and returns the order that follows, if there is one. `busy`
-    /// is the work that was done so far, in nanoseconds.
+    /// If the interval has ended, asks the policy for advice, and returns the order to open or close a core, if one
+    /// follows. `busy` is the time, in nanoseconds, that all work has taken so far.
     pub fn scan(&mut self, now: u64, runnable: u64, busy: u64) -> Option<CoreOrder>
         ensures most { self.new.most ≡ self.old.most }
         ensures order { IfSome result (λ order. AreInOrder (self.old.most + 1) (order ∷ [])) }
@@ -107,7 +103,7 @@ impl Keeper {
         self.follow(advice)
     }
 
-    /// Adds or removes a core if `advice` says so. Returns the order to open or close that core, if there is one.
+    /// Follows the policy's advice. Returns the order to open or close a core, if there is one.
     fn follow(&mut self, advice: Advice) -> Option<CoreOrder>
         ensures most { self.new.most ≡ self.old.most }
         ensures order { IfSome result (λ order. AreInOrder (self.old.most + 1) (order ∷ [])) }

@@ -1,7 +1,7 @@
-//! A server over the pool: it answers a list of requests, and holds as many cores as their load asks for.
+//! A server over the pool, which answers a list of requests, and holds as many cores as the load asks for.
 //!
-//! `example_server < LIST` prints how many requests it has answered; `example_server CORES INTERVAL [PATIENCE] < LIST`
-//! also prints its log. Times are in microseconds.
+//! `example_server < LIST` prints how many requests were answered. `example_server CORES INTERVAL [PATIENCE] < LIST`
+//! also prints a log. Times are in microseconds.
 #![tactic(auto)]
 
 mod job;

@@ -20,8 +20,7 @@ pub fn summary(rt: &impl Print, report: &Report, requests: usize) -> io::Result<
     Ok(())
 }
 
-/// Prints the log: how the policy judged the load, and when each request was sent, began and ended, in nanoseconds from
-/// the server's start.
+/// Prints how the policy judged the load, and when each request was sent, began and ended, in nanoseconds.
 pub fn log(rt: &impl Print, alloc: Global, report: &Report) -> io::Result<()> {
     let mut out = BufWriter::new(alloc, io::writer(rt))?;
     let since_begin = |time: u64| time.saturating_sub(report.begin);

@@ -1,7 +1,7 @@
 //! Parses the list of requests. Each line is a request: the time at which it arrives, its class and its work.
 use std::alloc::{AllocError, Global};
 
-/// The class of a request: whether it wants a core for itself, for example.
+/// The class of a request.
 #[derive(Clone, Copy, Debug, PartialEq, Eq)]
 pub enum Class {
     Normal,
@@ -11,13 +11,13 @@ pub enum Class {
     Slow,
 }
 
-/// A request of the list: the time at which it arrives, its class, and its work.
+/// A request of the list.
 #[derive(Clone, Copy)]
 pub struct Due {
     /// The time at which the request arrives, in nanoseconds since the server began.
     pub at: u64,
     pub class: Class,
-    /// The number of rounds that the request's work has.
+    /// The length of the request's work, in rounds of mixing bits.
     pub work: u32,
 }
 

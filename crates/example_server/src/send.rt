@@ -1,6 +1,6 @@
-//! The *sender*, a kernel thread that reads the list of requests as if they came from a network. At the time of each
-//! request it spawns a job. It also wakes the jobs whose timer has expired, takes the answers, and opens cores or gives
-//! them back.
+//! The *sender*, a kernel thread that reads the list of requests like one from a network, and spawns a job for each.
+//!
+//! The sender also wakes jobs whose timer has expired, takes the answers, and opens or closes cores.
 ghost use Rattle.std.specs.Prelude.{◌≡◌, ◌+◌, ◌<◌, IfOk, IfSome, IsSome, OnSome, Some, if◌then◌else◌, length, slice_get, vec_len};
 ghost use Rattle.std.specs.VecDeque.{deque_len};
 ghost use Rattle.arachne_pool.specs.Workers.{IsWorkerOf};
@@ -16,11 +16,10 @@ use std::collections::VecDeque;
 use std::sync::Wait;
 use std::time::Clock;
 
-/// The time, in nanoseconds, between two checks of the timers and the load. It isn't 0, since these checks take time
-/// from the requests.
+/// The time between two checks of the timers and the load, in nanoseconds.
 const BETWEEN_LOOKS: u64 = 20_000;
 
-/// The report of the server, after it has answered or refused all requests.
+/// The report of the server, after all requests were answered or refused.
 #[derive(Drop)]
 pub struct Report {
     /// The time at which the server began, in nanoseconds of the clock.
@@ -37,8 +36,8 @@ pub struct Report {
 
 /// Answers or refuses all requests of the server's list.
 ///
-/// Refuses a request for which there is no slot after it has waited longer than `Settings::patience`. Returns `None` if
-/// memory is refused, or if the pool is stopped first.
+/// Refuses a request that has waited longer than `Settings::patience` while no slot was free. Returns `None` if memory
+/// is refused, or if the pool is stopped first.
 pub fn send<R: Wait + Clock, C: Contexts<Spawned<Job>>>(
     rt: &R,
     server: &Server<'_, C>,
@@ -122,8 +121,8 @@ fn due_by(requests: &[Due], next: usize, begin: u64, now: u64) -> Option<Request
     })
 }
 
-/// Spawns the job of a request, or refuses the request if no core has a free slot and it has waited longer than
-/// `Settings::patience`. Returns true if it has done either of these, and `None` if memory is refused.
+/// Spawns the job of a request. If no slot is free, refuses a request that has waited longer than `Settings::patience`.
+/// Returns false if the request must go on waiting, and `None` if memory is refused.
 fn settles<R: Wait, C: Contexts<Spawned<Job>>>(
     rt: &R,
     server: &Server<'_, C>,
@@ -174,7 +173,8 @@ fn take_answer(sent: &mut VecDeque<Handle<Job>>, report: &mut Report) -> Option<
     }
 }
 
-/// Measures the load, and gives the pool the order that follows from it. Returns `None` if memory is refused.
+/// Measures the load, and gives the pool the order to open or close a core that follows. Returns `None` if memory is
+/// refused.
 fn keep_cores<R: Wait + Clock, C: Contexts<Spawned<Job>>>(
     rt: &R,
     server: &Server<'_, C>,
@@ -194,8 +194,7 @@ fn keep_cores<R: Wait + Clock, C: Contexts<Spawned<Job>>>(
         let orders = vec![in server.alloc; order].ok()?;
         server.pool.order(rt, worker, orders).ok()?;
     }
-    // One round of the worker of the sender's core, which is closed: it only carries out orders to open and close
-    // cores.
+    // A pass of the worker's loop on the sender's core. The core is closed, so the pass only carries out orders.
     server.pool.turn(rt, worker, keeper.most).ok()?;
     Some(())
 }

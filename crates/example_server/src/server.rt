@@ -15,8 +15,7 @@ use std::alloc::Global;
 use std::sync::{Arc, Wait};
 use std::time::Clock;
 
-/// The server: its data that all kernel threads share. Kernel thread 0 is the sender; kernel thread n runs jobs on core
-/// n - 1.
+/// The data that all kernel threads of the server share. Thread 0 sends requests, and thread n runs core n - 1.
 #[derive(Drop)]
 pub struct Server<'r, C: Seats> {
     pub pool: Pool<C>,
@@ -28,8 +27,7 @@ pub struct Server<'r, C: Seats> {
     ghost cores: { pool.cores ≡ settings.most + 1 },
 }
 
-/// The data that each kernel thread gets at its start and returns at its end: its worker, and, after all requests were
-/// answered, the sender's report.
+/// The data of one kernel thread: its worker, and at the end the sender's report.
 #[derive(Drop)]
 pub struct Share<S> {
     pub worker: Worker<S, Job>,

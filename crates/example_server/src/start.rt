@@ -34,8 +34,8 @@ pub fn run<R: Threads + Wait + Clock + Sync>(
     end(rt, alloc, server.pool, share)
 }
 
-/// Creates the server, and the data that its kernel threads split among them. The server's pool has one core more than
-/// the settings say; it is the sender's, and no job runs there.
+/// Creates the server, and the data that its kernel threads split among them. The pool has one more core than the
+/// settings say, for the sender, and no job runs on it.
 fn begin<C: Contexts<Spawned<Job>> + Drop>(
     alloc: Global,
     requests: &[Due],
@@ -67,7 +67,7 @@ fn begin<C: Contexts<Spawned<Job>> + Drop>(
     Ok((server, share))
 }
 
-/// Closes the pool of a server that has ended. Returns the report, or `None` if a request is left.
+/// Closes the pool of a server that has ended. Returns the report, or `None` if a job is left or memory is refused.
 fn end<C: Contexts<Spawned<Job>> + Drop, R: Wait>(
     rt: &R,
     alloc: Global,

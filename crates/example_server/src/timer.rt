@@ -11,26 +11,26 @@ use std::sync::Wait;
 use std::sync::atomic::AtomicU64;
 use std::sync::atomic::Ordering::SeqCst;
 
-/// The nanoseconds that the slow part of a request takes.
+/// The time that the slow part of a request takes, in nanoseconds.
 pub const SLOW: u64 = 2_000_000;
 
-/// When the timer must wake the job in a context, and which job that is.
+/// The time at which the job in a context (the table's record of a job) must be woken.
 #[derive(Drop)]
 struct Alarm {
     /// The time at which the timer must wake the job, or 0 if no alarm is set.
     at: AtomicU64,
-    /// The generation in the id of the job that is to be woken.
+    /// The generation number in the job's id, which differs for each job of a context.
     generation: AtomicU64,
 }
 
-/// A timer: for each context of the pool's table, the time at which the context's job must be woken.
+/// A timer, with an alarm for each job that the pool's table can have.
 #[derive(Drop)]
 pub struct Timer {
     alarms: Vec<Alarm>,
 }
 
 impl Timer {
-    /// Creates a timer for the jobs in `contexts` contexts. No alarm is set at first.
+    /// Creates a timer without alarms, for the jobs in `contexts` contexts (the table's records of jobs).
     pub fn new(alloc: Global, contexts: u32) -> Result<Timer, AllocError> {
         let mut alarms = Vec::new(alloc);
         for _ in 0..contexts {
@@ -51,20 +51,20 @@ impl Timer {
         }
     }
 
-    /// Returns the number of jobs that sleep until a time.
+    /// Returns the number of jobs that wait for an alarm.
     pub fn sleepers(&self) -> u64 {
         let is_set = |alarm: &&Alarm| alarm.at.load(SeqCst) != 0;
         self.alarms.iter().filter(is_set).count() as u64
     }
 
-    /// Returns the id of the job in this context and takes its alarm back, if the alarm's time has come.
+    /// Returns the id of the job in this context, and clears the job's alarm, if the alarm's time has come.
     fn take_due(&self, context: u32, now: u64) -> Option<ThreadId> {
         let alarm = self.alarms.get(context as usize)?;
         let at = alarm.at.load(SeqCst);
         if at == 0 || now < at {
             return None;
         }
-        // If a later job of the context has set its own alarm meanwhile, that alarm stays.
+        // If a later job of the context has set its own alarm since that load, that alarm stays.
         alarm.at.compare_exchange(at, 0, SeqCst, SeqCst).ok()?;
         Some(ThreadId {
             context,

@@ -16,8 +16,7 @@ pub const API_VERSION: u32 = 1;
 /// The call succeeded.
 pub const DONE: u32 = 0;
 
-/// The call was refused, and has changed nothing: the handle is empty, or is in use although it must be empty, or
-/// this call is not allowed now.
+/// The call was refused, and has changed nothing. The comment of each call lists the possible reasons.
 pub const REFUSED: u32 = 1;
 
 /// The allocator refused memory. Nothing has changed.
@@ -32,10 +31,10 @@ pub const JOIN: u32 = 4;
 /// The message by which a thread gives its core back, if it has one, and waits for another core.
 pub const WAIT: u32 = 5;
 
-/// The message by which a client asks for a number of cores.
+/// The message by which a client asks for a number of cores in all.
 pub const ASK: u32 = 6;
 
-/// The bytes are fewer than a message has.
+/// There are fewer bytes than a message has, which is 16.
 pub const SHORT: u32 = 7;
 
 /// The message is of an unknown kind.
@@ -47,29 +46,30 @@ pub const VERSION: u32 = 9;
 /// The priority is out of range.
 pub const PRIORITY: u32 = 10;
 
-/// The thread's number, `place`, is out of range.
+/// The thread's number within its client, `place`, is greater than 63.
 pub const PLACE: u32 = 11;
 
-/// A field that this kind of message does not use is not 0.
+/// A field that this kind of message does not use is greater than 0.
 pub const UNUSED: u32 = 12;
 
-/// There is nothing to do.
+/// No core was taken or given.
 pub const NOTHING: u32 = 13;
 
-/// The core was taken from the thread: move the thread away from the core.
+/// The core was taken from the thread, which the caller must move away from the core.
 pub const TAKEN: u32 = 14;
 
-/// The core was given to the thread, which floats (never waits for a core): move the thread to the core.
+/// The core was given to a thread that floats (never waits for a core). The caller must move the thread to the
+/// core.
 pub const PLACED: u32 = 15;
 
-/// The core was given to the thread, which waited for one: move the thread to the core, and notify the thread.
+/// The core was given to a thread that waited. The caller must move the thread to the core, and notify the thread.
 pub const GRANTED: u32 = 16;
 
 /// A message from a client. Fields that this kind of message does not use are 0.
 #[repr(C)]
 #[derive(Clone, Copy, Debug, PartialEq, Eq)]
 pub struct ArachneMessage {
-    /// HELLO, JOIN, WAIT or ASK if the bytes begin with such a message; otherwise the code of the fault.
+    /// HELLO, JOIN, WAIT or ASK if the bytes begin with such a message, and otherwise the code of the fault.
     pub code: u32,
     pub priority: u32,
     pub reserved: u32,
@@ -91,18 +91,18 @@ impl ArachneArbiter {
     pub const NULL: ArachneArbiter = ArachneArbiter { opaque: std::ptr::null_mut() };
 }
 
-/// The action that the caller must take on a thread of a client. Fields that this action does not use are 0.
+/// The action that the caller must take on a client's thread. Fields that this action does not use are 0.
 #[repr(C)]
 #[derive(Clone, Copy, Debug, PartialEq, Eq)]
 pub struct ArachneAction {
-    /// TAKEN, PLACED, GRANTED or NOTHING, or REFUSED if the handle is empty.
+    /// TAKEN, PLACED, GRANTED or NOTHING, or REFUSED if the handle has no arbiter.
     pub code: u32,
     pub core: u32,
     pub client: usize,
     pub place: usize,
 }
 
-/// The number of cores that a client may have, and the number that its threads have.
+/// The numbers of a client's cores.
 #[repr(C)]
 #[derive(Clone, Copy, Debug, PartialEq, Eq)]
 pub struct ArachneShare {
@@ -121,91 +121,94 @@ unsafe extern "C" {
     /// Threads: safe beside any call, if nobody writes to `bytes` meanwhile.
     pub fn arachne_message_read(bytes: *const u8, bytes_count: usize) -> ArachneMessage;
 
-    /// Creates an arbiter (a daemon's state) of the cores 0 to `cores` - 1, without clients, in `arbiter`, which
-    /// must be empty.
+    /// Creates an arbiter (the state of a daemon that grants cores) of the cores 0 to `cores` - 1, without clients.
+    /// Puts the arbiter into the handle `arbiter`, which must have none.
     ///
-    /// Returns DONE; REFUSED if the handle is in use, or if `cores` is greater than 1,024; NO_MEMORY if memory is
-    /// refused.
+    /// Returns DONE; REFUSED if the handle already has an arbiter, or if `cores` is greater than 1,024; NO_MEMORY
+    /// if memory is refused.
     ///
     /// Threads: safe beside calls with other handles; two at once with `arbiter` are undefined behaviour.
     pub fn arachne_arbiter_new(arbiter: *mut ArachneArbiter, cores: u32) -> u32;
 
-    /// Frees the arbiter of a handle, if it has one, and leaves the handle empty.
+    /// Empties a handle, and frees its arbiter, if it has one.
     ///
     /// Threads: safe beside calls with other handles; two at once with `arbiter` are undefined behaviour.
     pub fn arachne_arbiter_close(arbiter: *mut ArachneArbiter);
 
-    /// Adds a client (a program) with its priority (0 is the highest), the number of cores that it reserves, and
-    /// the greatest number of cores that it may ask for.
+    /// Adds a client (a program) with its priority, of which 0 is the highest. The client gets `reserved` cores
+    /// before others get more than they have reserved, and may ask for at most `most` cores.
     ///
-    /// Returns DONE, or REFUSED if the handle is empty, or if the client's number `client` is greater than 63 or in
-    /// use. The caller must check that the client is entitled to this priority and these cores.
+    /// Returns DONE, or REFUSED if the handle has no arbiter, or if the client's number `client` is greater than 63
+    /// or in use. The caller must check that the client is entitled to this priority and these cores.
     ///
     /// Threads: safe beside calls with other handles; two at once with `arbiter` are undefined behaviour.
     pub fn arachne_arbiter_hello(arbiter: *mut ArachneArbiter, client: usize, priority: u8, reserved: u32, most: u32) -> u32;
 
-    /// Sets the number of cores for which a client asks.
+    /// Sets the number of cores for which a client asks in all, in place of its last request.
     ///
-    /// Returns DONE, or REFUSED if the handle is empty or there is no such client.
+    /// Returns DONE, or REFUSED if the handle has no arbiter or there is no such client.
     ///
     /// Threads: safe beside calls with other handles; two at once with `arbiter` are undefined behaviour.
     pub fn arachne_arbiter_ask(arbiter: *mut ArachneArbiter, client: usize, cores: u32) -> u32;
 
     /// Removes a client, with all of its threads.
     ///
-    /// Returns DONE, or REFUSED if the handle is empty or the client's number is greater than 63.
+    /// Returns DONE, or REFUSED if the handle has no arbiter or the client's number is greater than 63.
     ///
     /// Threads: safe beside calls with other handles; two at once with `arbiter` are undefined behaviour.
     pub fn arachne_arbiter_leave(arbiter: *mut ArachneArbiter, client: usize) -> u32;
 
-    /// Adds a thread to a client. `place`, the thread's number, must be from 0 to 63 and not in use. If `floats` is
-    /// true, the thread never waits for a core.
+    /// Adds a thread with the number `place` to a client. If `floats` is true, the thread never waits for a core.
     ///
-    /// Returns DONE or REFUSED.
+    /// Returns DONE, or REFUSED if the handle has no arbiter, if there is no such client, or if `place` is in use
+    /// or greater than 63.
     ///
     /// Threads: safe beside calls with other handles; two at once with `arbiter` are undefined behaviour.
     pub fn arachne_arbiter_join(arbiter: *mut ArachneArbiter, client: usize, place: usize, floats: bool) -> u32;
 
     /// Takes the core from a thread, if it has one, and makes the thread wait until a core is granted to it.
     ///
-    /// Returns DONE, or REFUSED if the thread floats (never waits for a core), already waits, or does not exist.
+    /// Returns DONE, or REFUSED if the handle has no arbiter, or if the thread floats (never waits for a core),
+    /// already waits, or does not exist.
     ///
     /// Threads: safe beside calls with other handles; two at once with `arbiter` are undefined behaviour.
     pub fn arachne_arbiter_wait(arbiter: *mut ArachneArbiter, client: usize, place: usize) -> u32;
 
     /// Removes a thread of a client, because the thread has ended.
     ///
-    /// Returns DONE, or REFUSED if the handle is empty or the number of the client or of the thread is greater than
-    /// 63.
+    /// Returns DONE, or REFUSED if the handle has no arbiter or the number of the client or of the thread is
+    /// greater than 63.
     ///
     /// Threads: safe beside calls with other handles; two at once with `arbiter` are undefined behaviour.
     pub fn arachne_arbiter_end(arbiter: *mut ArachneArbiter, client: usize, place: usize) -> u32;
 
-    /// Computes anew how many cores each client may have, from the numbers of cores for which all clients ask now.
+    /// Computes how many cores each client may have, from the numbers of cores for which all clients ask now.
     ///
-    /// Returns DONE, or REFUSED if the handle is empty.
+    /// Returns DONE, or REFUSED if the handle has no arbiter.
     ///
     /// Threads: safe beside calls with other handles; two at once with `arbiter` are undefined behaviour.
     pub fn arachne_arbiter_decide(arbiter: *mut ArachneArbiter) -> u32;
 
-    /// Takes a core from the client `client`, if it has more cores than it may have: that of its last thread that
-    /// has a core.
+    /// Takes a core from a client that has more cores than it may have. Of the client's threads with a core, the
+    /// one with the greatest number loses its core.
     ///
-    /// If that thread floats (never waits for a core), takes its core at once; otherwise only if `late` is true,
-    /// which means that the client hasn't given a core back in time. Returns TAKEN or NOTHING.
+    /// If that thread floats (never waits for a core), takes the core at once. Otherwise takes the core only if
+    /// `late` is true, which means that the client hasn't given a core back in time. Returns TAKEN; NOTHING if no
+    /// core was taken; REFUSED if the handle has no arbiter.
     ///
     /// Threads: safe beside calls with other handles; two at once with `arbiter` are undefined behaviour.
     pub fn arachne_arbiter_take_back(arbiter: *mut ArachneArbiter, client: usize, late: bool) -> ArachneAction;
 
     /// Gives a free core to a thread that can take one, of a client that has fewer cores than it may have.
     ///
-    /// A client of higher priority goes first. Returns GRANTED if the thread waited for a core; PLACED if it
-    /// floats, which means that it never waits for one; NOTHING if no core was given.
+    /// Clients of higher priority go first. Returns GRANTED if the thread waited for a core; PLACED if the thread
+    /// floats (never waits for a core); NOTHING if no core was given; REFUSED if the handle has no arbiter.
     ///
     /// Threads: safe beside calls with other handles; two at once with `arbiter` are undefined behaviour.
     pub fn arachne_arbiter_give(arbiter: *mut ArachneArbiter) -> ArachneAction;
 
-    /// Returns how many cores a client may have, and how many its threads have. Both are 0 if the handle is empty.
+    /// Returns how many cores a client may have, and how many its threads have now. Both are 0 if the handle has no
+    /// arbiter.
     ///
     /// Threads: safe beside calls with other handles; two at once with `arbiter` are undefined behaviour.
     pub fn arachne_arbiter_share(arbiter: *mut ArachneArbiter, client: usize) -> ArachneShare;

@@ -1,11 +1,10 @@
-//! The client of an arbiter, the daemon in `rust/arbiter`, which grants whole processors to processes.
+//! The client of an arbiter, the daemon in `rust/arbiter` that grants whole processors (*cores*) to processes.
 //!
-//! Worker 0 *floats*: it runs with a processor of its own or without one. Each other worker waits, on a connection of
-//! its own, until the arbiter grants it a processor (a *core*), and gives the core back by waiting again. The arbiter
-//! writes the number of cores that the runtime may have into a page of shared memory. Each worker compares that number
-//! with `active` (the number of active workers) whenever it checks for events. While all workers sleep, the arbiter
-//! sends a message instead, to the kernel thread that reads the control connection. Without an arbiter, or after the
-//! connection to it has ended, the policy decides how many workers are active.
+//! The first worker runs with or without a core. Each other worker waits, on a connection of its own, until the arbiter
+//! grants it a core. It gives the core back by waiting again. The arbiter writes the number of cores that the runtime
+//! may have to a page of shared memory. Each worker that checks for events reads the page, and makes workers wait if
+//! more than that number run tasks. While all workers sleep, the arbiter sends a message instead, to the thread that
+//! reads the control connection. Without an arbiter, the policy decides how many workers may run tasks (are *active*).
 
 use crate::shared::{Context, Shared};
 use crate::sync::atomic::{AtomicBool, AtomicPtr, AtomicU32, AtomicUsize, Ordering::*};
@@ -32,13 +31,12 @@ const GRANT: u32 = 6;
 const ALLOWED: u32 = 7;
 const REFUSED: u32 = 8;
 
-/// A runtime that finds no arbiter, or is refused by one, tries to connect again after this time.
+/// Without an arbiter, a runtime tries to connect again after `AGAIN`; if it was refused, after `REFUSED_AGAIN`.
 const AGAIN: Duration = Duration::from_secs(1);
 const REFUSED_AGAIN: Duration = Duration::from_secs(30);
-/// A worker that was granted no core, or can't use the core yet, asks again after this time.
+/// A worker whose wait for a core failed, or that can't use the granted core yet, asks again after this time.
 const SOON: Duration = Duration::from_millis(1);
 
-/// The path of the arbiter's socket, and what the runtime reports about itself to the arbiter.
 #[derive(Clone, Debug)]
 pub(crate) struct Wish {
     pub(crate) path: PathBuf,
@@ -46,18 +44,14 @@ pub(crate) struct Wish {
     pub(crate) reserved: usize,
 }
 
-/// A runtime's connections to an arbiter, which the runtime's kernel threads share.
 #[derive(Default)]
 pub(crate) struct Client {
-    /// Points to the number of cores that the arbiter allows, on the shared page that the arbiter writes. Once the page
-    /// is mapped, it stays mapped for ever.
+    /// A shared page, to which the arbiter writes how many cores this runtime may have. It is never unmapped.
     page: AtomicPtr<AtomicU32>,
-    /// True while an arbiter decides how many cores the runtime may use. A thread must have locked `order` to change
-    /// it.
+    /// True while the runtime is connected to an arbiter, which grants its cores. Guarded by the lock `order`.
     up: AtomicBool,
-    /// The number of cores that the runtime last asked the arbiter for.
     asked: AtomicUsize,
-    /// A thread must lock this before it changes how many workers are active.
+    /// A thread must lock this before it changes how many workers may run tasks.
     order: Mutex<()>,
     state: Mutex<State>,
     changed: Condvar,
@@ -67,17 +61,13 @@ pub(crate) struct Client {
 struct State {
     closed: bool,
     refused: bool,
-    /// The control connection, followed by one connection for each worker.
+    /// The runtime's control connection to the arbiter, and then a connection for each worker.
     streams: Vec<Arc<UnixStream>>,
-    /// For each worker, the thread id of its kernel thread; 0 until that thread runs.
+    /// For each worker, the id of its kernel thread; 0 until that thread runs.
     threads: Vec<u32>,
-    /// The event that wakes the second worker while it waits for a core. The second worker then runs jobs that the
-    /// first worker doesn't get to.
+    /// The eventfd by which `Client::call` wakes the second worker while it waits for a core.
     call: Option<File>,
-    /// The processors that this process could use before an arbiter moved its threads.
     cpus: Vec<usize>,
-    /// True if the arbiter keeps threads on their cores by affinity. If it uses cpusets, this is false, and no thread
-    /// may set its own affinity: the thread would stay on those processors even after its cpuset has others.
     pins: bool,
 }
 
@@ -99,13 +89,11 @@ fn receive(mut stream: &UnixStream) -> io::Result<[u32; 4]> {
 }
 
 impl Client {
-    /// Resets all fields, because a new runtime, which has no arbiter yet, begins to use this state.
     pub(crate) fn reset(&self) {
         *self.state.lock().unwrap() = State::default();
     }
 
-    /// Prepares this client, for a runtime of `workers` workers. Records the processors that this kernel thread may run
-    /// on. Fails if a descriptor is refused.
+    /// Prepares for a connection to the arbiter. Fails if the system refuses a descriptor.
     pub(crate) fn open(&self, workers: usize) -> io::Result<()> {
         let mut state = self.state.lock().unwrap();
         (state.threads, state.cpus) = (vec![0; workers], sys::affinity());
@@ -113,8 +101,6 @@ impl Client {
         Ok(())
     }
 
-    /// Waits for a message on `stream`, or for the event `call`, for at most `nanos` nanoseconds. Returns which of the
-    /// three has ended the wait.
     fn waits(&self, stream: &UnixStream, nanos: u64) -> Ends {
         let call = self.state.lock().unwrap().call.as_ref().map_or(-1, |call| call.as_raw_fd());
         match sys::readable([stream.as_raw_fd(), call], nanos) {
@@ -127,21 +113,20 @@ impl Client {
         }
     }
 
-    /// Wakes the second worker if it waits for a core. The second worker then runs jobs that the first worker doesn't
-    /// get to.
+    /// Wakes the second worker if it waits for a core. While only the first worker may run tasks, the second, once
+    /// woken, runs the tasks that wait because the first stays in one poll.
     pub(crate) fn call(&self) {
         if let Some(call) = &self.state.lock().unwrap().call {
             sys::raise(call.as_raw_fd());
         }
     }
 
-    /// Returns true if an arbiter decides how many cores this runtime may use.
     #[inline]
     pub(crate) fn is_up(&self) -> bool {
         self.up.load(Acquire)
     }
 
-    /// Returns the number of cores that the arbiter allows this runtime; without an arbiter, `usize::MAX`.
+    /// Returns the number of cores that the arbiter allows this runtime; `usize::MAX` without an arbiter.
     #[inline]
     pub(crate) fn limit(&self) -> usize {
         if !self.is_up() {
@@ -151,14 +136,12 @@ impl Client {
         unsafe { (*self.page.load(Relaxed)).load(Relaxed) as usize }
     }
 
-    /// Records the calling thread's id as that of the worker `worker`.
     pub(crate) fn names(&self, worker: usize) {
         self.state.lock().unwrap().threads[worker] = sys::thread_number().unwrap_or(u32::MAX);
         self.changed.notify_all();
     }
 
-    /// Lets the calling thread run on any processor. A thread inherits the affinity of the worker that starts it, and a
-    /// worker may be kept on a single processor.
+    /// Lets the calling thread, which was started by a worker on the worker's processor, run on any processor.
     pub(crate) fn unpin(&self) {
         let state = self.state.lock().unwrap();
         if state.pins {
@@ -166,21 +149,20 @@ impl Client {
         }
     }
 
-    /// Asks the arbiter for `cores` cores. Returns true if the previous request was for another number.
+    /// Asks the arbiter for `cores` cores in all. Returns false, and sends nothing, if the last request was for as
+    /// many.
     fn ask(&self, cores: usize) -> bool {
         if self.asked.swap(cores, SeqCst) == cores {
             return false;
         }
         let control = self.state.lock().unwrap().streams.first().cloned();
         if !control.map_or(false, |control| send(&control, [ASK, cores as u32, 0, 0]).is_ok()) {
-            // The connection's buffer is full, or the arbiter is gone. In the second case, the thread that reads the
-            // connection will notice it.
+            // The connection's buffer is full, or the arbiter is gone, as the thread that reads it will notice.
             self.asked.store(usize::MAX, SeqCst);
         }
         true
     }
 
-    /// Connects to the arbiter, and stores the connection, so that `close` and `hang_up` can end every wait on it.
     fn connect(&self, wish: &Wish) -> io::Result<Arc<UnixStream>> {
         let stream = Arc::new(UnixStream::connect(&wish.path)?);
         let mut state = self.state.lock().unwrap();
@@ -191,15 +173,13 @@ impl Client {
         Ok(stream)
     }
 
-    /// Closes all connections, so that the arbiter forgets this runtime. The caller must pass true for `refused` if the
-    /// arbiter has refused one of the runtime's threads.
+    /// Closes all connections, so that the arbiter forgets this runtime.
     fn hang_up(&self, refused: bool) {
         let mut state = self.state.lock().unwrap();
         state.refused |= refused;
         state.streams.iter().for_each(|stream| drop(stream.shutdown(Shutdown::Both)));
     }
 
-    /// Ends every worker's wait for a core, because the runtime ends.
     pub(crate) fn close(&self) {
         self.state.lock().unwrap().closed = true;
         self.hang_up(false);
@@ -208,8 +188,8 @@ impl Client {
 }
 
 impl Shared {
-    /// Asks the arbiter for `cores` cores, as the policy wants, and gives back the cores beyond that number. Returns
-    /// true if the number of active workers, or the number that the arbiter is asked for, has changed.
+    /// Asks the arbiter for `cores` cores in all, and lets only that many workers run tasks. Returns true if this
+    /// changes the number of these workers or of the cores asked for.
     pub(crate) fn want(&self, cores: usize) -> bool {
         // Another thread has the lock, and is changing the number of active workers.
         let _order = match self.arbiter.order.try_lock() {
@@ -225,20 +205,17 @@ impl Shared {
         asks
     }
 
-    /// Gives back cores until `allowed` are left, the number that the arbiter allows. The workers with the highest
-    /// numbers give theirs back; the first worker never does.
     fn obey(&self, _order: &MutexGuard<()>, allowed: usize) {
         if self.arbiter.is_up() && allowed.max(1) < self.active.0.load(SeqCst) {
             self.set_active(allowed.max(1));
         }
     }
 
-    /// Gives back the cores that the arbiter wants back. Returns true if the core of this worker, `me`, is one of them.
+    /// Lets fewer workers run tasks if the arbiter wants cores back. Returns true if the worker `me` must now stop.
     pub(crate) fn is_asked_back(&self, me: usize) -> bool {
         let active = self.active.0.load(Relaxed);
         if active > 1 && self.arbiter.limit() < active {
-            // If another thread has the lock, that thread reads the page too, or this worker reads it at its next
-            // check.
+            // A thread that has the lock reads the page too, or this worker reads it again at its next check.
             if let Ok(order) = self.arbiter.order.try_lock() {
                 self.obey(&order, self.arbiter.limit());
             }
@@ -246,8 +223,7 @@ impl Shared {
         me >= self.active.0.load(Relaxed)
     }
 
-    /// Gives this worker's core back, and waits until the arbiter grants this worker a core, or is gone. The caller
-    /// must check which of the two has happened.
+    /// Gives this worker's core back, and waits until the arbiter grants one or has closed the connection.
     #[cold]
     pub(crate) fn wait_for_core(&self, context: &Context, turn: &mut Turn) {
         let me = context.me;
@@ -271,16 +247,14 @@ impl Shared {
         if me == active && me < self.arbiter.limit() {
             self.set_active(me + 1);
         } else if me >= active {
-            // The arbiter has asked for this core again since it granted it. Or a worker with a lower number has lost
-            // its core and is still in a poll: then this worker must wait, because only the workers with the lowest
-            // numbers may be active.
+            // The arbiter has asked for this core again, or a worker with a lower number has lost its core and is still
+            // in a poll. Then this worker must wait, because only the workers with the lowest numbers may be active.
             drop(order);
             thread::sleep(SOON);
         }
     }
 
-    /// Runs the kernel thread that reads the control connection. `first` is the number of cores to ask for, if the
-    /// arbiter is there from the beginning.
+    /// Runs the thread that reads the control connection to the arbiter, and that at first asks for `first` cores.
     pub(crate) fn run_arbiter(&'static self, wish: Wish, first: usize, follows: bool) {
         sys::ask_for_slices(100_000);
         let (mut first, mut told) = (Some(first), false);
@@ -288,8 +262,8 @@ impl Shared {
             let met = self.meet(&wish, first.take());
             if let Ok(control) = &met {
                 while let Ok([ALLOWED, allowed, ..]) = receive(control) {
-                    // The number in the message counts, not the one on the page, which may have grown since: a worker
-                    // that was in a poll may have lost its core, and must wait for a new one.
+                    // The number in the message counts. That on the page may have grown since, but a worker in a poll
+                    // may have lost its core, and must wait for a new one.
                     let order = self.arbiter.order.lock().unwrap();
                     self.obey(&order, allowed as usize);
                 }
@@ -306,8 +280,8 @@ impl Shared {
         }
     }
 
-    /// Connects to the arbiter: once for the runtime, and once more for each of its workers. Asks for `first` cores or,
-    /// if that is None, for as many cores as are active now.
+    /// Connects the runtime and each worker to the arbiter, and asks for `first` cores. If that is None, asks for one
+    /// for each worker that is active now (may run tasks).
     fn meet(&self, wish: &Wish, first: Option<usize>) -> io::Result<Arc<UnixStream>> {
         let client = &self.arbiter;
         let state = client.state.lock().unwrap();
@@ -337,9 +311,8 @@ impl Shared {
         Ok(control)
     }
 
-    /// Ends the use of an arbiter: from now on the policy decides or, without a policy, each worker has a core. Threads
-    /// that the arbiter kept on their cores by affinity may run on all processors again. Returns true if the arbiter
-    /// has refused a thread.
+    /// Closes all connections to the arbiter, and lets workers run on all processors again. Returns true if the arbiter
+    /// has refused one of them.
     fn part(&self, follows: bool) -> bool {
         let _order = self.arbiter.order.lock().unwrap();
         let was_up = self.arbiter.up.swap(false, SeqCst);

@@ -28,7 +28,7 @@ impl Wake for Parker {
 }
 
 thread_local! {
-    /// The `Parker` of this thread, kept for its next `block_on`; `None` while a `block_on` on this thread uses it.
+    /// This thread's `Parker` for its next `block_on`; `None` at first, and while a `block_on` uses it.
     static PARKER: RefCell<Option<Arc<Parker>>> = const { RefCell::new(None) };
 }
 
@@ -39,7 +39,7 @@ pub(crate) fn forget_parker() {
 
 /// Polls a future on the calling thread until it is ready. The thread sleeps while the future waits.
 ///
-/// In a task use `await` instead: this call would block the worker that runs the task.
+/// In a task use `await` instead, because this call would block the task's worker.
 ///
 /// ```
 /// let (sender, receiver) = arachne::channel(1);
@@ -66,11 +66,11 @@ pub fn block_on<F: Future>(future: F) -> F::Output {
     }
 }
 
-/// If a timer is late by this many nanoseconds, a thread that waits in `block_on` fires it itself.
+/// A thread that waits in `block_on` fires its timers itself if they are late by this many nanoseconds.
 const LATE: u64 = 2_000_000;
 
-/// Parks this thread until it is unparked. If a timer of this thread is late, fires it instead: the worker that should
-/// have fired it is in a long poll, or is this thread.
+/// Parks this thread until it is unparked. If a timer that this thread set is late, because the worker that should fire
+/// it is in a long poll or is this thread, fires the timer instead.
 fn park() {
     let timers = timer::of_this_thread();
     let due = timers.map_or(u64::MAX, |timers| timers.next().saturating_add(LATE));
@@ -92,8 +92,7 @@ fn park() {
 #[derive(Debug)]
 pub struct Yield(bool);
 
-/// Lets other ready tasks run first. Use it in a task that computes for long, or whose awaited futures are always
-/// ready.
+/// Lets other ready tasks run first. A task should call this if it computes for long, or never has to wait.
 ///
 /// ```
 /// let runtime = arachne::Runtime::new(1);
@@ -125,7 +124,7 @@ impl Future for Yield {
     }
 }
 
-/// The future of `poll_fn`. It may be moved between polls.
+/// The future of `poll_fn`. The future may be moved between polls.
 ///
 /// ```
 /// use std::task::{Context, Poll};
@@ -144,7 +143,7 @@ impl<F> fmt::Debug for PollFn<F> {
     }
 }
 
-/// Returns a future whose every poll calls `poll`. This is std's function of the same name, which rustc 1.63 lacks.
+/// Returns a future whose every poll calls `poll`. (std has this function, too, but rustc 1.63 lacks it.)
 ///
 /// ```
 /// use std::task::Poll;
@@ -157,7 +156,7 @@ impl<F> fmt::Debug for PollFn<F> {
 /// assert_eq!(arachne::block_on(third), 3);
 /// ```
 ///
-/// Such a future can wait for the first of several futures:
+/// By `poll_fn`, a task can wait for the first of several futures:
 ///
 /// ```
 /// use std::{future::Future, pin::Pin, task::Poll, time::Duration};

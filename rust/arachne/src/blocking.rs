@@ -1,4 +1,4 @@
-//! Runs blocking work on kernel threads other than the workers, of which there are at most a fixed number.
+//! The blocking pool: kernel threads, at most a fixed number, that run closures which may block.
 
 use crate::shared::{entered, here, Shared};
 use crate::sync::thread;
@@ -11,7 +11,7 @@ use std::pin::Pin;
 use std::task::{Context, Poll, RawWaker, RawWakerVTable, Waker};
 use std::time::Duration;
 
-/// The time for which a thread of the pool waits for more work before it ends.
+/// The time after which an idle thread of the pool ends.
 const PATIENCE: Duration = Duration::from_secs(5);
 
 #[derive(Default)]
@@ -29,7 +29,6 @@ pub(crate) struct Pool {
     changed: Condvar,
 }
 
-/// A future that calls a closure at its first poll, and is ready then.
 struct Once<F>(Option<F>);
 impl<F> Unpin for Once<F> {}
 impl<F: FnOnce() -> T, T> Future for Once<F> {
@@ -42,7 +41,6 @@ impl<F: FnOnce() -> T, T> Future for Once<F> {
 const NO_WAKER: RawWakerVTable =
     RawWakerVTable::new(|_| RawWaker::new(std::ptr::null(), &NO_WAKER), |_| {}, |_| {}, |_| {});
 
-/// A waker that wakes nobody.
 pub(crate) fn no_waker() -> Waker {
     // SAFETY: the functions of the table do nothing.
     unsafe { Waker::from_raw(RawWaker::new(std::ptr::null(), &NO_WAKER)) }
@@ -76,7 +74,6 @@ impl Pool {
                     unsafe { task::end(raw) };
                     panic!("no kernel thread for blocking work: {error}");
                 }
-                // One of the existing threads will run the work later.
                 Err(_) => {}
             }
         }
@@ -111,13 +108,12 @@ impl Pool {
         self.changed.notify_all();
     }
 
-    /// Returns true if some work waits for a thread of the pool, or is running on one.
     pub(crate) fn is_busy(&self) -> bool {
         let state = self.state.lock().unwrap();
         !state.work.is_empty() || state.idle < state.threads
     }
 
-    /// Cancels the work that has not begun, and refuses all later work.
+    /// Cancels the closures that have not begun, and refuses all later ones.
     pub(crate) fn close(&self) {
         let mut state = self.state.lock().unwrap();
         state.stop = true;
@@ -128,7 +124,7 @@ impl Pool {
         left.into_iter().for_each(|raw| unsafe { task::end(raw) });
     }
 
-    /// Waits until all threads of the pool have ended, for at most `time`. Returns true if all have ended.
+    /// Waits for at most `time` until all threads of the pool have ended.
     pub(crate) fn wait_for_end(&self, time: Duration) -> bool {
         let state = self.state.lock().unwrap();
         let (state, _) = self.changed.wait_timeout_while(state, time, |state| state.threads != 0).unwrap();
@@ -148,10 +144,9 @@ impl Shared {
     }
 }
 
-/// Runs a closure that may block, on a thread of the runtime's blocking pool. Returns the handle on the closure's
-/// result.
+/// Runs a closure that may block, on the runtime's blocking pool. Returns a handle on the closure's result.
 ///
-/// Once the closure has begun, it can't be aborted. Within the closure, use `block_on` to wait for a future.
+/// Once the closure has begun, it can't be aborted. To wait for a future in the closure, use `block_on`.
 ///
 /// ```
 /// let runtime = arachne::Runtime::new(1);

@@ -11,7 +11,7 @@ use std::pin::Pin;
 use std::task::{Context, Poll, Waker};
 
 struct Node {
-    /// True if this waiter was removed from the queue because it is now its turn to send or receive.
+    /// True if this waiter was removed from its queue because its turn has come.
     called: AtomicBool,
     slot: Slot,
 }
@@ -44,7 +44,6 @@ impl<T> State<T> {
     }
 }
 
-/// Removes the first waiter from the queue `line`, marks it as called (it may now try again), and returns it.
 fn call(line: &mut VecDeque<Arc<Node>>) -> Option<Arc<Node>> {
     let node = line.pop_front()?;
     node.called.store(true, SeqCst);
@@ -57,8 +56,7 @@ fn wake(node: Option<Arc<Node>>) {
     }
 }
 
-/// Removes the waiter `node` from a queue, because it stops waiting. If it was called already, returns the next waiter,
-/// which the caller must wake in its stead.
+/// Removes a waiter that stops waiting. If it was called already, the next waiter is called, and returned to be woken.
 fn leave(line: &mut VecDeque<Arc<Node>>, node: &Arc<Node>) -> Option<Arc<Node>> {
     match line.iter().position(|other| Arc::ptr_eq(other, node)) {
         Some(at) => {
@@ -104,7 +102,7 @@ impl<T> fmt::Display for SendError<T> {
 }
 impl<T> std::error::Error for SendError<T> {}
 
-/// The sending end of a `channel`. It may be cloned.
+/// The sending end of a `channel`, which may be cloned.
 ///
 /// ```
 /// let (sender, receiver) = arachne::channel(2);
@@ -115,7 +113,7 @@ impl<T> std::error::Error for SendError<T> {}
 /// ```
 pub struct Sender<T>(Arc<Mutex<State<T>>>);
 
-/// The receiving end of a `channel`. It may be cloned; each value goes to one of the receivers.
+/// The receiving end of a `channel`, which may be cloned. Each value goes to one of the receivers.
 ///
 /// ```
 /// let (sender, receiver) = arachne::channel(2);
@@ -126,8 +124,7 @@ pub struct Sender<T>(Arc<Mutex<State<T>>>);
 /// ```
 pub struct Receiver<T>(Arc<Mutex<State<T>>>);
 
-/// Returns the two ends of a channel that holds at most `room` values (at least 1). A channel of `usize::MAX` values is
-/// never full.
+/// Returns the two ends of a channel that holds at most `room` values (at least 1; with `usize::MAX` it is never full).
 ///
 /// ```
 /// let (sender, receiver) = arachne::channel(16);
@@ -172,7 +169,8 @@ impl<T> fmt::Debug for Receiver<T> {
 }
 
 impl<T> Sender<T> {
-    /// Sends `value`, after waiting until there is room. If all receivers are gone, the error contains the value.
+    /// Sends `value` once there is room. If all receivers are gone, the error is the value; `SendError::Closed` makes a
+    /// `std::error::Error` of it.
     ///
     /// If the future is dropped before it is ready, the value is not sent.
     ///
@@ -399,8 +397,7 @@ impl<T> Drop for Receiver<T> {
         state.receivers -= 1;
         let last = state.receivers == 0;
         let all = if last { std::mem::take(&mut state.sending) } else { VecDeque::new() };
-        // Nobody can receive these values any more. The values are dropped after the lock is released: dropping a value
-        // may wake a task that waits for a reply through it.
+        // These values are dropped after the lock is released, because a drop may wake a task that waits for a reply.
         let values = if last { std::mem::take(&mut state.values) } else { VecDeque::new() };
         drop(state);
         all.iter().for_each(|node| node.called.store(true, SeqCst));

@@ -1,11 +1,10 @@
-//! The number of active workers: the limit that the machine sets, and the policy by which the number follows the load.
+//! The number of workers that may run tasks: the limit of the machine, and the policy by which it follows the load.
 //!
-//! The load is the number of ready tasks that a worker counts whenever it checks for events, averaged over time. The
-//! policy decides at regular intervals how many workers may run, and at shorter intervals after it has asked for one
-//! more. A worker that gives its processor back waits; another worker then runs the jobs in its task slots, and fires
-//! its timers. While only the first worker has a processor, the second one runs the jobs that the first doesn't get to
-//! (`worker/sleepers.rs`). If there is a policy, the number of processors that the process may use is read again each
-//! second.
+//! The load is the average number of ready tasks that a worker counts whenever it checks for events. At regular
+//! intervals the policy decides how many workers may run tasks (are *active*). Active workers also run the tasks and
+//! fire the timers of those that may not. If only the first worker is active, the second runs ready tasks whenever the
+//! first stays in one poll (`worker/sleepers.rs`). Each second, the policy also reads how many processors the process
+//! may use.
 
 use crate::core::Estimator;
 use crate::shared::{Context, Shared, Worker};
@@ -17,7 +16,6 @@ use std::fs;
 use std::os::unix::fs::FileExt;
 use std::time::Duration;
 
-/// The work that waited for the cores, and the time for which they were busy, since the policy last decided.
 #[derive(Clone, Copy, Default, Debug)]
 pub(crate) struct Sample {
     pub(crate) cores: u64,
@@ -38,22 +36,21 @@ pub(crate) enum Advice {
 ///
 /// ```
 /// use std::time::Duration;
-/// // Asks for a core at an average of two ready tasks per look, judged each 20 ms; keeps two cores.
+/// // Asks for a core if a worker has more than two ready tasks on average; decides each 20 ms; keeps two cores.
 /// let policy = arachne::Policy { load: 2000, every: Duration::from_millis(20), min_cores: 2, ..Default::default() };
 /// let runtime = arachne::Builder::new(4).policy(policy).build().unwrap();
 /// assert!(runtime.stats().active >= 2);
 /// ```
 #[derive(Clone, Copy, Debug)]
 pub struct Policy {
-    /// The policy asks for another core if, on average, a worker has more ready tasks than this, in thousandths of a
-    /// task.
+    /// The policy asks for another core if a worker has more ready tasks than this on average; 1000 is one task.
     pub load: u64,
-    /// The policy gives a core back if the cores are less busy, by this many thousandths of a core, than they were when
-    /// it asked for that core.
+    /// The policy gives a core back if the busy time of all cores, in thousandths of one core, is now less by at least
+    /// this number than when the policy asked for that core.
     pub hysteresis: u64,
     /// The time between two decisions of the policy.
     pub every: Duration,
-    /// The policy gives no core back if the runtime has only this many.
+    /// The least number of cores. With this many, the policy gives none back, however small the load.
     pub min_cores: usize,
 }
 
@@ -63,10 +60,7 @@ impl Default for Policy {
     }
 }
 
-/// Returns the number of processors that this process may use.
-///
-/// The number is limited by the affinity mask, and by the control group's `cpu.max` (`cpu.cfs_quota_us` in version 1),
-/// rounded up.
+/// Returns the number of processors that this process may use, rounded up.
 ///
 /// ```
 /// let runtime = arachne::Runtime::new(arachne::available_cores());
@@ -86,8 +80,7 @@ fn whole(thousandths: usize) -> usize {
     (thousandths + 999) / 1000
 }
 
-/// Returns how much processor time the control groups allow this process: the smallest quota of its group and of the
-/// groups above it, in thousandths of a processor.
+/// Returns the least processor quota, in thousandths of a processor, of this process's control group or those above it.
 fn quota() -> Option<usize> {
     let groups = fs::read_to_string("/proc/self/cgroup").ok()?;
     let mut least = None;
@@ -118,36 +111,27 @@ fn quota_of(group: &str) -> Option<usize> {
     Some(words.next()?? * 1000 / words.next()??.max(1))
 }
 
-/// After a request for a core, the policy's next decisions follow sooner: this many of them, at the usual interval
-/// divided by this number.
+/// After the policy has asked for a core, its next decisions (this many) follow at a quarter of the usual interval.
 const SOON: u32 = 4;
 
-/// The least and the most nanoseconds between two decisions of the policy while there is an arbiter.
+/// The least and the most nanoseconds between two decisions of the policy while an arbiter (a daemon) grants the cores.
 const WITH_ARBITER: (u64, u64) = (2_000_000, 5_000_000);
-/// After a request to an arbiter, the policy gives no core back for this many nanoseconds, because the core would go to
-/// another process.
+/// While an arbiter (a daemon) grants the cores: the policy gives none back for this many nanoseconds after a request.
 const CALM: u64 = 50_000_000;
 
-/// The policy, with the data that it keeps between two decisions. The first worker decides for all workers.
+/// The policy's settings and state. The first worker uses it to decide how many workers may run.
 pub(crate) struct Judge {
     estimator: Estimator,
     policy: Policy,
-    /// Each worker's totals at the policy's last decision.
     last: Vec<Totals>,
     at: u64,
     looked: u64,
     most: usize,
-    /// The number of decisions that are still to be made at shorter intervals, because a core was asked for.
     soon: u32,
-    /// The time of the last request for a core, in nanoseconds of the monotonic clock.
     added: u64,
-    /// True if the policy has ignored the last sample, because the load began in the middle of it. It doesn't ignore
-    /// the next sample.
     begins: bool,
 }
 
-/// One worker's totals: its counts, the nanoseconds without work, and the nanoseconds for which it waited for a
-/// processor.
 #[derive(Clone, Copy, Default)]
 struct Totals {
     runnable: u64,
@@ -173,42 +157,36 @@ impl Judge {
         })
     }
 
-    /// Returns for how many milliseconds the first worker may sleep before the policy's next decision: at most 20.
+    /// Returns the milliseconds until the policy's next decision, from 1 to 20. The first worker sleeps no longer than
+    /// that.
     pub(crate) fn millis(&self, shared: &Shared) -> i32 {
         ((self.every(1, shared.arbiter.is_up()) / 1_000_000) as i32).clamp(1, 20)
     }
 
-    /// Returns the nanoseconds between two decisions: the usual interval divided by `times`. If `up` is true (there is
-    /// an arbiter), the interval is limited by `WITH_ARBITER`.
     fn every(&self, times: u32, up: bool) -> u64 {
         let (least, most) = if up { WITH_ARBITER } else { (0, u64::MAX) };
         ((self.policy.every.as_nanos() as u64).min(most) / times as u64).max(least)
     }
 
-    /// Returns true if the load began in the middle of this sample: enough tasks were ready for the policy to ask for a
-    /// core, although cores were idle for part of the time.
-    ///
-    /// The policy ignores such a sample. Otherwise it would record that the cores were little busy when it asked for
-    /// the core, and would keep the core until they are even less busy.
+    /// Returns true if many tasks were ready in this interval (`sample`) and yet cores were idle, so that the load
+    /// began in the middle of it. The policy ignores such a sample. Otherwise it would remember that the cores were
+    /// little busy when it asked for one more, and would keep that core for too long.
     fn is_begin(&self, sample: Sample) -> bool {
         let wants = sample.runnable * 1000 > self.policy.load * sample.scans;
         wants && sample.busy * 10 < sample.elapsed * sample.cores * 9
     }
 
-    /// If the interval has passed, decides from the load to ask for a core, to give one back, or neither.
     pub(crate) fn judge(&mut self, shared: &'static Shared) {
         let now = now();
         let elapsed = now - self.at;
         let up = shared.arbiter.is_up();
-        // Shorter intervals after a request show soon if another core is needed.
         if elapsed < self.every(if self.soon != 0 { SOON } else { 1 }, up) {
             return;
         }
         if now - self.looked > 1_000_000_000 {
             self.looked = now;
             let all = shared.workers.len();
-            // An arbiter keeps this thread on one processor, so the thread's affinity doesn't show how many processors
-            // there are; the arbiter decides how many other processors the runtime gets.
+            // An arbiter keeps this thread on one processor, so its affinity doesn't show how many there are.
             let most = if up { quota().map_or(all, whole) } else { available_cores() };
             self.most = most.clamp(1, all);
         }
@@ -252,7 +230,7 @@ fn totals(shared: &Shared, active: usize, now: u64) -> Vec<Totals> {
     shared.workers[..active].iter().map(|line| of(&line.0)).collect()
 }
 
-/// Returns for how many nanoseconds, in all, a worker's thread was ready to run and had no processor.
+/// Returns for how many nanoseconds in all a worker's thread was ready to run but waited for a processor.
 fn waited(account: &crate::sync::Mutex<Option<fs::File>>) -> u64 {
     let mut text = [0; 64];
     let len = account.lock().unwrap().as_ref().and_then(|file| file.read_at(&mut text, 0).ok()).unwrap_or(0);
@@ -260,10 +238,8 @@ fn waited(account: &crate::sync::Mutex<Option<fs::File>>) -> u64 {
     text.split_whitespace().nth(1).and_then(|word| word.parse().ok()).unwrap_or(0)
 }
 
-/// Returns how much work waited for these workers, and for how long they were busy, since the totals `last`.
-///
-/// A worker counts its ready tasks only while it is busy; while it has no work, no task is ready. The time for which a
-/// worker waited for a processor counts neither as use of a core nor as load.
+/// Returns how much work waited for these workers, and for how long they were busy, since the totals `last`. A worker
+/// counts its ready tasks only while it is busy. A wait for a processor counts neither as busy nor as load.
 fn sample(last: &[Totals], totals: &[Totals], elapsed: u64) -> Sample {
     let cores = totals.len() as u64;
     let mut sample = Sample { cores, runnable: 0, scans: (elapsed * cores).max(1), busy: 0, elapsed };
@@ -279,18 +255,15 @@ fn sample(last: &[Totals], totals: &[Totals], elapsed: u64) -> Sample {
 }
 
 impl Shared {
-    /// Gives this worker's core back. Makes all jobs in its local queues ready, and then waits until the policy asks
-    /// for the core again.
-    ///
-    /// While only the first worker has a core, the second worker, in this wait, runs the jobs that the first doesn't
-    /// get to.
+    /// Called when this worker's core is given back: offers the tasks in its local queues to the other workers, then
+    /// blocks until this worker gets a core again.
     pub(crate) fn give_back(&self, context: &Context, turn: &mut Turn) {
         self.lay_down(context, turn);
         let worker = context.worker;
         let (gate, waits) = &worker.given_back;
         worker.away.store(true, SeqCst);
-        // This must come after all jobs were made ready: the worker that now runs this worker's jobs may be about to
-        // sleep, and must first check this worker's task slots and timers.
+        // This comes after all jobs were made ready: the worker that serves this one from now on may be about to sleep,
+        // and must check this one's task slots and timers first.
         self.ring(self.keeper(context.me));
         if self.arbiter.is_up() {
             self.wait_for_core(context, turn);
@@ -317,10 +290,9 @@ impl Shared {
         self.goes_on();
     }
 
-    /// Sets how many workers may run (the first `active` of them), and wakes all workers, so that they notice it.
+    /// Lets the `active` workers with the lowest numbers run, and no others.
     pub(crate) fn set_active(&self, active: usize) {
-        // Each worker's flag is set under that worker's lock, so a worker that is about to wait sees the new number,
-        // and also sees if there is an arbiter now.
+        // Each flag is set under its worker's lock, so that a worker that is about to wait sees the change.
         for (number, line) in self.workers.iter().enumerate() {
             *line.0.given_back.0.lock().unwrap() = number >= active;
         }

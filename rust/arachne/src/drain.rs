@@ -1,4 +1,4 @@
-//! How a runtime ends in order (`shutdown_within` and `stopping`), signals, and a limit on concurrent requests.
+//! An orderly end of a runtime (`shutdown_within` and `stopping`), signals, and a limit on concurrent requests.
 
 use crate::block_on::poll_fn;
 use crate::net::Async;
@@ -17,7 +17,6 @@ use std::pin::Pin;
 use std::task::{Context, Poll, Waker};
 use std::time::Duration;
 
-/// The wakers of the tasks that wait until their runtime begins to end.
 #[derive(Default)]
 pub(crate) struct Draining {
     begun: AtomicBool,
@@ -41,10 +40,9 @@ impl Draining {
     }
 }
 
-/// Returns true after `Runtime::shutdown_within` was called for this task's runtime. Returns false outside of a
-/// runtime.
+/// Returns true once `Runtime::shutdown_within` was called for this task's runtime; false outside of a runtime.
 ///
-/// If it returns true, the task should finish the work that it has begun, and begin nothing new.
+/// A task that gets true should finish the work that it has begun, and begin nothing new.
 ///
 /// ```
 /// let runtime = arachne::Runtime::new(1);
@@ -61,7 +59,7 @@ pub fn is_stopping() -> bool {
     here().map_or(false, |shared| shared.draining.has_begun())
 }
 
-/// The future of `stopping`, which becomes ready after `Runtime::shutdown_within` was called.
+/// The future of `stopping`, which is ready once `Runtime::shutdown_within` was called.
 ///
 /// ```
 /// async fn waits_at_most_until_the_end(receiver: arachne::Receiver<u32>) -> Option<u32> {
@@ -72,22 +70,20 @@ pub fn is_stopping() -> bool {
 #[must_use = "it waits once it is awaited"]
 pub struct Stopping {
     shared: Option<&'static Shared>,
-    /// The key and the waker under which the future is registered, if it waits.
+    /// If the future waits: the key under which it is registered with the runtime, and the waker registered there.
     waits: Option<(u64, Waker)>,
-    /// Counts, since `shutdown_within` was called, the polls of this future in which the task had not yet tried to read
-    /// a socket.
+    /// The number of polls since `shutdown_within` was called in which the task had not yet tried to read a socket.
     blind: u32,
 }
 
-/// After `shutdown_within` was called, the future stays pending for at most this many polls. So a `select!` that polls
-/// in a random order most likely tries its socket first in one of these polls.
+/// After `shutdown_within` was called, the future stays pending for at most this many polls in which its task has read
+/// no socket. A `select!` with a random order most likely tries its socket first in one of these polls.
 const BLIND: u32 = 4;
 
-/// Waits until `Runtime::shutdown_within` is called. An idle connection can wait for this, in order to end; see
-/// `Stopping::or`.
+/// Waits until `Runtime::shutdown_within` is called, in order to end an idle connection, say; see `Stopping::or`.
 ///
-/// If the task also waits for a socket, this future is ready only in a poll in which the task has already tried to
-/// read, or after a few polls. So a request that has arrived is still read, in whichever order the task polls the two.
+/// If the task also waits for a socket, this future becomes ready only after the task has tried to read, or after a few
+/// polls. So a request that has arrived is still read.
 ///
 /// ```
 /// use std::time::Duration;
@@ -106,7 +102,7 @@ pub fn stopping() -> Stopping {
 impl Stopping {
     /// Waits for the output of `future`. Returns None if `shutdown_within` is called before `future` is ready.
     ///
-    /// `future` is polled first. A `Stopping` may be used again and again, for each read of a connection.
+    /// `future` is polled first. The same `Stopping` can be used for each read of a connection.
     ///
     /// ```
     /// async fn serve(stream: arachne::net::TcpStream) -> std::io::Result<()> {
@@ -146,7 +142,7 @@ impl Future for Stopping {
             None => return Poll::Pending,
         };
         self.shared = Some(shared);
-        // If the runtime has delayed a read of this task to its next poll, that read comes first, as there may be data.
+        // A read that the runtime has delayed to the task's next poll comes first, since there may be data.
         let reads_later = in_own_poll(cx.waker(), |worker| worker.put_off.get());
         if shared.draining.has_begun() {
             let is_blind = self.waits.is_some() && in_own_poll(cx.waker(), |worker| worker.reads.get() == 0);
@@ -167,7 +163,7 @@ impl Future for Stopping {
             waiting.1.insert(key, cx.waker().clone());
             self.waits = Some((key, cx.waker().clone()));
         }
-        // This is read again after the waker is registered: `begin` sets the flag first, and then takes the wakers.
+        // Read again after the waker is registered, because `begin` sets the flag first, and then takes the wakers.
         if !shared.draining.has_begun() {
             return Poll::Pending;
         }
@@ -198,12 +194,12 @@ impl Drop for Stopping {
 #[derive(Clone, Copy, PartialEq, Eq, Debug)]
 #[non_exhaustive]
 pub struct Ended {
-    /// The number of tasks that were dropped at the deadline, not counting those of `spawn_background`.
+    /// The number of tasks that were dropped at the deadline, without those of `spawn_background`.
     pub aborted: u64,
 }
 
 impl Runtime {
-    /// Returns how many tasks of this runtime were spawned and have not ended.
+    /// Returns the number of tasks that have not ended.
     ///
     /// ```
     /// let runtime = arachne::Runtime::new(1);
@@ -215,15 +211,14 @@ impl Runtime {
         self.shared().live()
     }
 
-    /// Ends the runtime in order. Waits until its tasks have finished, or until the deadline, and then drops all tasks
-    /// that are left.
+    /// Ends the runtime in order: waits for its tasks until the deadline, and then drops all tasks that are left.
     ///
-    /// From this call on, `stopping` is ready, and `accept` of a listener fails after it has accepted all connections
-    /// that had arrived. The call doesn't wait for tasks of `spawn_background`. If a poll is in progress at the
-    /// deadline, the call waits until that poll is over. Blocking work that still runs at the deadline continues
-    /// without the runtime, and the tasks that it spawns after that are cancelled; `aborted` doesn't count this work.
-    /// With `Duration::MAX` there is no deadline. If a task calls this function, the call waits for that task too,
-    /// until the deadline, and `aborted` counts it.
+    /// From this call on, `stopping` is ready, and `accept` fails once it has accepted all connections that had
+    /// arrived. The call doesn't wait for tasks of `spawn_background`. With `Duration::MAX` there is no deadline.
+    ///
+    /// The call waits for polls that are in progress at the deadline. `spawn_blocking` closures that still run then
+    /// continue without the runtime, and aren't counted in `aborted`. Tasks that they spawn after the deadline are
+    /// cancelled. A task that calls this function waits for itself until the deadline, and is counted in `aborted`.
     ///
     /// ```
     /// use std::time::Duration;
@@ -249,8 +244,7 @@ impl Runtime {
     }
 }
 
-/// Catches a signal of the operating system, in place of the signal's previous action. Tasks and threads can wait for
-/// the signal.
+/// Catches a signal of the operating system, in place of its previous action. Tasks and threads can wait for it.
 ///
 /// ```no_run
 /// # fn main() -> std::io::Result<()> {
@@ -264,7 +258,7 @@ impl Runtime {
 #[derive(Debug)]
 pub struct Signal(Async<Event>);
 
-/// An eventfd that a signal handler raises, and which is therefore never closed.
+/// An eventfd that a signal handler raises, and that is therefore never closed.
 #[derive(Debug)]
 struct Event(RawFd);
 
@@ -277,10 +271,10 @@ impl AsRawFd for Event {
 impl Signal {
     /// Catches the signal `number` from now on; 15 is SIGTERM, 2 is SIGINT.
     ///
-    /// The signal stays caught after this value is dropped. If an earlier `Signal` caught the same signal, only the new
-    /// one receives the signal from now on. Fails if `number` is no signal, or is one that can't be caught, such as 9
-    /// (SIGKILL). Also fails for 4, 7, 8 and 11 (SIGILL, SIGBUS, SIGFPE, SIGSEGV), since a real fault must end the
-    /// process.
+    /// The signal stays caught after this value is dropped. A later `Signal` for the same number replaces this one.
+    ///
+    /// Fails if `number` is no signal, or one that can't be caught, such as 9 (SIGKILL). Also fails for 4, 7, 8 and 11
+    /// (SIGILL, SIGBUS, SIGFPE, SIGSEGV), since a real fault must end the process.
     ///
     /// ```
     /// # fn main() -> std::io::Result<()> {
@@ -299,9 +293,8 @@ impl Signal {
 
     /// Waits for the signal. Returns at once if the signal has come since the last wait.
     ///
-    /// In tasks, use `recv`: `wait` blocks its thread and, even in `spawn_blocking`, would delay the runtime's end. If
-    /// several tasks wait, one of them gets the signal. Like a socket, a `Signal` belongs to the runtime in which it
-    /// first waits; a later runtime needs a new one.
+    /// If several tasks wait, one of them gets the signal. Like a socket, a `Signal` belongs to the runtime in which it
+    /// first waits, so a later runtime needs a new one.
     ///
     /// ```
     /// # fn main() -> std::io::Result<()> {
@@ -322,14 +315,17 @@ impl Signal {
 
     /// Blocks the calling thread until the signal comes. Returns at once if the signal has come since the last wait.
     ///
-    /// Returns false if the wait fails, otherwise true. In a task use `recv`. See the example at `heard`.
+    /// Returns false if the wait fails, otherwise true. In a task use `recv`, since `wait` blocks its thread and, in
+    /// `spawn_blocking`, delays the runtime's end. See the example at `heard`.
     pub fn wait(&self) -> bool {
         sys::await_event(self.0.get_ref().0)
     }
 }
 
-/// Limits how many uses of something are in progress at once, requests for example. At the limit, `enter` returns None
-/// without waiting.
+/// Limits how many uses of something, such as requests, are in progress at once.
+///
+/// A request that computes for long should call `yield_now` first, so that the worker reads, and can refuse, those that
+/// have arrived behind it. To make connections wait instead, call `Semaphore::acquire_owned` before `accept`.
 ///
 /// ```
 /// let limit = arachne::Limit::new(1);
@@ -341,7 +337,7 @@ impl Signal {
 #[derive(Clone, Debug)]
 pub struct Limit(Arc<(AtomicUsize, usize)>);
 
-/// One use in progress under a `Limit`; see `Limit::enter`. Dropping the ticket ends the use.
+/// One use in progress under a `Limit`, from `Limit::enter`. Dropping the ticket ends the use.
 ///
 /// ```
 /// let limit = arachne::Limit::new(8);
@@ -368,7 +364,7 @@ impl Limit {
         Limit(Arc::new((AtomicUsize::new(0), most)))
     }
 
-    /// Begins a use. Returns None if as many uses as the limit allows are in progress already.
+    /// Begins a use. Returns None, without waiting, if as many uses as the limit allows are in progress.
     ///
     /// ```
     /// let limit = arachne::Limit::new(100);

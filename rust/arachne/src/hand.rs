@@ -1,43 +1,39 @@
-//! A worker's local queues of jobs (its *hand*). Other workers may steal from these queues at any time.
+//! A worker's local queues of tasks (its *hand*), from which other workers may steal at any time.
 
 use crate::core::Job;
 use crate::sync::atomic::{AtomicU64, Ordering::*};
 
-/// The most stolen jobs in a worker's local queues.
 pub(crate) const FIRST: usize = 8;
-/// The capacity of the *line*, the local queue of a worker's own jobs: a power of two.
+/// The number of tasks for which a worker's local queue of its own tasks has room; a power of two.
 pub(crate) const LINE: usize = 64;
 
-/// The local queues of one worker. Only the worker itself puts jobs into them.
+/// The local queues of one worker, into which only that worker puts tasks.
 #[derive(Default)]
 pub(crate) struct Hand {
     pub(crate) next: Next,
-    /// Jobs that the worker has stolen. The worker runs them before all its other ready jobs.
+    /// Tasks that the worker has stolen. It runs them before all its other ready tasks.
     pub(crate) first: Jobs<FIRST>,
-    /// The worker's own jobs, first in, first out. They run after the jobs that were ready before them.
+    /// The worker's own tasks, first in, first out: those that have yielded, or that events have woken.
     pub(crate) line: Jobs<LINE>,
 }
 
 impl Hand {
-    /// Returns true if there is no job in any of the queues.
     pub(crate) fn is_empty(&self) -> bool {
         self.next.is_empty() && self.waits() == 0
     }
 
-    /// Returns the number of jobs in the queues, without the job in `next` (the one to run next).
     pub(crate) fn waits(&self) -> usize {
         self.first.len() + self.line.len()
     }
 
-    /// Takes the first stolen job or, if there is none, the first job of the line. If both queues are empty and `next`
-    /// is true, takes the job that runs next.
+    /// Takes a task of `self.first` or, if that is empty, of `line`. If both are empty and `next` is true, takes
+    /// `self.next`.
     pub(crate) fn take(&self, next: bool) -> Option<Job> {
         let behind = self.first.take(false).or_else(|| self.line.take(false));
         behind.or_else(|| if next { self.next.take(false) } else { None })
     }
 }
 
-/// The memory for one job in a local queue.
 #[derive(Default)]
 struct Slot {
     name: AtomicU64,
@@ -59,14 +55,10 @@ impl Slot {
     }
 }
 
-/// Takes the job in `slot` by advancing `count` from `seen` by one. If another thread has advanced it first, returns
-/// the current count as the error.
-///
-/// If `alone` is true, no other thread takes jobs, so a plain store suffices.
-///
-/// The slot must be read before the count is advanced. The count only grows, and the worker writes a slot again only
-/// after it has seen that the count was advanced past the slot's job. So a thread that advances the count has read one
-/// whole job; a slower thread may have read a mixture of two jobs, and discards it.
+/// Takes the task in `slot` by advancing the queue's `count` from `seen` by one. If another thread has advanced the
+/// count first, returns the current count as the error. If `alone` is true, no other thread takes tasks, and a plain
+/// store suffices. The slot must be read before the count is advanced, because the worker may write the slot again
+/// after that. A thread that then fails to advance the count may have read a mixture of two tasks, and discards it.
 #[inline]
 fn take(count: &AtomicU64, seen: u64, slot: &Slot, alone: bool) -> Result<Job, u64> {
     let job = slot.get();
@@ -77,14 +69,12 @@ fn take(count: &AtomicU64, seen: u64, slot: &Slot, alone: bool) -> Result<Job, u
     count.compare_exchange(seen, seen + 1, AcqRel, Acquire).map(|_| job)
 }
 
-/// The slot for the job that runs next on a worker. The worker puts a job into it, and any thread may take the job.
-///
-/// The slot is on cache lines of its own: the worker writes to it at each wake, while other threads read the worker's
-/// other queues.
+/// The one task that a worker runs next, if any. It has its own cache lines, since the worker writes it at each wake
+/// while other threads read the worker's other queues.
 #[derive(Default)]
 #[repr(align(128))]
 pub(crate) struct Next {
-    /// The number of puts plus the number of takes. It is odd while a job is in the slot.
+    /// The number of tasks put here and taken from here, together. It is odd while a task is here.
     steps: AtomicU64,
     slot: Slot,
 }
@@ -95,7 +85,7 @@ impl Next {
         self.steps.load(Acquire) % 2 == 0
     }
 
-    /// Puts a job into the slot. Returns false, and does nothing, if the slot has a job already.
+    /// Sets `job` to run next. Returns false, and does nothing, if another task is already set.
     #[inline]
     pub(crate) fn put(&self, job: Job) -> bool {
         let steps = self.steps.load(Acquire);
@@ -116,7 +106,7 @@ impl Next {
     }
 }
 
-/// A queue of jobs of one worker. The worker puts jobs into the queue, and any thread may take them.
+/// A queue of up to `ROOM` tasks. The worker that owns it puts them there, and any worker may take them.
 pub(crate) struct Jobs<const ROOM: usize> {
     taken: AtomicU64,
     put: AtomicU64,
@@ -142,7 +132,7 @@ impl<const ROOM: usize> Jobs<ROOM> {
         self.len() == 0
     }
 
-    /// Puts a job at the end of the queue. Returns false, and does nothing, if the queue has `most` jobs already, or no
+    /// Puts `job` at the queue's end. Returns false, and does nothing, if the queue has `most` tasks already, or no
     /// room.
     #[inline]
     pub(crate) fn put(&self, job: Job, most: usize) -> bool {
@@ -155,7 +145,6 @@ impl<const ROOM: usize> Jobs<ROOM> {
         has_room
     }
 
-    /// Takes the first job of this queue.
     #[inline]
     pub(crate) fn take(&self, alone: bool) -> Option<Job> {
         let mut taken = self.taken.load(Acquire);

@@ -1,4 +1,4 @@
-//! A handle on a runtime. Any thread can spawn tasks with it, and it may outlive the runtime.
+//! Handles on a runtime, by which any thread can spawn tasks.
 
 use crate::runtime::{Runtime, Stats};
 use crate::shared::{here, Shared};
@@ -10,15 +10,12 @@ use std::fmt;
 use std::future::Future;
 use std::panic::Location;
 
-/// Each call in progress adds this to the word of a `Door`. The bits from `TURN` on count how often the door was opened
-/// or closed.
+/// The word of a `Door` counts calls in progress and, from the bit `TURN` on, how often the door was opened or closed.
 const CALL: u64 = 1;
 const TURN: u64 = 1 << 32;
 
-/// Lets a `Handle` use its runtime's shared state only while that runtime exists.
-///
-/// The state is reused by a later runtime, which old handles must not reach. So each handle stores the value that
-/// `turns` (how often this door was opened or closed) had when the handle was made.
+/// Lets a `Handle` use its runtime's shared state only while that runtime exists. A later runtime reuses the state, and
+/// old handles must not reach it. So each handle stores the door's count `turns` at the time when the handle was made.
 #[derive(Default)]
 pub(crate) struct Door(AtomicU64);
 
@@ -27,7 +24,7 @@ impl Door {
         self.0.fetch_add(TURN, SeqCst);
     }
 
-    /// Closes the door to new calls of handles, and waits for the calls in progress.
+    /// Closes the door to new calls, and waits for the calls in progress.
     pub(crate) fn close(&self) {
         self.0.fetch_add(TURN, SeqCst);
         while self.0.load(SeqCst) % TURN != 0 {
@@ -35,18 +32,14 @@ impl Door {
         }
     }
 
-    /// Returns how often the door was opened or closed. The count differs between two runtimes that use the same state
-    /// one after the other.
+    /// Returns how often the door was opened or closed. No two runtimes that use the same shared state, one after the
+    /// other, see the same count.
     pub(crate) fn turns(&self) -> u64 {
         self.0.load(SeqCst) / TURN
     }
 
-    /// Calls `call` if the door is open and `turns` is its current count; otherwise returns None.
-    ///
-    /// `turns` counts how often the door was opened or closed, so it is odd while the door is open.
-    ///
-    /// The call must be counted as in progress before `turns` is compared: `close` first changes the count of turns,
-    /// and then waits for the calls in progress.
+    /// Calls `call` if `turns` is the current count, and is odd (the door is open); otherwise returns None. The call
+    /// must be counted before `turns` is compared, because `close` changes `turns`, and then waits for counted calls.
     fn within<T>(&self, turns: u64, call: impl FnOnce() -> T) -> Option<T> {
         struct Leave<'a>(&'a AtomicU64);
         impl Drop for Leave<'_> {
@@ -60,9 +53,10 @@ impl Door {
     }
 }
 
-/// A handle on a runtime, with which any thread can spawn tasks.
+/// A handle on a runtime, by which any thread can spawn tasks. The handle may outlive the runtime.
 ///
-/// A task that the handle spawns after the runtime has ended is dropped at once, and fails with `JoinError::Cancelled`.
+/// A task that is spawned after the runtime has ended is dropped at once, and fails with `JoinError::Cancelled`. There
+/// is no `block_on`: a thread waits for a task as in this example.
 ///
 /// ```
 /// let runtime = arachne::Runtime::new(2);
@@ -87,7 +81,7 @@ impl Handle {
         Handle { shared, turns: shared.door.turns() }
     }
 
-    /// Returns a handle on the current runtime, in whose task, `block_on` or `enter` this is called.
+    /// Returns a handle on the current runtime: that of the calling task, `block_on` or `enter`.
     ///
     /// ```
     /// let runtime = arachne::Runtime::new(1);
@@ -103,7 +97,7 @@ impl Handle {
         Handle::try_current().expect("Handle::current outside of a runtime")
     }
 
-    /// Returns a handle on the current runtime, as `current` does. Returns None outside of a runtime.
+    /// Returns a handle on the current runtime, as `current` does, or None outside of a runtime.
     ///
     /// ```
     /// assert!(arachne::Handle::try_current().is_none());
@@ -135,7 +129,7 @@ impl Handle {
         }
     }
 
-    /// Spawns tasks on the workers in turn, as the function `spawn_balanced` does.
+    /// Spawns a task as the function `spawn_balanced` does.
     ///
     /// ```
     /// let runtime = arachne::Runtime::new(2);
@@ -156,8 +150,7 @@ impl Handle {
         }
     }
 
-    /// Spawns a task. Returns the future in the error if no task slot is free, if other tasks wait for a slot, or if
-    /// the runtime has ended.
+    /// Spawns a task as the function `try_spawn` does. Fails also if the runtime has ended.
     ///
     /// ```
     /// let runtime = arachne::Runtime::new(1);
@@ -197,8 +190,7 @@ impl Handle {
         }
     }
 
-    /// Returns what the workers have counted until now, as `Runtime::stats` does. All counts are zero after the runtime
-    /// has ended.
+    /// Returns the workers' counts, as `Runtime::stats` does. All counts are zero after the runtime has ended.
     ///
     /// ```
     /// let runtime = arachne::Runtime::new(2);
@@ -213,7 +205,6 @@ impl Handle {
     }
 }
 
-/// Makes a task that is cancelled before it begins, and returns the handle on its output.
 fn cancelled<F>(future: F, about: About) -> JoinHandle<F::Output>
 where
     F: Future + Send + 'static,

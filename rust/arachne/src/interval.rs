@@ -1,4 +1,4 @@
-//! An interval, by which a task waits for one tick after another, at a fixed period.
+//! An interval, by which a task waits for ticks at a fixed period.
 
 use crate::block_on::poll_fn;
 use crate::sync::Instant;
@@ -11,15 +11,14 @@ use std::time::Duration;
 /// A tick counts as missed if it comes later than this after the time at which it was due.
 const LATE: Duration = Duration::from_millis(5);
 
-/// Thirty years, used instead of a period that would exceed the clock's range.
+/// Thirty years, in place of a period that would exceed the clock's range.
 const NEVER: Duration = Duration::from_secs(30 * 365 * 86_400);
 
-/// Returns the time `moment + period`, or `moment` plus thirty years if that sum is out of range.
 fn later(moment: Instant, period: Duration) -> Instant {
     moment.checked_add(period).unwrap_or_else(|| moment + NEVER)
 }
 
-/// When the next ticks come after a tick was missed; see `Interval::set_missed_tick_behavior`.
+/// Says when the next ticks come after a missed one; see `Interval::set_missed_tick_behavior`.
 ///
 /// ```
 /// use arachne::MissedTickBehavior;
@@ -37,12 +36,12 @@ fn later(moment: Instant, period: Duration) -> Instant {
 /// ```
 #[derive(Clone, Copy, PartialEq, Eq, Debug, Default)]
 pub enum MissedTickBehavior {
-    /// All missed ticks come at once, one after the other, until the interval has caught up.
+    /// All missed ticks come at once, until the interval has caught up.
     #[default]
     Burst,
-    /// The next tick comes one period after the late tick was returned.
+    /// The next tick comes one period after the late one was returned.
     Delay,
-    /// The missed ticks are left out. The next tick comes a whole number of periods after the late one was due.
+    /// The missed ticks are left out. The next tick is due a whole number of periods after the late one was due.
     Skip,
 }
 
@@ -111,7 +110,7 @@ impl Interval {
         poll_fn(|cx: &mut Context<'_>| self.poll_tick(cx)).await
     }
 
-    /// Polls for the next tick; see `tick`. Only the task that polled last is woken.
+    /// Polls for the next tick; see `tick`. If several tasks poll, only the one that polled last is woken.
     ///
     /// ```
     /// use std::time::Duration;
@@ -168,8 +167,7 @@ impl Interval {
         self.period
     }
 
-    /// Sets when the next ticks come after a tick was missed: by default `Burst`. See the example at
-    /// `MissedTickBehavior`.
+    /// Sets when the next ticks come after a missed one (default: `Burst`). See the example at `MissedTickBehavior`.
     pub fn set_missed_tick_behavior(&mut self, behavior: MissedTickBehavior) {
         self.missed = behavior;
     }

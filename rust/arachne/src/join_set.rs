@@ -11,14 +11,13 @@ use std::fmt;
 use std::future::Future;
 use std::task::{Context, Poll, Wake, Waker};
 
-/// The numbers (keys in the set) of the tasks that have ended, and the waker of the task that waits in `join_next`.
+/// The keys (in the set) of the tasks that have ended and not been joined, and the waker of the task in `join_next`.
 struct Ended {
     numbers: Mutex<VecDeque<u64>>,
     waits: Slot,
 }
 
-/// The waker that a task of the set wakes when it ends. The wake records the task's number, and wakes whoever waits in
-/// `join_next`.
+/// The waker that a task of the set wakes at its end. It records the task's key, and wakes the task in `join_next`.
 struct Tells {
     number: u64,
     ended: Arc<Ended>,
@@ -82,14 +81,13 @@ impl<T> JoinSet<T> {
         JoinSet { tasks: BTreeMap::new(), made: 0, ended }
     }
 
-    /// Returns the number of tasks in the set, including those that have ended but were not joined; see the example at
-    /// `new`.
+    /// Returns the number of tasks in the set, ended or not, that were not joined yet; see the example at `new`.
     #[must_use]
     pub fn len(&self) -> usize {
         self.tasks.len()
     }
 
-    /// Returns true if no task is in the set, not even one that has ended but was not joined; see the example at `new`.
+    /// Returns true if no task is in the set, ended or not; see the example at `new`.
     #[must_use]
     pub fn is_empty(&self) -> bool {
         self.tasks.is_empty()
@@ -132,7 +130,7 @@ impl<T> JoinSet<T> {
         poll_fn(|cx: &mut Context<'_>| self.poll_join_next(cx)).await
     }
 
-    /// Polls for the output of any task that has ended; see `join_next`. Only the task that polled last is woken.
+    /// Polls for the output of any ended task; see `join_next`. A task's end wakes only the task that polled last.
     ///
     /// ```
     /// arachne::Runtime::new(1).block_on(async {
@@ -150,14 +148,14 @@ impl<T> JoinSet<T> {
             return Poll::Ready(None);
         }
         self.ended.waits.set(cx.waker());
-        // This second try is needed after the waker is registered: a task may have ended before, without waking it.
+        // The second try comes after the waker is registered, because a task may have ended just before.
         match self.try_join_next() {
             Some(output) => Poll::Ready(Some(output)),
             None => Poll::Pending,
         }
     }
 
-    /// Returns the output of a task that has ended, and removes the task. Returns None if no task of the set has ended.
+    /// Removes a task that has ended, and returns its output. Returns None if no task of the set has ended.
     ///
     /// ```
     /// arachne::Runtime::new(1).block_on(async {
@@ -177,7 +175,7 @@ impl<T> JoinSet<T> {
         }
     }
 
-    /// Aborts all tasks of the set. The set still contains them: `join_next` returns an error for each.
+    /// Aborts all tasks of the set, which stay in the set until `join_next` has returned their errors.
     ///
     /// ```
     /// arachne::Runtime::new(1).block_on(async {
@@ -206,7 +204,7 @@ impl<T> JoinSet<T> {
         while self.join_next().await.is_some() {}
     }
 
-    /// Removes all tasks from the set without aborting them. They run on, and their outputs are lost.
+    /// Removes all tasks from the set without aborting them. The tasks run on, and their outputs are lost.
     ///
     /// ```
     /// arachne::Runtime::new(1).block_on(async {

@@ -31,13 +31,15 @@
 //! }
 //! ```
 //!
-//! The core is proved: no two workers hold one task at a time, and a waker of a task that has ended wakes no other
-//! task. Whenever no call of the core is in progress, the workers can find every ready task that none of them holds.
-//! The rest of this crate decides which worker runs which task and when a worker sleeps; it is tested, but not proved.
-//! `docs/rust.md` lists the rules that the crate must keep for the proofs to apply to a program.
+//! The library `arachne_exec`, which has the table of tasks and their states, is proved. No two workers run one task at
+//! the same time. A waker of a task that has ended wakes no other task. While no call of the library is in progress,
+//! the workers can find every ready task that none of them has taken.
 //!
-//! Most names are tokio's, or std's. Outside of a runtime `spawn` and `sleep` panic, and a socket that has to wait
-//! returns an error: use them in a task, or in `Runtime::block_on`. Linux, 64 bits, rustc 1.63 or later.
+//! The rest of this crate is tested, but not proved. The proofs apply to a program only if it uses no waker in a signal
+//! handler, or in a child process after `fork`; see `docs/rust.md`.
+//!
+//! Most names are those of tokio or std. The crate needs 64-bit Linux, and rustc 1.63 or later. Outside of a runtime
+//! (of its tasks, `block_on` and `enter`), `spawn` and `sleep` panic, and a socket that has to wait returns an error.
 //!
 //! | Feature | Meaning |
 //! |---|---|

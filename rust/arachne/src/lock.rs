@@ -1,5 +1,4 @@
-//! A lock for tasks and threads. The executor's core decides who holds the lock, and who gets it next: whoever has
-//! waited longest.
+//! A lock for tasks and threads. The proved core decides who holds the lock, and passes it on to the first waiter.
 
 use crate::core::{Asked, Freed, LockCore};
 use crate::reactor::Slot;
@@ -13,16 +12,13 @@ use std::ops::{Deref, DerefMut};
 use std::pin::Pin;
 use std::task::{Context, Poll};
 
-/// A task or thread that waits for the lock, or holds it. The queue of waiters stores a counted reference (an `Arc`) to
-/// this node, as a number.
+/// A waiter or holder of the lock. The core's queue owns an `Arc` of each waiting node.
 struct Node {
     granted: AtomicBool,
     slot: Slot,
 }
 
 /// A lock around a value, for tasks and threads. A task may keep the guard across an `await`.
-///
-/// Waiters get the lock in the order in which they asked for it.
 ///
 /// ```
 /// use std::sync::Arc;
@@ -74,7 +70,7 @@ impl<T: ?Sized> fmt::Debug for Lock<T> {
 }
 
 impl<T: ?Sized> Lock<T> {
-    /// Waits for the lock. The waiters get it in the order of their requests; dropping the future ends its wait.
+    /// Waits for the lock, in the order of the requests. Dropping the future ends its wait.
     ///
     /// ```
     /// let lock = arachne::Lock::new(1);
@@ -97,7 +93,7 @@ impl<T: ?Sized> Lock<T> {
         self.core.try_ask().map(|who| Guard { lock: self, who, _node: None })
     }
 
-    /// Returns the value without taking the lock: nobody else has a reference to it.
+    /// Returns the value without taking the lock, because nobody else has a reference to the lock.
     ///
     /// ```
     /// let mut lock = arachne::Lock::new(1);
@@ -111,8 +107,7 @@ impl<T: ?Sized> Lock<T> {
     fn free(&self, who: u64) {
         if let Freed::HandedOn(next) = self.core.free(who) {
             if next % 2 == 1 {
-                // The next waiter is in the middle of `try_ask`, which now finds that it has the lock; it needs no
-                // wake.
+                // The next waiter is in the middle of `try_ask`, which now finds that it has the lock.
                 return;
             }
             // SAFETY: each waiter has left one count of its node's `Arc` in the queue. The holder that passes the lock
@@ -193,7 +188,7 @@ impl<T: ?Sized> Drop for Locking<'_, T> {
     }
 }
 
-/// Access to the value of a lock, which stays locked until the guard is dropped.
+/// Access to the value of a lock. The lock stays locked until the guard is dropped.
 ///
 /// ```
 /// let lock = arachne::Lock::new(1);
@@ -205,7 +200,7 @@ impl<T: ?Sized> Drop for Locking<'_, T> {
 pub struct Guard<'a, T: ?Sized> {
     lock: &'a Lock<T>,
     who: u64,
-    /// Keeps the node allocated: its address is the name under which the lock is held.
+    /// Keeps the node allocated, because its address identifies the holder of the lock.
     _node: Option<Arc<Node>>,
 }
 // SAFETY: the guard is the only access to the value, on whatever thread.

@@ -1,15 +1,15 @@
-//! Sockets and other descriptors: a task that can't read or write yet waits for an event of the runtime's epoll.
+//! Sockets and other descriptors. A task that can't read or write yet waits for an event of the runtime's epoll.
 //!
-//! A socket belongs to the runtime in which it first had to wait. After that runtime has ended, each wait for the
-//! socket fails, in every runtime; `from_std(socket.into_std()?)` makes a new socket from it.
+//! A socket belongs to the runtime in which it first had to wait. Once that runtime has ended, each wait for the socket
+//! fails, in every runtime; `from_std(socket.into_std()?)` makes a new socket from it.
 //!
-//! Names are those of std. `bind` and `from_std` don't wait, so they aren't `async`. Reads and writes take `&self`, so
-//! tasks may share a socket (by an `Arc`, say). Any number of tasks may wait for one socket in its methods; an event
-//! wakes all of them. If several tasks call `poll_` functions of one direction (reading or writing), or read by the
-//! traits of tokio or futures-io, only the task that polled last is woken.
+//! The names are std's. `bind` and `from_std` don't wait, so they aren't `async`. Reads and writes take `&self`, so
+//! tasks may share a socket, by an `Arc` for example. Any number of tasks may wait for one socket, and an event wakes
+//! all these tasks. But of several tasks that read (or write) by `poll_` functions, or by the traits of tokio or
+//! futures-io, an event wakes only the last.
 //!
-//! Dropping a future of a single operation, such as `read`, `write`, `accept` and `recv_from`, loses no data.
-//! `read_exact` and `write_all` may have moved a part of the bytes by the time they are dropped.
+//! If a future of one operation (such as `read`, `write`, `accept` or `recv_from`) is dropped, no data is lost. If
+//! `read_exact` or `write_all` is dropped, a part of the bytes may have been read or written.
 //!
 //! ```
 //! use arachne::net::{TcpListener, TcpStream};
@@ -51,23 +51,20 @@ pub use unix::{UnixListener, UnixStream};
 #[derive(Clone)]
 struct Registered {
     shared: &'static Shared,
-    /// How often the runtime's `Door` had been opened or closed when this entry was made. If the door's count is
-    /// another one, that runtime has ended.
+    /// The count `Door::turns` of the runtime (handle.rs) when this was made. The count changes when the runtime ends.
     turns: u64,
     io: Arc<Io>,
     key: Key,
 }
 
-/// A descriptor together with its entry in the epoll of a runtime. The entry is made when the descriptor first has to
-/// be waited for.
+/// A descriptor with its entry in a runtime's epoll, which is made when a task first has to wait.
 struct Registration {
     fd: RawFd,
     at: once::Once<Registered>,
     registering: Mutex<()>,
 }
 
-/// The part of a future that waits until a socket can be read (or written, if `READS` is false). Any number of futures
-/// may wait for one socket.
+/// The part of a future that waits until a socket can be read or, if `READS` is false, written.
 struct Waiting<'a, const READS: bool> {
     of: &'a Registration,
     key: u64,
@@ -104,13 +101,12 @@ impl Drop for Registration {
     }
 }
 
-/// A socket with its entry in the epoll. The entry is dropped before the socket is closed.
+/// A socket with its entry in the epoll, which is dropped before the socket is closed.
 struct Source<S: AsRawFd> {
     of: Registration,
     socket: S,
 }
 
-/// A cell that is written once.
 mod once {
     use crate::sync::atomic::{AtomicPtr, Ordering::*};
     use std::ptr;
@@ -133,7 +129,6 @@ mod once {
             unsafe { self.0.load(Acquire).as_ref() }
         }
 
-        /// Writes the value, unless one was written before.
         pub(super) fn set(&self, value: T) {
             let value = Box::into_raw(Box::new(value));
             if self.0.compare_exchange(ptr::null_mut(), value, AcqRel, Acquire).is_err() {
@@ -154,11 +149,9 @@ mod once {
     }
 }
 
-/// Returns true if the task that is polled now may read its socket. If not, the task must first return to its worker,
-/// and may read in its next poll.
-///
-/// A task may read once per poll, and more often until its worker must check for events again. If `waker` isn't the
-/// task's own, as in a `block_on`, returns true, because such a poll doesn't return to the worker.
+/// Returns true if the task that is polled now may read its socket. A task may read once per poll, and more often until
+/// its worker must check for events. If `waker` isn't the task's own, as in a `block_on`, returns true, because such a
+/// poll doesn't return to the worker.
 #[inline]
 fn may_read(waker: &Waker) -> bool {
     Worker::with(|worker| match worker {
@@ -173,12 +166,11 @@ impl<S: AsRawFd> Source<S> {
         Source { of, socket }
     }
 
-    /// Removes the socket from its runtime's epoll, and returns it.
     fn into_inner(self) -> S {
         self.socket
     }
 
-    /// Returns the socket's entry in its runtime's epoll. The first call makes the entry, in the current runtime.
+    /// Returns the socket's entry in the epoll. The first call makes the entry, in the current runtime.
     fn registered(&self) -> io::Result<&Registered> {
         let Registration { at, registering, .. } = &self.of;
         if let Some(at) = at.get() {
@@ -200,8 +192,7 @@ impl<S: AsRawFd> Source<S> {
         Waiting { of: &self.of, key: 0 }
     }
 
-    /// Attempts an operation until it returns anything but `WouldBlock`. Between two attempts it waits until the socket
-    /// is ready; see `attempt`.
+    /// Attempts an operation now and whenever the socket is ready, until it returns anything but `WouldBlock`.
     #[inline]
     fn wait<'a, const READS: bool, T>(
         &'a self,
@@ -218,8 +209,7 @@ impl<S: AsRawFd> Source<S> {
         })
     }
 
-    /// Makes one poll of an operation on the socket; see `attempt`. If several tasks poll one direction (reading or
-    /// writing), only the last of them is woken.
+    /// An event wakes only the task that last polled to read (or to write).
     #[inline]
     fn poll<T>(
         &self,
@@ -233,10 +223,8 @@ impl<S: AsRawFd> Source<S> {
     }
 
     /// Attempts an operation as long as the descriptor is ready; otherwise calls `register` and returns `Pending`.
-    ///
-    /// `len` is the size of the buffer, and `moved` returns the number of bytes that an attempt has moved. An attempt
-    /// that moved fewer than `len` bytes has emptied the socket (or filled it), so the descriptor is no longer ready
-    /// (see epoll(7)).
+    /// `len` is the size of the buffer, and `moved` returns the number of bytes that an attempt has moved. If that is
+    /// less than `len`, the socket is empty (or full), so the descriptor is no longer ready (see epoll(7)).
     #[inline]
     fn attempt<T>(
         &self,
@@ -266,8 +254,7 @@ impl<S: AsRawFd> Source<S> {
         let mut untold = false;
         loop {
             if state & (ready | closed) == 0 {
-                // The waker is registered before the readiness is read again: an event first changes the readiness, and
-                // then wakes the registered wakers.
+                // Read again after the waker is registered, because an event changes the state before it wakes.
                 register(io, cx.waker());
                 state = io.state.load(SeqCst);
                 if state & (ready | closed) == 0 {
@@ -275,8 +262,7 @@ impl<S: AsRawFd> Source<S> {
                         let ended = io::Error::new(io::ErrorKind::Other, "the runtime of this socket has ended");
                         return Poll::Ready(Err(ended));
                     }
-                    // After `shutdown_within` was called, one more attempt is made, to read data whose event has not
-                    // been delivered yet.
+                    // After `shutdown_within` was called, makes one more attempt, for data without an event as yet.
                     if untold || !reads || !at.shared.draining.has_begun() {
                         return Poll::Pending;
                     }
@@ -303,7 +289,7 @@ impl<S: AsRawFd> Source<S> {
     }
 }
 
-/// Looks up the addresses of a host, on a thread for blocking work.
+/// Looks up the addresses of a host, on the blocking pool.
 ///
 /// ```
 /// # fn main() -> std::io::Result<()> {
@@ -320,12 +306,11 @@ pub async fn lookup_host(host: impl ToSocketAddrs + Send + 'static) -> io::Resul
     crate::spawn_blocking(move || host.to_socket_addrs().map(Iterator::collect)).await?
 }
 
-/// The backlog of a listener: the most connections that wait to be accepted. std's is 128; a client that finds the
-/// backlog full tries again after a second.
+/// The most connections that may wait to be accepted. (In std 128; a client beyond that number tries again after a
+/// second.)
 const BACKLOG: i32 = 4096;
 
-/// Polls for a new connection of `listener`. After `shutdown_within` was called, fails once all connections that had
-/// arrived by then are accepted.
+/// After `shutdown_within`, fails once all connections that had arrived are accepted.
 fn poll_accept<S: AsRawFd, T>(
     listener: &Source<S>,
     cx: &mut Context<'_>,
@@ -340,7 +325,7 @@ fn poll_accept<S: AsRawFd, T>(
             return polled;
         }
         if in_own_poll(cx.waker(), |worker| worker.put_off.get()) {
-            // The attempt was delayed: the task makes it in its next poll, for which it is woken here.
+            // The attempt was delayed to the task's next poll, for which the task is woken here.
             cx.waker().wake_by_ref();
             return Poll::Pending;
         }
@@ -352,7 +337,7 @@ fn poll_accept<S: AsRawFd, T>(
     }
 }
 
-/// Waits for a new connection. The task is also woken when `shutdown_within` is called.
+/// Waits for a new connection, or until `shutdown_within` is called.
 async fn accept<S: AsRawFd, T>(listener: &Source<S>, accept: impl Fn(&S) -> io::Result<T>) -> io::Result<T> {
     let (mut stopping, mut waiting) = (crate::drain::stopping(), listener.waiting());
     poll_fn(|cx: &mut Context<'_>| {
@@ -383,8 +368,7 @@ async fn accept<S: AsRawFd, T>(listener: &Source<S>, accept: impl Fn(&S) -> io::
 pub struct Async<S: AsRawFd>(Source<S>);
 
 impl<S: AsRawFd> Async<S> {
-    /// Takes `source`, and makes its descriptor non-blocking. `source` must keep the same descriptor as long as this
-    /// value exists.
+    /// Takes `source`, and makes its descriptor non-blocking. `source` must not change its descriptor afterwards.
     ///
     /// If epoll can't watch the descriptor, the first read or write that has to wait fails, with `PermissionDenied`.
     ///
@@ -402,7 +386,7 @@ impl<S: AsRawFd> Async<S> {
         Ok(Async(Source::new(source)))
     }
 
-    /// Returns the wrapped value. Use it for calls that don't wait; see the example at `new`.
+    /// Returns the wrapped value, for calls that don't wait; see the example at `new`.
     pub fn get_ref(&self) -> &S {
         &self.0.socket
     }
@@ -422,10 +406,8 @@ impl<S: AsRawFd> Async<S> {
     }
 
     /// Calls `attempt` now and whenever the descriptor may be readable, until it returns anything but `WouldBlock`.
-    ///
-    /// See the example at `Async`.
     pub async fn read_with<T>(&self, attempt: impl FnMut(&S) -> io::Result<T>) -> io::Result<T> {
-        // The number of bytes moved isn't known, so the descriptor counts as ready until a call returns `WouldBlock`.
+        // Without a number of bytes, the descriptor counts as ready until a call returns `WouldBlock`.
         self.0.wait::<true, _>(0, attempt, |_| 0).await
     }
 
@@ -447,7 +429,7 @@ impl<S: AsRawFd> Async<S> {
         self.0.wait::<false, _>(0, attempt, |_| 0).await
     }
 
-    /// Polls a read; see `read_with`. Only the task that polled last to read is woken.
+    /// Polls a read; see `read_with`. An event wakes only the task that last polled to read.
     ///
     /// ```
     /// use std::{io::{Read, Write}, os::unix::net::UnixStream};
@@ -468,8 +450,7 @@ impl<S: AsRawFd> Async<S> {
         self.0.poll(cx, true, 0, attempt, |_| 0)
     }
 
-    /// Polls a write; see `write_with`, and the example at `poll_read_with`. Only the task that polled last to write is
-    /// woken.
+    /// Polls a write; see `write_with` and `poll_read_with`. An event wakes only the task that last polled to write.
     pub fn poll_write_with<T>(
         &self,
         cx: &mut Context<'_>,
@@ -485,8 +466,7 @@ impl<S: AsRawFd + fmt::Debug> fmt::Debug for Async<S> {
     }
 }
 
-/// Implements, for each type of socket, the conversions from and to std's socket, and access to the descriptor. `$make`
-/// is an expression for a socket of std, for the example.
+/// Implements conversions and access to the descriptor for a socket type. `$make` is an expression for a socket of std.
 macro_rules! socket {
     ($name:ident, $std:ty, $make:literal) => {
         impl $name {
@@ -518,8 +498,7 @@ macro_rules! socket {
             }
         }
 
-        /// Gives access to socket options for which this type has no method. Don't read or write through the
-        /// descriptor, because the runtime would not notice.
+        /// Gives access to socket options without a method here. Reads and writes by the descriptor bypass the runtime.
         impl AsRawFd for $name {
             fn as_raw_fd(&self) -> RawFd {
                 self.0.socket.as_raw_fd()
@@ -535,8 +514,7 @@ macro_rules! socket {
     };
 }
 
-/// Implements reads and writes, for each type of connection. `$pair` is an expression for two connected sockets, for
-/// the examples.
+/// Implements reads and writes for a connection type. `$pair` makes two connected sockets, for the examples.
 macro_rules! stream {
     ($name:ident, $pair:literal) => {
         impl $name {
@@ -554,7 +532,7 @@ macro_rules! stream {
                 self.0.socket.shutdown(how)
             }
 
-            /// Polls a read; see `read`. Only the task that polled last to read is woken.
+            /// Polls a read; see `read`. An event wakes only the task that last polled to read.
             ///
             /// ```
             /// # fn main() -> std::io::Result<()> {
@@ -570,7 +548,7 @@ macro_rules! stream {
                 self.0.poll(cx, true, len, |mut socket| socket.read(buffer), |&n| n)
             }
 
-            /// Polls a write; see `write`. Only the task that polled last to write is woken.
+            /// Polls a write; see `write`. An event wakes only the task that last polled to write.
             ///
             /// ```
             /// # fn main() -> std::io::Result<()> {
@@ -599,7 +577,7 @@ macro_rules! stream {
             }
 
             /// Waits until there are bytes to read, and reads at most `buffer.len()` of them. Returns the number of
-            /// bytes read. It is 0 if the other side has ended the connection.
+            /// bytes read, which is 0 if the other side has ended the connection.
             ///
             /// ```
             /// # fn main() -> std::io::Result<()> {
@@ -616,8 +594,7 @@ macro_rules! stream {
                 self.0.wait::<true, _>(len, |mut socket| socket.read(buffer), |&n| n).await
             }
 
-            /// Reads until the buffer is full. Fails with `UnexpectedEof` if the connection ends before the buffer is
-            /// full.
+            /// Reads until the buffer is full. Fails with `UnexpectedEof` if the connection ends before that.
             ///
             /// ```
             /// # fn main() -> std::io::Result<()> {

@@ -1,6 +1,7 @@
-//! Records the state of each task of a runtime, and how long ready tasks have waited for a worker. Also calls hooks.
+//! Records the state of each task and how long ready tasks waited for a worker, and calls the program's hooks.
 //!
-//! If a runtime is built without `Builder::observed`, nothing is recorded: each step of a task only tests for that.
+//! Without `Builder::observed` or `Builder::hooks`, nothing is recorded: each poll of a task then costs only one more
+//! test.
 
 use crate::core::Job;
 use crate::shared::Shared;
@@ -12,11 +13,10 @@ use std::panic::Location;
 use std::ptr;
 use std::time::Duration;
 
-/// Functions that the runtime calls when a task is spawned, polled, woken or ended. A tracing library can use them; see
-/// `Builder::hooks`.
+/// Functions that the runtime calls when a task is spawned, polled, woken or ended; for example, for a tracing library.
 ///
 /// Each function is called on the thread that spawns, polls, wakes or ends the task, and must not panic. `_id` is a
-/// number that no other task of the runtime ever has.
+/// number that no other task of the runtime ever has. See `Builder::hooks`.
 ///
 /// ```
 /// use std::sync::{Arc, atomic::{AtomicUsize, Ordering::SeqCst}};
@@ -39,26 +39,24 @@ pub trait Hooks: Send + Sync {
     fn poll_begins(&self, _id: u64, _about: &About) {}
     /// Called when a poll of this task is over. If the task has ended, a call of `ended` follows.
     fn poll_ends(&self, _id: u64) {}
-    /// Called when a task that waited was made ready. `_place` is the index of its task slot.
+    /// Called when a waiting task was made ready. `_place` is the index of its task slot.
     fn woken(&self, _place: usize) {}
     /// Called when the task has ended on a worker.
     fn ended(&self, _id: u64) {}
 }
 
-/// The number of elements of the histogram that `Stats::ready_to_taken` has.
 pub(crate) const HISTOGRAM: usize = 24;
 
 #[derive(Default)]
 struct Record {
     spawned: AtomicPtr<Location<'static>>,
     label: AtomicPtr<Label>,
-    /// The name of the slot's task (its slot and generation) plus one; 0 if there is no task in the slot.
+    /// The identifier of the slot's task plus one; 0 if there is no task in the slot.
     name: AtomicU64,
-    /// The time (in nanoseconds of the monotonic clock) at which the task began to wait; 0 if it doesn't wait.
     waits_since: AtomicU64,
     /// The time (in nanoseconds) at which the task became ready; 0 if it isn't ready.
     ready_since: AtomicU64,
-    /// The time (in nanoseconds) at which the current poll of the task began; 0 if it isn't polled now.
+    /// The time (in nanoseconds) at which the current poll of the task began; 0 if there is none.
     runs_since: AtomicU64,
 }
 
@@ -69,7 +67,7 @@ pub(crate) struct Observer {
     histogram: [AtomicU64; HISTOGRAM],
 }
 
-/// A task's current state: it waits, is ready or runs. See the example at `Runtime::tasks`.
+/// A task's current state; see the example at `Runtime::tasks`.
 #[derive(Clone, Copy, PartialEq, Eq, Debug)]
 #[non_exhaustive]
 pub enum Doing {
@@ -130,7 +128,6 @@ impl Observer {
         }
     }
 
-    /// Records that a poll of the job's task begins, and calls the hook for it.
     #[inline]
     pub(crate) fn begins(&self, job: &Job, about: &About) {
         if self.is_on() {
@@ -154,7 +151,6 @@ impl Observer {
         self.tell(|hooks| hooks.poll_begins(job.name, about));
     }
 
-    /// Records that the poll of the job's task is over. `ended` is true if the task has ended.
     #[inline]
     pub(crate) fn stops(&self, job: &Job, ended: bool) {
         if self.is_on() {
@@ -173,7 +169,6 @@ impl Observer {
         }
     }
 
-    /// Records that the job in the slot with index `place` is ready from now on.
     #[inline]
     pub(crate) fn ready(&self, place: usize) {
         if self.is_on() {
@@ -186,7 +181,6 @@ impl Observer {
         std::array::from_fn(|i| self.histogram[i].load(Relaxed))
     }
 
-    /// Returns all tasks that have not ended. Each is listed with the state that it has while the list is made.
     pub(crate) fn tasks(&self) -> Vec<TaskInfo> {
         let now = now();
         self.records.iter().filter_map(|record| record.info(now)).collect()
@@ -215,8 +209,6 @@ impl Record {
 }
 
 impl Shared {
-    /// Returns the name (slot and generation) of the task that the worker with this number polls now, and its
-    /// description.
     pub(crate) fn running(&self, worker: usize) -> Option<(u64, About)> {
         let worker = &self.workers[worker].0;
         let name = worker.running.load(Relaxed);

@@ -1,12 +1,9 @@
-//! The epoll of a runtime, which reports the events of its sockets. A worker can sleep there, until it is woken.
+//! The epoll of a runtime, which reports the events of its sockets. A worker can sleep in the epoll until it is woken.
 //!
-//! Only one worker at a time waits in the epoll. The tasks that wait for the events that it gets go into its local
-//! queues, in the order of the events. So a worker asks for only as many events as its local queues have room for
-//! (`asks` in worker.rs): at most 8, and fewer if 8 polls of tasks take more than about 100 us. The only active worker
-//! asks for more. All other events stay in the kernel for the next worker that polls the epoll, so that they needn't
-//! wait for a worker that loses its processor; if there may be more events, the worker wakes a sleeping one. A worker
-//! that has ready jobs of its own polls the epoll too. The tasks that it wakes then become ready in their task slots,
-//! unless it is the only active worker.
+//! Only one worker at a time waits in the epoll. This worker asks only for as many events as its local queues have room
+//! for (`asks` in worker.rs). All other events stay in the kernel, so that they aren't delayed if this worker loses its
+//! processor. If there may be more events, the worker wakes a sleeping worker. A worker with ready tasks polls the
+//! epoll too, and makes the tasks that it wakes ready in their task slots, unless only one worker is active.
 
 use crate::sync::atomic::{AtomicU64, AtomicUsize, Ordering::*};
 use crate::sync::{Arc, Condvar, Mutex};
@@ -22,15 +19,13 @@ pub(crate) const WRITE: u64 = 2;
 pub(crate) const READ_CLOSED: u64 = 4;
 pub(crate) const WRITE_CLOSED: u64 = 8;
 const TICK: u64 = 256;
-/// Stored instead of a task's name (slot and generation) if a waker isn't that of a task of this runtime.
+/// Stored in place of a task's identifier if a waker isn't that of a task of this runtime.
 const OTHER: u64 = NOBODY - 1;
 /// The epoll key of the eventfd that ends a wait.
 const WOKEN: u64 = 0;
-/// The most events that one poll of the epoll returns.
 pub(crate) const EVENTS: usize = 64;
 
-/// A waker that waits for one event. For a task of this runtime, only the task's name is stored, in one word and
-/// without a lock. Any other waker is stored under a lock.
+/// Room for one waker, which an event calls. For a task of this runtime, only its identifier is stored, without a lock.
 pub(crate) struct Slot {
     table: usize,
     name: AtomicU64,
@@ -76,31 +71,25 @@ impl Slot {
     }
 }
 
-/// The readiness of a descriptor, and the wakers of the tasks that wait for it.
-///
-/// The bits above the lowest eight count the events, so that a readiness bit is cleared only if no event came after the
-/// bit was read.
+/// The readiness of a descriptor, and the wakers of the tasks that wait for it. The bits above the lowest eight count
+/// the events, so that no readiness bit is cleared after a newer event.
 pub(crate) struct Io {
     pub(crate) state: AtomicU64,
-    /// The waker of the last call of a `poll_` function that reads; each call replaces it.
+    /// The waker of the last `poll_` call that reads; each call replaces it.
     pub(crate) reader: Slot,
-    /// The waker of the last call of a `poll_` function that writes; each call replaces it.
     pub(crate) writer: Slot,
-    /// The wakers of the futures that wait to read, any number of them.
     pub(crate) readers: Waiters,
-    /// The wakers of the futures that wait to write, any number of them.
     pub(crate) writers: Waiters,
 }
 
-/// The futures that wait for one direction (reading or writing) of a descriptor. An event wakes all of these futures.
+/// The futures that wait to read a descriptor, or those that wait to write it. An event wakes them all.
 pub(crate) struct Waiters {
     table: usize,
-    /// The name (slot and generation) of one task of this runtime that waits, stored without a lock. It may remain
-    /// after the task's future was dropped.
+    /// The identifier of one waiting task of this runtime, stored without a lock. The identifier stays there if the
+    /// task stops waiting.
     first: AtomicU64,
-    /// The number of wakers in `others`.
     count: AtomicUsize,
-    /// The key that the next waker gets, and the other wakers with their keys.
+    /// The key that the next waker gets, and the wakers of the other futures with their keys.
     others: Mutex<(u64, Vec<(u64, Waker)>)>,
 }
 
@@ -109,10 +98,8 @@ impl Waiters {
         Waiters { table, first: AtomicU64::new(NOBODY), count: AtomicUsize::new(0), others: Mutex::default() }
     }
 
-    /// Registers a future's waker. The caller must pass a `key` of 0 at first, and later the value that the previous
-    /// call has left in it.
-    ///
-    /// The caller must read the descriptor's state after this call: an event first changes the state, and then wakes.
+    /// Registers a future's waker. `key` must be 0 at first, and later the value that the last call has left in it. The
+    /// caller must then read the descriptor's state, because an event changes the state before it wakes the futures.
     #[inline]
     pub(crate) fn join(&self, key: &mut u64, waker: &Waker) {
         if *key == 0 {
@@ -146,7 +133,6 @@ impl Waiters {
         self.count.store(waiting.len(), SeqCst);
     }
 
-    /// Removes the waker of a future that is dropped.
     pub(crate) fn leave(&self, key: u64) {
         let mut others = self.others.lock().unwrap();
         let left = others.1.iter().position(|(of, _)| *of == key).map(|at| others.1.swap_remove(at));
@@ -189,7 +175,7 @@ impl Io {
         }
     }
 
-    /// Clears `bits` in the state, unless an event came after the caller had read `seen`. Returns the new state.
+    /// Clears `bits` in the state, unless an event came after the state was read as `seen`.
     #[inline]
     pub(crate) fn clear(&self, seen: u64, bits: u64) -> u64 {
         match self.state.compare_exchange(seen, seen & !bits, SeqCst, SeqCst) {
@@ -225,15 +211,14 @@ impl Io {
     }
 }
 
-/// The registered descriptors, by key. Each use of an index has its own key, so a late event of a removed descriptor
-/// finds none.
+/// A removed descriptor's key isn't used again, so a late event finds nothing.
 #[derive(Default)]
 struct Sources {
     all: Vec<(u32, Option<Arc<Io>>)>,
     free: Vec<u32>,
 }
 
-/// The events that one call of epoll_wait has returned. All other events stay in the kernel, in their order.
+/// The events that one call of epoll_wait has returned; `asked` is the most that it could return.
 pub(crate) struct Found {
     events: [Event; EVENTS],
     count: usize,
@@ -249,7 +234,6 @@ impl Found {
         found
     }
 
-    /// Returns true if the kernel may have more events.
     pub(crate) fn is_full(&self) -> bool {
         self.count == self.asked
     }
@@ -261,13 +245,13 @@ impl Found {
 
 pub(crate) struct Reactor {
     epoll: RawFd,
-    /// The eventfd by which `notify` ends a wait in the epoll. It stays raised until the worker that waits has seen it.
+    /// The eventfd by which `notify` ends a wait in the epoll. The eventfd stays raised until a worker has seen it.
     event: RawFd,
     used: AtomicUsize,
     sources: Mutex<Sources>,
 }
 
-/// The key of a descriptor in a reactor: an index, and how often that index was used before.
+/// The key of a descriptor: an index, and how many earlier descriptors had that index.
 #[derive(Clone, Copy)]
 pub(crate) struct Key(u64);
 
@@ -283,7 +267,7 @@ impl Reactor {
         self.used.load(Relaxed) != 0
     }
 
-    /// Wakes the worker that waits in this epoll. If none waits, the next wait ends at once.
+    /// Wakes the worker that waits in this epoll. If no worker waits, the next wait ends at once.
     pub(crate) fn notify(&self) {
         sys::raise(self.event);
     }
@@ -332,7 +316,7 @@ impl Reactor {
         io.as_ref().filter(|_| *uses as u64 == data >> 32).cloned()
     }
 
-    /// Wakes all tasks that wait for any descriptor of this reactor, although there was no event.
+    /// Wakes all tasks that wait for a descriptor of this reactor, although there was no event.
     pub(crate) fn wake_all(&self) {
         let sources: Vec<_> = self.sources.lock().unwrap().all.iter().filter_map(|(_, io)| io.clone()).collect();
         for io in sources {
@@ -341,15 +325,13 @@ impl Reactor {
         }
     }
 
-    /// Returns at most `most` of the events that have occurred. Doesn't wait.
+    /// Returns at most `most` of the events that have occurred, without waiting.
     pub(crate) fn look(&self, most: usize) -> Found {
         Found::of(self.epoll, 0, most)
     }
 
-    /// Waits for events or for `notify`, for at most `timeout` milliseconds (-1: for ever).
-    ///
-    /// Only one worker at a time may wait. If more than `most` events have occurred, the event of `notify` may not be
-    /// among the returned ones; then it ends the next wait, too.
+    /// Waits for events or for `notify`, for at most `timeout` milliseconds (-1: for ever). Only one worker at a time
+    /// may wait. If more than `most` events have occurred, `notify` may end the next wait, too.
     pub(crate) fn wait(&self, timeout: i32, most: usize) -> Found {
         let found = Found::of(self.epoll, timeout, most);
         if found.events[..found.count].iter().any(|event| event.data == WOKEN) {
@@ -358,7 +340,7 @@ impl Reactor {
         found
     }
 
-    /// Wakes the tasks that wait for the events `found`. Returns how many descriptors had an event.
+    /// Wakes the tasks that wait for the events `found`.
     pub(crate) fn tell(&self, found: &Found) -> usize {
         let sockets = found.events[..found.count].iter().filter(|event| event.data != WOKEN);
         sockets
@@ -370,7 +352,6 @@ impl Reactor {
     }
 }
 
-/// A condition variable on which a worker sleeps while another worker waits in the epoll.
 #[derive(Default)]
 pub(crate) struct Bell {
     rung: Mutex<bool>,
@@ -378,13 +359,13 @@ pub(crate) struct Bell {
 }
 
 impl Bell {
-    /// Wakes the worker that sleeps on this bell. If it doesn't sleep, its next sleep ends at once.
+    /// Wakes the worker that sleeps on this bell. If no worker sleeps, the next sleep ends at once.
     pub(crate) fn ring(&self) {
         *self.rung.lock().unwrap() = true;
         self.heard.notify_one();
     }
 
-    /// Waits for at most `timeout` milliseconds (-1: for ever). Returns true if the bell was rung since the last wait.
+    /// Returns true if the bell was rung since the last wait.
     pub(crate) fn wait(&self, timeout: i32) -> bool {
         let rung = self.rung.lock().unwrap();
         let silent = |rung: &mut bool| !*rung;

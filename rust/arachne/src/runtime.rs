@@ -23,11 +23,10 @@ use std::mem::ManuallyDrop;
 use std::panic::Location;
 use std::time::Duration;
 
-/// The most jobs (tasks) that a worker may hold at a time: the one that runs, the next one and one that takes its
-/// place, and those in the worker's two local queues.
+/// The most tasks that one worker can hold at a time: the one that it runs, the one that it runs next, one that takes
+/// the latter's place, and those of its two local queues.
 const HANDS: usize = 3 + crate::worker::HAND + crate::hand::FIRST;
 
-/// The closure given to `Builder::on_worker_start`. Each thread that polls tasks calls it before its first task.
 type Starts = Arc<dyn Fn() + Send + Sync>;
 
 /// Configures a runtime, and builds it.
@@ -62,11 +61,7 @@ impl fmt::Debug for Builder {
 }
 
 impl Builder {
-    /// Returns a builder for a runtime of `cores` workers (kernel threads), with the default settings. If `cores` is 0,
-    /// there is one worker; if it is more than 64, there are 64.
-    ///
-    /// `available_cores()` returns the number of processors that the process may use.
-    ///
+    /// Returns a builder with the default settings, for `cores` workers (kernel threads): at least 1, at most 64.
     /// ```
     /// let runtime = arachne::Builder::new(3).build().unwrap();
     /// assert_eq!(runtime.stats().workers.len(), 3);
@@ -88,11 +83,10 @@ impl Builder {
         }
     }
 
-    /// Sets the number of task slots, which is the most tasks that can run or wait at a time. The default is 65,536,
-    /// the maximum 1,048,576.
+    /// Sets the number of task slots: the most tasks that can run or wait at a time. The default is 65,536.
     ///
-    /// The number is rounded up so that each worker has a multiple of 4,096 slots. A task for which no slot is free
-    /// waits in a queue until another task ends; `try_spawn` returns an error instead.
+    /// The maximum is 1,048,576. The number is rounded up so that each worker has a multiple of 4,096 slots. If no slot
+    /// is free, a spawned task waits in a queue until another task ends; `try_spawn` returns an error instead.
     ///
     /// ```
     /// let runtime = arachne::Builder::new(1).places(4096).build().unwrap();
@@ -106,7 +100,7 @@ impl Builder {
         self
     }
 
-    /// Sets a policy by which the number of active workers follows the load. Without a policy, all workers are active.
+    /// Sets a policy, which decides by the load how many workers may run tasks. Without a policy, all may.
     ///
     /// ```
     /// let runtime = arachne::Builder::new(4).policy(arachne::Policy::default()).build().unwrap();
@@ -119,16 +113,15 @@ impl Builder {
         self
     }
 
-    /// Shares the machine's processors with other processes, through the daemon (`rust/arbiter`) that listens at
-    /// `path`.
+    /// Shares the machine's processors with other processes, by the daemon (`rust/arbiter`) that listens at `path`.
     ///
-    /// The daemon, called the *arbiter*, grants processors, and each worker waits until it has one; only the first
-    /// worker also runs without. The runtime asks the arbiter for as many processors as its policy wants or, without a
-    /// policy, for one per worker. `priority` is from 0 (served first) to 7. Until the runtime has `reserved`
-    /// processors (at most 65,535), other runtimes get no more than their own reserves.
+    /// The daemon, called the *arbiter*, grants processors to workers. A worker without a processor waits, but the
+    /// first worker runs even then. The runtime asks for as many processors as its policy wants or, without a policy,
+    /// for one per worker. `priority` is from 0 (served first) to 7. Until the runtime has `reserved` processors (at
+    /// most 65,535), other runtimes get no more than their own reserves.
     ///
-    /// If no arbiter listens at `path`, or if the arbiter refuses, the runtime works as without this call, and tries
-    /// again each second, or 30 seconds after the arbiter has refused.
+    /// If no arbiter listens at `path`, or if the arbiter refuses the runtime, the runtime works as without this call.
+    /// The runtime tries again each second or, after a refusal, each 30 seconds.
     ///
     /// ```
     /// let builder = arachne::Builder::new(4).arbiter("/run/arachne-arbiter.sock", 0, 1);
@@ -140,8 +133,7 @@ impl Builder {
         self
     }
 
-    /// If `pin` is true, keeps each worker on a processor of its own. With an arbiter this has no effect, as the
-    /// arbiter does that.
+    /// If `pin` is true, keeps each worker on a processor of its own. With an arbiter this has no effect.
     ///
     /// ```
     /// let runtime = arachne::Builder::new(2).pinned(true).build().unwrap();
@@ -155,11 +147,9 @@ impl Builder {
         self
     }
 
-    /// Sets the time slice that workers request from Linux (6.12 and later): 100 us by default, which is Linux's
-    /// minimum.
+    /// Sets the time slice that workers request from Linux: 100 microseconds by default; with None, they request none.
     ///
-    /// A thread with a shorter slice gets a processor sooner after it wakes. None leaves the system's slice (some 3
-    /// ms), which is better for tasks that compute for long while other threads are busy.
+    /// A thread with a shorter slice gets a processor sooner after a wake. A longer slice suits long computations.
     ///
     /// ```
     /// let runtime = arachne::Builder::new(2).slices(None).build().unwrap();
@@ -201,8 +191,7 @@ impl Builder {
         self
     }
 
-    /// Records as `observed` does, and also calls the functions of `hooks` when tasks are spawned, polled, woken or
-    /// ended; see `Hooks`.
+    /// Records as `observed` does, and also calls the functions of `hooks`; see `Hooks`.
     ///
     /// ```
     /// struct Prints;
@@ -220,11 +209,11 @@ impl Builder {
         self
     }
 
-    /// Calls `starts` on each thread that polls tasks, before the thread's first task. These threads are the workers,
-    /// and the watcher of `watch_polls`.
+    /// Calls `starts` on each thread that polls tasks, before the thread's first poll. These threads are the workers
+    /// and the watcher of `watch_polls`. A panic in `starts` ends the process.
     ///
-    /// The function can set up thread-locals that tasks expect, such as tokio's: `std::mem::forget(handle.enter())` for
-    /// the handle of a runtime of tokio that runs beside this one. A panic in the function ends the process.
+    /// Use `starts` to set up thread-locals that tasks expect. For the thread-locals of tokio, call
+    /// `std::mem::forget(handle.enter())`, with the handle of a tokio runtime.
     ///
     /// ```
     /// use std::cell::Cell;
@@ -237,12 +226,12 @@ impl Builder {
         self
     }
 
-    /// Starts a watcher thread, which detects polls that take longer than `longer` and lessens their effect on other
-    /// tasks.
+    /// Starts a watcher thread, which detects polls that take longer than `longer`. `Stats::slow_polls` is their
+    /// number. If `log` is true, each such poll is reported on the standard error stream.
     ///
-    /// `Stats::slow_polls` counts these polls and, if `log` is true, each is reported on the standard error stream.
-    /// While the poll lasts, the watcher takes over the other ready tasks, the sockets and the timers of the worker
-    /// that is in the poll.
+    /// While a worker is in a slow poll, other workers or the watcher run that worker's other tasks, and handle its
+    /// sockets and timers. If all workers are in slow polls, the watcher runs ready tasks itself, until a poll of its
+    /// own blocks, too.
     ///
     /// ```
     /// use std::time::Duration;
@@ -263,9 +252,8 @@ impl Builder {
 
     /// Starts the workers, and returns the runtime.
     ///
-    /// Fails if memory, descriptors or threads are refused, or if the process has 32 runtimes already. A runtime that
-    /// has ended still counts until another one reuses its memory, which needs the same number of workers and of task
-    /// slots and the same `observed`.
+    /// Fails if the system refuses memory, descriptors or threads, or if the process has 32 runtimes already. An ended
+    /// runtime counts until a new one with as many workers and task slots, and the same `observed`, reuses its memory.
     ///
     /// ```
     /// # fn main() -> std::io::Result<()> {
@@ -347,16 +335,15 @@ impl Builder {
 #[derive(Clone, Debug, Default)]
 #[non_exhaustive]
 pub struct Stats {
-    /// The number of active workers (those that may run tasks). With an arbiter it is at least 1, even if the first
-    /// worker has no processor of its own.
+    /// The number of workers that may run tasks now, at least 1.
     pub active: usize,
-    /// True if an arbiter decides now how many workers may be active.
+    /// True if an arbiter (a daemon) decides now how many workers may run tasks.
     pub arbiter: bool,
     /// The number of polls of tasks since the runtime began.
     pub polls: u64,
-    /// The number of tasks that ended on a worker.
+    /// The number of tasks that ended on a worker since the runtime began.
     pub ended: u64,
-    /// The number of times that a worker stole jobs from another.
+    /// The number of times that a worker stole tasks from another.
     pub takes: u64,
     /// The number of times that a worker slept.
     pub parks: u64,
@@ -366,19 +353,18 @@ pub struct Stats {
     pub adds: u64,
     /// The number of times that the policy gave a core back.
     pub removes: u64,
-    /// The time for which cores were active, summed over all cores. Only counted with a policy.
+    /// The time for which workers were allowed to run tasks, summed over all workers; 0 without a policy.
     pub core_time: Duration,
     /// The number of polls that took longer than the limit of `Builder::watch_polls`.
     pub slow_polls: u64,
-    /// The number of polls that the watcher made for workers that were stuck in a long poll.
+    /// The number of polls that the watcher of `watch_polls` made itself, because all workers were in long polls.
     pub rescued: u64,
-    /// The counts of each worker.
+    /// Each worker's counts since the runtime began, such as polls and steals. The index is the worker's number.
     pub workers: Vec<WorkerStats>,
-    /// A histogram of the times for which ready tasks waited until a worker took them; empty unless the runtime is
-    /// observed.
+    /// A histogram of how long ready tasks waited for a worker; empty without `Builder::observed` or `Builder::hooks`.
     ///
-    /// Element i counts the times from 2^(i-1) up to 2^i microseconds. Element 0 counts those below one microsecond,
-    /// and the last element all longer ones.
+    /// Element 0 counts the waits below one microsecond, element i those from 2^(i-1) up to 2^i microseconds, and the
+    /// last element all longer ones.
     pub ready_to_taken: Vec<u64>,
 }
 
@@ -397,7 +383,7 @@ pub struct WorkerStats {
     pub polls: u64,
     /// The number of tasks that ended on this worker.
     pub ended: u64,
-    /// The number of times that this worker stole jobs from another.
+    /// The number of times that this worker stole tasks from another.
     pub takes: u64,
     /// The number of times that this worker woke a waiting task.
     pub wakes: u64,
@@ -409,8 +395,8 @@ pub struct WorkerStats {
 
 /// A runtime: worker threads that run tasks.
 ///
-/// Dropping a runtime ends it as `shutdown` does. If one of the runtime's own tasks, or a closure on its blocking pool,
-/// drops the runtime, another thread ends it, and the drop returns at once.
+/// Dropping a runtime ends it as `shutdown` does. If a task of the runtime, or a closure on its blocking pool, drops
+/// it, the drop returns at once, and another thread ends the runtime.
 ///
 /// ```
 /// let runtime = arachne::Runtime::new(4);
@@ -445,8 +431,7 @@ impl Runtime {
         Builder::new(cores).build().expect("a runtime")
     }
 
-    /// Spawns a task on this runtime; any thread may call this. Returns a handle, which is a future of the task's
-    /// output.
+    /// Spawns a task on this runtime, from any thread. Returns a handle, which is a future of the task's output.
     ///
     /// ```
     /// let runtime = arachne::Runtime::new(2);
@@ -462,7 +447,7 @@ impl Runtime {
         self.shared.spawn_task(future, About { spawned: Location::caller(), name: None }, false)
     }
 
-    /// Like `spawn`, but gives such tasks to the workers in turn; see the function `spawn_balanced`.
+    /// Like `spawn`, but gives the tasks to the workers in turn; see the function `spawn_balanced`.
     ///
     /// ```
     /// let runtime = arachne::Runtime::new(2);
@@ -527,7 +512,7 @@ impl Runtime {
         self.shared.try_spawn_task(future, About { spawned: Location::caller(), name: None })
     }
 
-    /// Returns a handle on this runtime, with which any thread can spawn tasks, and which may outlive the runtime.
+    /// Returns a handle, by which any thread can spawn tasks on this runtime. The handle may outlive the runtime.
     ///
     /// ```
     /// let runtime = arachne::Runtime::new(1);
@@ -540,9 +525,9 @@ impl Runtime {
         Handle::of(self.shared)
     }
 
-    /// Runs a future on the calling thread. Its spawns, sockets and timers belong to this runtime.
+    /// Runs a future on the calling thread. The future's spawns, sockets and timers belong to this runtime.
     ///
-    /// In a task use `await` instead: this call would block the task's worker. See the function `block_on`.
+    /// In a task use `await` instead, because this call would block the task's worker. See the function `block_on`.
     ///
     /// ```
     /// let runtime = arachne::Runtime::new(2);
@@ -564,7 +549,7 @@ impl Runtime {
         entered(self.shared, f)
     }
 
-    /// Returns what the workers have counted since the runtime began.
+    /// Returns the workers' counts since the runtime began.
     ///
     /// ```
     /// let runtime = arachne::Runtime::new(2);
@@ -607,8 +592,7 @@ impl Runtime {
         }
     }
 
-    /// Returns all tasks that have not ended, with their current states. The list is empty unless the runtime was built
-    /// with `Builder::observed` or `Builder::hooks`.
+    /// Returns all tasks that have not ended, with their states; none without `Builder::observed` or `Builder::hooks`.
     ///
     /// ```
     /// let runtime = arachne::Builder::new(1).observed().build().unwrap();
@@ -627,7 +611,7 @@ impl Runtime {
     }
 
     /// Makes the process write the list of `tasks` to its standard error stream whenever it gets `signal` (10 is
-    /// SIGUSR1).
+    /// SIGUSR1). Fails if `Signal::heard` does, or if no thread can be started.
     ///
     /// ```no_run
     /// # fn main() -> std::io::Result<()> {
@@ -654,9 +638,8 @@ impl Runtime {
 
     /// Ends the runtime: drops all tasks that have not ended, and joins the runtime's threads.
     ///
-    /// After this call, no task is polled any more. The tasks are dropped on the calling thread, and their handles
-    /// return `Cancelled`. The call waits, without a limit, for polls in progress and for closures that run on the
-    /// blocking pool. To let tasks finish first, use `shutdown_within`.
+    /// Tasks are dropped on the calling thread, and their handles return `Cancelled`. The call waits without a limit
+    /// for polls in progress and closures on the blocking pool. Use `shutdown_within` to let tasks finish first.
     ///
     /// ```
     /// let runtime = arachne::Runtime::new(1);
@@ -668,8 +651,7 @@ impl Runtime {
         drop(self);
     }
 
-    /// Ends the runtime as `shutdown` does. If `until` is given, returns at that time at the latest, even if blocking
-    /// work still runs.
+    /// Ends the runtime. If `until` is given, waits for closures of `spawn_blocking` until then at most.
     pub(crate) fn end(&mut self, until: Option<Instant>) {
         if self.ended {
             return;
@@ -705,11 +687,9 @@ impl Runtime {
     }
 }
 
-/// The time between two searches for tasks that blocking work has spawned since the runtime's end.
+/// The time between two searches of an ended runtime for tasks that closures of `spawn_blocking` have spawned there.
 const LOOK: Duration = Duration::from_millis(10);
 
-/// Waits until the blocking work that outlives its runtime has ended. Only then may a later runtime reuse the state of
-/// this one.
 fn end_later(shared: &'static Shared) {
     while !shared.blocking.wait_for_end(LOOK) {
         end_spawned(shared);
@@ -718,7 +698,7 @@ fn end_later(shared: &'static Shared) {
     shared.give();
 }
 
-/// Ends the tasks that blocking work has spawned after the runtime's end, since that work may wait for them.
+/// Ends the tasks that closures of `spawn_blocking`, which may wait for them, have spawned after the runtime's end.
 fn end_spawned(shared: &'static Shared) {
     if shared.live() != 0 {
         entered(shared, || end_all(shared));
@@ -738,8 +718,7 @@ impl Drop for Runtime {
     }
 }
 
-/// Aborts the process if it is dropped by a panic. A panic in a worker's own loop would lose the jobs that the worker
-/// holds.
+/// Aborts the process when dropped: a worker's own loop has panicked, so the worker's tasks would be lost.
 struct EndsTheProcess;
 impl Drop for EndsTheProcess {
     fn drop(&mut self) {
@@ -748,10 +727,7 @@ impl Drop for EndsTheProcess {
     }
 }
 
-/// Ends all tasks that have not ended.
-///
-/// No worker runs any more, but other threads may still be in the middle of a wake or a spawn. So this function
-/// searches the tables again and again, until as many tasks have ended as were spawned.
+/// Ends all tasks that have not ended. Searches repeatedly, since other threads may be waking or spawning tasks.
 fn end_all(shared: &'static Shared) {
     loop {
         end_queued(shared);
@@ -763,7 +739,6 @@ fn end_all(shared: &'static Shared) {
     }
 }
 
-/// Ends the tasks that wait in the queue and never got a task slot.
 fn end_queued(shared: &'static Shared) {
     loop {
         let raw = match shared.queue.lock().unwrap().pop_front() {
@@ -777,7 +752,7 @@ fn end_queued(shared: &'static Shared) {
     }
 }
 
-/// Makes all blocked tasks ready, and then ends all ready tasks.
+/// Ends all tasks that are in a task slot: makes the blocked ones ready, and then ends the ready ones.
 fn end_placed(shared: &'static Shared) {
     let mut jobs = Vec::new();
     with_hands(shared, |hands| {

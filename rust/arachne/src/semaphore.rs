@@ -1,4 +1,4 @@
-//! A semaphore that gives its permits in the order of the requests. Its names and results are those of tokio's.
+//! A semaphore with the names and results of tokio's. It gives permits in the order of the requests.
 
 use crate::reactor::Slot;
 use crate::shared::here;
@@ -23,7 +23,7 @@ struct State {
     line: VecDeque<Arc<Node>>,
 }
 
-/// A number of permits that tasks can take and give back. A task that wants more than there are waits.
+/// A number of permits that tasks can take and give back. A task waits if it wants more permits than are left.
 ///
 /// ```
 /// use std::sync::Arc;
@@ -108,7 +108,7 @@ impl Semaphore {
         Semaphore { state: Mutex::new(State { permits, ..State::default() }) }
     }
 
-    /// Returns how many permits are left, even if a task waits for more than that; see the example at `new`.
+    /// Returns how many permits are left, even if a task waits for more; see the example at `new`.
     #[must_use]
     pub fn available_permits(&self) -> usize {
         self.state.lock().unwrap().permits
@@ -127,8 +127,7 @@ impl Semaphore {
         self.acquire_many(1)
     }
 
-    /// Waits until it can take `wants` permits together, in the order of the requests. Fails if the semaphore is
-    /// closed.
+    /// Waits for `wants` permits together, in the order of the requests. Fails if the semaphore is closed.
     ///
     /// ```
     /// let permits = arachne::Semaphore::new(5);
@@ -228,9 +227,7 @@ impl Semaphore {
         self.grant(state);
     }
 
-    /// Closes the semaphore. Tasks that wait for permits get an error, and so do later requests.
-    ///
-    /// Permits that tasks already have stay valid.
+    /// Closes the semaphore: waiting tasks and later requests get an error. Permits that tasks already have stay valid.
     ///
     /// ```
     /// let permits = arachne::Semaphore::new(1);
@@ -251,8 +248,7 @@ impl Semaphore {
         self.state.lock().unwrap().closed
     }
 
-    /// Gives the permits in `state` to the first waiters, as long as they suffice, releases the lock, and then wakes
-    /// these waiters.
+    /// Gives permits to the first waiters as long as they suffice, releases the lock, and then wakes these waiters.
     fn grant(&self, mut state: crate::sync::MutexGuard<'_, State>) {
         let mut granted = Vec::new();
         while state.line.front().map_or(false, |node| node.wants <= state.permits) {
@@ -353,7 +349,7 @@ pub struct SemaphorePermit<'a> {
     count: usize,
 }
 
-/// Like `SemaphorePermit`, but from a semaphore in an `Arc`, so the permits can be moved to another task.
+/// Like `SemaphorePermit`, but from a semaphore in an `Arc`, so that it can be moved to another task.
 ///
 /// ```
 /// let permits = std::sync::Arc::new(arachne::Semaphore::new(1));
@@ -376,8 +372,7 @@ macro_rules! permit {
         }
 
         impl $($permit)* {
-            /// Drops this value, but keeps its permits from the semaphore for ever; see the example at
-            /// `SemaphorePermit`.
+            /// Drops this value without giving the permits back; see the example at `SemaphorePermit`.
             pub fn forget(mut self) {
                 self.count = 0;
             }

@@ -29,70 +29,63 @@ pub use explored::{forget_runtimes, forget_thread, set_active};
 /// The most runtimes that a process may have at a time: each runtime needs a table of waker functions.
 pub(crate) const TABLES: usize = 32;
 
-/// A number that no worker has.
 pub(crate) const NO_ONE: usize = usize::MAX;
 
 #[allow(clippy::declare_interior_mutable_const)]
 const NO_TABLE: AtomicPtr<Shared> = AtomicPtr::new(ptr::null_mut());
 static ALL: [AtomicPtr<Shared>; TABLES] = [NO_TABLE; TABLES];
-/// The number of `Shared` made so far, and those of them that no runtime uses now.
-///
-/// A `Shared` is never freed, because a program may keep a waker for ever.
+/// The number of `Shared` made so far, and those that no runtime uses now. None is ever freed, because a waker may
+/// refer to it.
 static POOL: Mutex<(usize, Vec<&'static Shared>)> = Mutex::new((0, Vec::new()));
 
-/// The state that a runtime's kernel threads share: the job table, the epoll, the workers, and which of them sleep.
 pub(crate) struct Shared {
     pub(crate) table: usize,
     pub(crate) root: Mutex<Root>,
     pub(crate) workers: Box<[Line<Worker>]>,
     pub(crate) reactor: Reactor,
-    /// The number of the worker that waits in the epoll; `NO_ONE` if none waits there.
+    /// The number of the worker that waits in the epoll, or `NO_ONE`. It changes when a worker begins or ends that
+    /// wait.
     pub(crate) waits: Line<AtomicUsize>,
-    /// The number of the *deputy*, the worker that polls the epoll now and then while the worker in `waits` runs tasks;
-    /// `NO_ONE` if there is none.
+    /// The number of the *deputy*, or `NO_ONE`: a sleeping worker that polls the epoll now and then, in case the worker
+    /// in `waits` has no processor.
     pub(crate) deputy: Line<AtomicUsize>,
-    /// The time, in nanoseconds, at which a worker that runs tasks last polled the epoll.
     pub(crate) looked: Line<AtomicU64>,
-    /// Milliseconds between two checks, by the *deputy* (the worker that polls the epoll now and then), for other
-    /// workers in a long poll.
+    /// The milliseconds after which the worker `deputy` next looks for workers that stay in one poll of a task.
     pub(crate) rests: AtomicI32,
-    /// Milliseconds between two checks, by the worker that waits in the epoll, for other workers in a long poll.
+    /// The milliseconds after which the worker that waits in the epoll next looks for workers that stay in one poll.
     pub(crate) pauses: AtomicI32,
-    /// Nanoseconds between two checks of the first worker by the second, while only the first has a processor;
-    /// otherwise 0.
+    /// While only the first worker may run tasks: the nanoseconds after which the second next reads whether the first
+    /// is still in the same poll of a task. Otherwise 0.
     pub(crate) covers: Line<AtomicU64>,
     /// For each shard (64 blocks of 64 task slots), a bit mask of its blocks that may have a free slot.
     pub(crate) roomy: Box<[Line<AtomicU64>]>,
-    /// For each task slot, the name (slot and generation) of the last task that waited there. The runtime's end finds
-    /// the waiting tasks by these names.
+    /// For each task slot, the identifier of the last task that waited there to be woken. The runtime's end finds these
+    /// tasks by it.
     pub(crate) names: Box<[AtomicU64]>,
-    /// A bit mask of the workers that sleep. It is used only to choose which worker to wake.
+    /// A bit for each worker, set while it sleeps or is about to. It decides which worker is woken.
     pub(crate) sleepers: Line<AtomicU64>,
-    /// The number of workers that search for work. It is used only to decide if another worker must be woken.
+    /// The number of workers that search for work at present. While it isn't 0, `rouse_any` wakes no worker.
     pub(crate) searching: Line<AtomicUsize>,
-    /// The number of workers that may run tasks: the first `active` ones.
+    /// The number of workers that may run tasks, which are those with the lowest numbers. The policy or an arbiter
+    /// changes it.
     pub(crate) active: Line<AtomicUsize>,
     /// Tasks that wait for a free task slot, and have not begun.
     pub(crate) queue: Mutex<VecDeque<Raw>>,
-    /// The number of tasks in `queue`.
     pub(crate) queued: Line<AtomicUsize>,
-    /// True if no task in `queue` can get a task slot before another task ends.
+    /// True from when no slot was free for a task in `queue` until a task ends.
     pub(crate) clogged: AtomicBool,
     pub(crate) stop: AtomicBool,
     pub(crate) next_home: AtomicUsize,
-    /// The timers of threads that are no workers. The first worker fires these timers.
+    /// The timers that threads other than workers have set. The first worker fires them.
     pub(crate) visitors: Timers,
     pub(crate) blocking: Pool,
     pub(crate) observer: Observer,
     pub(crate) draining: Draining,
     pub(crate) door: Door,
-    /// The number of tasks that were spawned by threads that are not workers.
+    /// The number of tasks that threads other than workers have spawned in this runtime.
     pub(crate) spawned: Line<AtomicU64>,
-    /// Two counts of background tasks, for which `shutdown_within` doesn't wait: those that were spawned, and those
-    /// whose future was dropped.
+    /// Two counts of tasks of `spawn_background` in this runtime: those spawned, and those whose future was dropped.
     pub(crate) background: (AtomicU64, AtomicU64),
-    /// The runtime's connections to an arbiter, by which processes share the machine's processors; unused without an
-    /// arbiter.
     pub(crate) arbiter: Client,
     pub(crate) counts: Counts,
 }
@@ -108,26 +101,20 @@ pub(crate) struct Counts {
     pub(crate) ended_elsewhere: AtomicU64,
 }
 
-/// The part of a worker's state that other threads read. Only the worker itself writes its counts.
+/// The part of a worker's state that other threads read. Only the worker itself writes the counts.
 pub(crate) struct Worker {
     pub(crate) bell: Bell,
     pub(crate) hand: Hand,
     pub(crate) timers: Timers,
-    /// True while the worker's core is given back to the policy or the arbiter. The worker then waits on the condition
-    /// variable.
+    /// True while the worker has given its core back, and so may run no tasks.
     pub(crate) given_back: (Mutex<bool>, Condvar),
-    /// True if the worker has no core, and has made all jobs in its local queues ready for other workers.
     pub(crate) away: AtomicBool,
-    /// The shards (64 blocks of 64 task slots each) whose jobs this worker runs. In the calls of the core, a shard is
-    /// named by its index modulo `NUMBERS`.
+    /// The shards (4,096 task slots each) whose tasks this worker runs while it may run tasks.
     pub(crate) shards: Box<[usize]>,
-    /// The number of the worker's shards (groups of 4,096 task slots), counted from the first, that have ever had a
-    /// task. The number only grows. Searches for jobs skip the other shards.
+    /// The number of `shards`, counted from the first, that have been used for tasks so far.
     pub(crate) used: AtomicUsize,
-    /// The index of the block (of 64 task slots) in which the next task gets its slot, if the block has a free one.
+    /// The index of the block (64 task slots) in which the next spawned task first gets a slot, if one is free there.
     pub(crate) roomy: Line<AtomicUsize>,
-    /// The core's handles by which the worker asks if it may sleep, one for each shard number (index modulo `NUMBERS`)
-    /// of its shards. Another thread that runs this worker's jobs uses them too, so there is a lock.
     pub(crate) parking: Mutex<Vec<Parking>>,
     pub(crate) polls: AtomicU64,
     pub(crate) spawned: AtomicU64,
@@ -135,22 +122,17 @@ pub(crate) struct Worker {
     pub(crate) takes: AtomicU64,
     pub(crate) wakes: AtomicU64,
     pub(crate) parks: AtomicU64,
-    /// How often the worker has counted its ready jobs for the policy.
+    /// The number of times that the worker has counted its ready tasks, from which the policy gets their average.
     pub(crate) scans: AtomicU64,
-    /// The sum of the ready jobs in all the counts of `scans`.
     pub(crate) runnable: AtomicU64,
-    /// For how many nanoseconds the worker had no work, since the runtime began.
+    /// The nanoseconds for which the worker had no work, since the runtime began.
     pub(crate) idle: AtomicU64,
     /// The time, in nanoseconds, at which the worker ran out of work; 0 if it has work.
     pub(crate) idle_since: AtomicU64,
-    /// The file `schedstat` of the worker's thread in `/proc`: it shows for how long the thread ran, and for how long
-    /// it waited for a processor.
     pub(crate) account: Mutex<Option<File>>,
-    /// The name (slot and generation) of the task that is polled now. The watcher of slow polls reads it.
+    /// The identifier of the task that the worker polls now, or `NOBODY`. The watcher of slow polls reads it.
     pub(crate) running: AtomicU64,
-    /// The line of code that spawned the task in `running`. The watcher of slow polls reads it.
     pub(crate) site: AtomicPtr<Location<'static>>,
-    /// The label (the name given by the program) of the task in `running`. The watcher of slow polls reads it.
     pub(crate) label: AtomicPtr<Label>,
 }
 
@@ -189,7 +171,6 @@ impl Worker {
         }
     }
 
-    /// Records which task this worker begins to poll, so that the watcher of slow polls can report it.
     #[inline]
     pub(crate) fn begins(&self, name: u64, about: &About) {
         self.site.store(about.spawned as *const _ as *mut _, Relaxed);
@@ -197,19 +178,17 @@ impl Worker {
         self.running.store(name, Relaxed);
     }
 
-    /// Returns the worker's shards (groups of 4,096 task slots) in which there may be tasks.
     #[inline]
     pub(crate) fn used_shards(&self) -> &[usize] {
         &self.shards[..self.used.load(Relaxed)]
     }
 
-    /// Returns for how many nanoseconds the worker had no work, from the runtime's beginning until `now`.
+    /// Returns the nanoseconds for which the worker had no work, from the runtime's beginning until `now`.
     pub(crate) fn idle_time(&self, now: u64) -> u64 {
         let since = self.idle_since.load(Relaxed);
         self.idle.load(Relaxed) + if since == 0 { 0 } else { now.saturating_sub(since) }
     }
 
-    /// Records that the worker has work again, and returns the current time.
     pub(crate) fn ends_idling(&self) -> u64 {
         let now = now();
         add(&self.idle, now.saturating_sub(self.idle_since.swap(0, Relaxed)));
@@ -226,7 +205,6 @@ impl Worker {
     }
 }
 
-/// Returns the `Shared` whose index in the table of runtimes is `table`; None if it was never made.
 #[inline]
 pub(crate) fn shared_of(table: usize) -> Option<&'static Shared> {
     // SAFETY: a `Shared` that was stored there is never freed.
@@ -234,10 +212,8 @@ pub(crate) fn shared_of(table: usize) -> Option<&'static Shared> {
 }
 
 impl Shared {
-    /// Returns a `Shared` with these numbers of workers and shards that no runtime uses: one of an ended runtime, or a
-    /// new one.
-    ///
-    /// Fails if there are 32 and none of them is unused and of that size, or if memory or descriptors are refused.
+    /// Returns the state of an ended runtime with the same arguments, to be used again, or else a new one. Fails if the
+    /// process has 32 already, or if memory or descriptors are refused.
     pub(crate) fn get(workers: usize, shards: usize, observed: bool) -> io::Result<&'static Shared> {
         let mut pool = POOL.lock().unwrap();
         let alike =
@@ -258,7 +234,7 @@ impl Shared {
         Ok(shared)
     }
 
-    /// Makes a new `Shared`, which is never freed. Returns None if memory for the table is refused.
+    /// Creates the state of a runtime. Returns None if memory for its task slots is refused.
     fn make(table: usize, workers: usize, shards: usize, observed: bool) -> io::Result<Option<&'static Shared>> {
         let mut root = match Root::new(shards) {
             Some(root) => root,
@@ -342,38 +318,30 @@ impl Shared {
         (self.spawned.0.load(SeqCst) + self.sum(|worker| &worker.spawned)) as i64
     }
 
-    /// Returns how many tasks of the runtime were spawned and have not ended.
     pub(crate) fn live(&self) -> u64 {
         let ended = self.ended();
         (self.spawned() - ended).max(0) as u64
     }
 
-    /// Returns how many tasks `shutdown_within` must wait for: all that have not ended, except those of
-    /// `spawn_background`.
-    ///
-    /// The number is never too low, even while tasks begin and end. A background task is counted in `spawned` before it
-    /// is counted in `background.0`, and in `background.1` before it is counted in `ended`. So this function must read
-    /// the counts in the reverse order.
+    /// Returns how many tasks have not ended, without those of `spawn_background`. A background task is counted in
+    /// `spawned`, `background.0`, `background.1` and `ended`, in this order. Reading these counts in the reverse order
+    /// keeps the result from being too low while tasks begin and end.
     pub(crate) fn awaited(&self) -> u64 {
         let ended = self.ended() - self.background.1.load(SeqCst) as i64;
         let background = self.background.0.load(SeqCst) as i64;
         (self.spawned() - background - ended).max(0) as u64
     }
 
-    /// Returns true if nobody waits for events of this runtime any more, because it has ended or is about to end. The
-    /// caller passes the count of its `Door` (how often it was opened or closed) from the runtime's beginning.
-    ///
-    /// In a poll of one of this runtime's own tasks, returns false for a runtime that is about to end: the task will be
-    /// dropped instead.
+    /// Returns true if this runtime has ended or is about to end, so that no worker waits for events any more. `turns`
+    /// is the count of the runtime's `Door` when the runtime began. If the runtime is about to end, still returns false
+    /// on the runtime's own workers, because the runtime will drop the tasks that they poll.
     pub(crate) fn has_ended(&self, turns: u64) -> bool {
         let in_own_task = || Context::with(|worker| worker.map_or(false, |worker| ptr::eq(worker.shared, self)));
         self.door.turns() != turns || self.stop.load(SeqCst) && !in_own_task()
     }
 
-    /// Wakes the tasks that still wait for sockets and timers of this runtime, which has ended. These tasks run in
-    /// another runtime or in blocking work.
-    ///
-    /// After this call, a wait for a socket of this runtime fails, and a sleep continues in the runtime that polls it.
+    /// Wakes the tasks of other runtimes, and the closures of `spawn_blocking`, that wait for sockets and timers of
+    /// this ended runtime. A wait for a socket then fails, and a sleep continues in the runtime that polls it.
     pub(crate) fn let_go(&self) {
         self.reactor.wake_all();
         let timers = self.workers.iter().map(|worker| &worker.0.timers);
@@ -382,20 +350,18 @@ impl Shared {
         }
     }
 
-    /// Lets a later runtime use this state. The caller must make sure that no thread of the ended runtime uses it any
-    /// more.
+    /// Lets a later runtime use this state, which no thread of the ended runtime may use any more.
     pub(crate) fn give(&'static self) {
         POOL.lock().unwrap().1.push(self);
     }
 
-    /// Returns the worker that owns the task slot with index `place`.
     #[inline]
     pub(crate) fn home(&self, place: usize) -> usize {
         place / (BLOCK * SHARD) % NUMBERS % self.workers.len()
     }
 
-    /// Returns the worker that runs the jobs of `worker` and fires its timers. This is `worker` itself if it has a
-    /// core, and otherwise another worker.
+    /// Returns the worker that runs the tasks of `worker` and fires its timers: itself if it may run tasks, otherwise
+    /// another.
     #[inline]
     pub(crate) fn keeper(&self, worker: usize) -> usize {
         let active = self.active.0.load(SeqCst);
@@ -413,22 +379,18 @@ pub(crate) struct Context {
     pub(crate) me: usize,
     pub(crate) hands: Hands,
     pub(crate) worker: &'static Worker,
-    /// True if no other thread ever steals from this worker's local queues.
+    /// True if the runtime has no thread that could steal tasks from this worker's local queues.
     pub(crate) alone: bool,
-    /// The name (slot and generation) of the task that this worker polls now.
+    /// The identifier of the task that this worker polls now, or `NOBODY`.
     pub(crate) current: Cell<u64>,
-    /// True if the task that this worker polls now was woken by its own poll.
     pub(crate) woken: Cell<bool>,
-    /// The number of reads of sockets that the current poll has made.
     pub(crate) reads: Cell<u32>,
-    /// True if a read of a socket in the current poll was delayed to the task's next poll.
+    /// True if, in the current poll, the task has tried to read a socket and must do so in its next poll instead.
     pub(crate) put_off: Cell<bool>,
-    /// The time, in nanoseconds, at which this worker last checked sockets, timers and other workers, or had no work.
+    /// The time, in nanoseconds, at which this worker last polled the epoll and fired timers, or had no work.
     pub(crate) looked: Cell<u64>,
-    /// True if a job that this worker wakes runs next on this worker. If false, `room` decides where the job goes.
+    /// True if a task that this worker wakes runs next on it; false while it fires timers and reads events.
     pub(crate) keeps: Cell<bool>,
-    /// If `keeps` is false: how many more woken jobs may go into this worker's local queue. All others become ready in
-    /// their task slots, and no worker is woken to help with them.
     pub(crate) room: Cell<usize>,
     random: Cell<u64>,
 }
@@ -467,7 +429,6 @@ impl Context {
         call(unsafe { context.as_ref() })
     }
 
-    /// Calls `f`; until it returns, this is the context of the calling thread.
     pub(crate) fn enter<R>(&self, f: impl FnOnce() -> R) -> R {
         struct Leave;
         impl Drop for Leave {
@@ -480,10 +441,8 @@ impl Context {
         f()
     }
 
-    /// Returns true if the current poll may read a socket: it may do so once, and more often until the worker must
-    /// check for events.
-    ///
-    /// This keeps a task whose socket always has more data from occupying its worker for ever.
+    /// Returns true if the current poll may read a socket: always once, and then until the worker must poll the epoll
+    /// again. So a task whose socket always has data doesn't occupy its worker for ever.
     #[inline]
     pub(crate) fn may_read(&self) -> bool {
         let reads = self.reads.replace(self.reads.get() + 1);
@@ -512,13 +471,12 @@ pub(crate) fn here() -> Option<&'static Shared> {
     ENTERED.with(Cell::get).or_else(|| Context::with(|worker| worker.map(|w| w.shared)))
 }
 
-/// Returns true if this thread is a worker of the runtime, or has entered it.
 pub(crate) fn is_own(shared: &Shared) -> bool {
     let is_it = |at: Option<&'static Shared>| at.map_or(false, |at| ptr::eq(at, shared));
     is_it(ENTERED.with(Cell::get)) || is_it(Context::with(|worker| worker.map(|w| w.shared)))
 }
 
-/// Calls `f` on this thread. The spawns, sockets and timers of `f` belong to the runtime `shared`.
+/// Calls `f`. The tasks, sockets and timers that it creates belong to the runtime `shared`.
 pub(crate) fn entered<R>(shared: &'static Shared, f: impl FnOnce() -> R) -> R {
     struct Leave(Option<&'static Shared>);
     impl Drop for Leave {
@@ -530,7 +488,7 @@ pub(crate) fn entered<R>(shared: &'static Shared, f: impl FnOnce() -> R) -> R {
     f()
 }
 
-/// The handles (*seats*) by which a thread that is no worker calls the core, one for each runtime.
+/// The handles by which this thread calls the proved core of each runtime in which it is no worker.
 struct Visitor {
     seats: Vec<Option<Hands>>,
 }
@@ -545,7 +503,6 @@ impl Drop for Visitor {
     }
 }
 
-/// Calls `call` with a handle of the core, for a thread that is no worker of the runtime.
 pub(crate) fn with_hands<R>(shared: &'static Shared, call: impl FnOnce(&Hands) -> R) -> R {
     let mut call = Some(call);
     let visited = SEATS.try_with(|visitor| {
@@ -563,8 +520,7 @@ pub(crate) fn with_hands<R>(shared: &'static Shared, call: impl FnOnce(&Hands) -
     match (visited, call) {
         (Ok(Some(result)), _) => result,
         (_, Some(call)) => {
-            // The thread is ending, so its handles are gone, or they are in use. In both cases new handles are made for
-            // this call only.
+            // The thread is ending and has dropped its handles, or they are in use. So this call makes new ones.
             let mut root = shared.root.lock().unwrap_or_else(|e| e.into_inner());
             let hands = root.crew(1, 1).and_then(|mut crew| crew.pop()).expect("no memory for a seat");
             let result = call(&hands);

@@ -10,10 +10,10 @@ use std::panic::Location;
 use std::pin::Pin;
 use std::task::{self as std_task, Poll};
 
-/// A worker gets this many tasks from threads that are no workers, before the next worker gets as many.
+/// A thread that is no worker spawns this many tasks in a row on one worker, and then as many on the next one.
 const IN_A_ROW: usize = 16;
 
-/// The error of `try_spawn`: no task slot is free. The error contains the future, which was not spawned.
+/// The error of `try_spawn`, which contains the future that was not spawned.
 ///
 /// ```
 /// let runtime = arachne::Builder::new(1).places(1).build().unwrap();     // rounded up to 4,096
@@ -38,7 +38,7 @@ impl<F> fmt::Debug for Refused<F> {
     }
 }
 
-/// The future of a background task. When it is dropped, it is counted in `Shared::background`.
+/// The future of a task of `spawn_background`. Its drop raises the second count of `Shared::background`.
 struct Background<F> {
     future: F,
     _counted: Counted,
@@ -61,11 +61,8 @@ impl<F: Future> Future for Background<F> {
 }
 
 impl Shared {
-    /// Puts a task into a free task slot of the worker with the number `worker`. Returns `Full` if that worker has
-    /// none.
-    ///
-    /// Consecutive tasks go to different blocks of 64 slots: the state words of neighbouring slots share a cache line,
-    /// and two workers that wake the tasks there would contend for it.
+    /// Puts a task into a free task slot of the worker with this number. Consecutive tasks go to different blocks of 64
+    /// slots, so that their wakes don't contend for a cache line.
     pub(crate) fn spawn_at(&self, hands: &Hands, worker: usize, raw: Raw, keep: bool) -> Spawned {
         let (shards, next) = (&*self.workers[worker].0.shards, &self.workers[worker].0.roomy.0);
         let hint = next.load(Relaxed);
@@ -88,8 +85,7 @@ impl Shared {
                 let (bit, at) = (bits & bits.wrapping_neg(), shard * SHARD + bits.trailing_zeros() as usize);
                 let mut spawned = hands.spawn(at, raw, keep);
                 if spawned == Spawned::Full {
-                    // The bit must be cleared before the second try: a thread that frees a slot first frees it, and
-                    // then sets the bit.
+                    // The bit is cleared before the second try: a thread that frees a slot sets the bit afterwards.
                     roomy.fetch_and(!bit, SeqCst);
                     spawned = hands.spawn(at, raw, keep);
                     if spawned != Spawned::Full {
@@ -106,11 +102,8 @@ impl Shared {
         Spawned::Full
     }
 
-    /// Puts a new task into a free task slot. If no slot is free, or if other tasks wait for one, puts it into the
-    /// queue.
-    ///
-    /// The slot is one of the calling worker's, if that worker has a free one. If `balanced` is true, or if the calling
-    /// thread is no worker, the workers get the tasks in turn.
+    /// Puts a new task into a free task slot or, if no slot is free or other tasks wait for one, into the queue. A
+    /// worker first tries its own slots. If `balanced` is true or the caller is no worker, workers get tasks in turn.
     #[inline]
     pub(crate) fn spawn(&'static self, raw: Raw, balanced: bool) {
         if !self.place_new(raw, balanced) {
@@ -118,8 +111,7 @@ impl Shared {
         }
     }
 
-    /// Counts a new task, and puts it into a task slot. Returns false if no slot is free, or if other tasks wait for
-    /// one.
+    /// Returns false if no slot is free, or if other tasks wait for one.
     #[inline]
     fn place_new(&'static self, raw: Raw, balanced: bool) -> bool {
         Context::with(|worker| match worker {
@@ -160,8 +152,7 @@ impl Shared {
         }
     }
 
-    /// Puts a new task into a slot of the first worker that has a free one, starting at worker number `home`. Returns
-    /// false if no worker has a free slot.
+    /// Puts a new task into a slot of the first worker, from `home` on, that has a free one.
     fn spawn_among(&self, hands: &Hands, home: usize, raw: Raw) -> bool {
         if self.queued.0.load(Relaxed) != 0 {
             return false;
@@ -183,8 +174,7 @@ impl Shared {
             self.queued.0.fetch_add(1, SeqCst);
         }
         self.counts.queued.fetch_add(1, Relaxed);
-        // The worker must be woken after the task was counted: before a worker sleeps, the last thing that it checks is
-        // this count.
+        // Wakes a worker only after the task was counted: a worker checks this count last before it sleeps.
         self.rouse_any();
     }
 
@@ -210,7 +200,6 @@ impl Shared {
         handle
     }
 
-    /// Like `spawn_task`, but returns the future in the error if no task slot is free.
     pub(crate) fn try_spawn_task<F>(&'static self, future: F, about: About) -> Result<JoinHandle<F::Output>, Refused<F>>
     where
         F: Future + Send + 'static,
@@ -231,10 +220,9 @@ impl Shared {
     }
 }
 
-/// Spawns a task on the runtime of the calling task or `block_on`. Returns a handle, which is a future of the task's
-/// output.
+/// Spawns a task on the runtime of the caller. Returns a handle, which is a future of the task's output.
 ///
-/// The task runs next on this worker. If the current poll takes long, another worker may run it.
+/// If a task calls this, the new task runs next on the same worker, or on another one if the caller's poll takes long.
 ///
 /// ```
 /// let sum = arachne::Runtime::new(2).block_on(async {
@@ -276,8 +264,7 @@ where
     here().expect("spawn outside of a runtime").spawn_task(future, about, false)
 }
 
-/// Spawns tasks as `spawn` does, but gives them to the workers in turn. Use it for tasks that live long, such as those
-/// of connections.
+/// Spawns tasks as `spawn` does, but gives them to the workers in turn. This is for tasks that live long.
 ///
 /// ```
 /// # async fn serve(_: arachne::net::TcpStream) {}
@@ -323,12 +310,10 @@ where
     here().expect("try_spawn outside of a runtime").try_spawn_task(future, about)
 }
 
-/// Like `spawn`, but for a task that doesn't end by itself, such as one that sweeps a store.
+/// Like `spawn`, but for a task that doesn't end by itself, such as one that removes old entries from a cache.
 ///
-/// `Runtime::shutdown_within` doesn't wait for such a task: it drops the task when the other tasks have ended, or at
-/// the deadline. `shutdown_within` does wait for tasks that the background task spawns, unless they are spawned by this
-/// function too.
-///
+/// `Runtime::shutdown_within` doesn't wait for this task. The task is dropped when the others have ended, or at the
+/// deadline. `shutdown_within` does wait for the tasks that this one spawns by other functions, such as `spawn`.
 /// ```
 /// use std::time::Duration;
 /// let runtime = arachne::Runtime::new(1);

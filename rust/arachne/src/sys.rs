@@ -1,6 +1,6 @@
-//! The calls of Linux that the crate needs: epoll, eventfd, sockets, affinity, time slices, a shared page.
+//! The system calls that the crate needs: epoll, eventfd, sockets, affinity, time slices, a shared page.
 //!
-//! The calls are declared by hand, with the types of Linux's C library on 64 bits. The functions around them are safe.
+//! The calls are declared by hand, with the types of Linux's C library on 64 bits, and wrapped in safe functions.
 
 use crate::sync::atomic::{AtomicI32, AtomicU32, Ordering::*};
 use crate::sync::{clock, told, wait as wait_in};
@@ -66,7 +66,7 @@ struct Header {
     flags: i32,
 }
 
-/// A control message that carries a descriptor: its length, SOL_SOCKET, SCM_RIGHTS, and the descriptor.
+/// A control message that carries a descriptor over a socket: length, SOL_SOCKET, SCM_RIGHTS, and the descriptor.
 #[derive(Default)]
 #[repr(C)]
 struct Rights {
@@ -107,7 +107,6 @@ pub(crate) fn new_event() -> io::Result<RawFd> {
     checked(unsafe { eventfd(0, CLOSE_ON_EXEC | NON_BLOCKING) })
 }
 
-/// Returns a new eventfd as a file. Dropping the file closes the eventfd.
 pub(crate) fn new_event_file() -> io::Result<File> {
     // SAFETY: the descriptor is new, and nobody else has it.
     Ok(unsafe { File::from_raw_fd(new_event()?) })
@@ -128,9 +127,7 @@ pub(crate) fn unwatch(epoll: RawFd, fd: RawFd) {
     unsafe { epoll_ctl(epoll, DELETE, fd, &mut Event { events: 0, data: 0 }) };
 }
 
-/// Waits for events, for at most `timeout` milliseconds (-1: for ever).
-///
-/// Returns the number of events written to `events`, which is 0 if the call was interrupted.
+/// Waits for events, for at most `timeout` milliseconds (-1: for ever). Returns how many events came: 0 if interrupted.
 pub(crate) fn wait(epoll: RawFd, events: &mut [Event], timeout: i32) -> usize {
     wait_in(epoll, timeout, |timeout| {
         // SAFETY: the kernel writes at most as many events as the slice has, and any bytes are a valid event.
@@ -138,7 +135,6 @@ pub(crate) fn wait(epoll: RawFd, events: &mut [Event], timeout: i32) -> usize {
     })
 }
 
-/// Raises an eventfd, which makes its descriptor readable.
 pub(crate) fn raise(event: RawFd) {
     let one = 1u64.to_ne_bytes();
     // SAFETY: there are eight bytes for the kernel to read.
@@ -146,14 +142,13 @@ pub(crate) fn raise(event: RawFd) {
     told();
 }
 
-/// Resets an eventfd to 0, after which the epoll no longer reports it.
+/// Resets an eventfd to 0, so that the epoll no longer reports it.
 pub(crate) fn lower(event: RawFd) {
     let mut count = [0; 8];
     // SAFETY: there is room for eight bytes.
     unsafe { read(event, count.as_mut_ptr(), 8) };
 }
 
-/// Makes reads and writes of a descriptor return `WouldBlock` instead of waiting.
 pub(crate) fn set_nonblocking(fd: RawFd) -> io::Result<()> {
     const GET_FLAGS: i32 = 3;
     const SET_FLAGS: i32 = 4;
@@ -163,13 +158,13 @@ pub(crate) fn set_nonblocking(fd: RawFd) -> io::Result<()> {
     checked(unsafe { fcntl(fd, SET_FLAGS, flags | NON_BLOCKING) }).map(drop)
 }
 
-/// Changes the backlog (the most connections that wait to be accepted) of a socket that listens already.
+/// Changes the backlog (the most connections that wait to be accepted) of a socket that listens.
 pub(crate) fn listen(fd: RawFd, backlog: i32) -> io::Result<()> {
     // SAFETY: all arguments are numbers.
     checked(unsafe { listen_call(fd, backlog) }).map(drop)
 }
 
-/// Starts a connection to an address. Returns a non-blocking socket, whose connection may still be in progress.
+/// Returns a non-blocking socket, which may not be connected yet.
 pub(crate) fn start_connect(to: &std::net::SocketAddr) -> io::Result<RawFd> {
     let mut bytes = [0u8; 28];
     bytes[2..4].copy_from_slice(&to.port().to_be_bytes());
@@ -188,7 +183,7 @@ pub(crate) fn start_connect(to: &std::net::SocketAddr) -> io::Result<RawFd> {
     begin_connect(family, &mut bytes[..len])
 }
 
-/// Like `start_connect`, to a Unix socket's path. Fails with `WouldBlock` if the listener's backlog is full.
+/// Fails with `WouldBlock` if the listener's backlog is full.
 pub(crate) fn connect_unix(path: &Path) -> io::Result<RawFd> {
     let (path, mut bytes) = (path.as_os_str().as_bytes(), [0u8; 110]);
     // The path must be followed by a zero byte.
@@ -199,7 +194,6 @@ pub(crate) fn connect_unix(path: &Path) -> io::Result<RawFd> {
     begin_connect(1, &mut bytes[..3 + path.len()])
 }
 
-/// Starts a connection to the address in `address`. The first two bytes of `address` must be `family`.
 fn begin_connect(family: u16, address: &mut [u8]) -> io::Result<RawFd> {
     address[..2].copy_from_slice(&family.to_ne_bytes());
     // SAFETY: all arguments are numbers.
@@ -225,7 +219,7 @@ pub(crate) fn now() -> u64 {
     })
 }
 
-/// Returns the processors that the calling thread may run on, or none if the call fails.
+/// Returns the processors that the calling thread may run on; none if the call fails.
 pub(crate) fn affinity() -> Vec<usize> {
     let mut mask = [0u64; 16];
     // SAFETY: the mask has 128 bytes.
@@ -236,13 +230,11 @@ pub(crate) fn affinity() -> Vec<usize> {
     (0..1024).filter(|cpu| mask[cpu / 64] >> (cpu % 64) & 1 == 1).collect()
 }
 
-/// Keeps the calling thread on the processor `cpu`. Returns true if the call succeeds.
 pub(crate) fn pin(cpu: usize) -> bool {
     set_affinity(0, &[cpu])
 }
 
-/// Keeps a thread of this process on the processors `cpus`; thread 0 is the calling thread. Returns true if the call
-/// succeeds.
+/// Keeps a thread of this process (0: the calling one) on the processors `cpus`.
 pub(crate) fn set_affinity(thread: u32, cpus: &[usize]) -> bool {
     let mut mask = [0u64; 16];
     cpus.iter().for_each(|cpu| mask[cpu / 64 % 16] |= 1 << (cpu % 64));
@@ -250,12 +242,10 @@ pub(crate) fn set_affinity(thread: u32, cpus: &[usize]) -> bool {
     unsafe { sched_setaffinity(thread as i32, 128, mask.as_ptr()) == 0 }
 }
 
-/// Returns the id by which the kernel knows the calling thread.
 pub(crate) fn thread_number() -> Option<u32> {
     std::fs::read_link("/proc/thread-self").ok()?.file_name()?.to_str()?.parse().ok()
 }
 
-/// Receives 16 bytes from a socket, and the descriptor that was sent with them, if there was one.
 pub(crate) fn receive_with(socket: RawFd) -> io::Result<([u8; 16], Option<File>)> {
     const ALL: i32 = 0x100;
     const CLOSE_FD_ON_EXEC: i32 = 0x4000_0000;
@@ -279,10 +269,7 @@ pub(crate) fn receive_with(socket: RawFd) -> io::Result<([u8; 16], Option<File>)
     Ok((bytes, has_fd.then(|| unsafe { File::from_raw_fd(rights.fd) })))
 }
 
-/// Maps the first number of a file that another process writes. The new page replaces the one at `at`, which an earlier
-/// call of this function has mapped.
-///
-/// If `at` is null, the kernel chooses the address.
+/// The new page replaces the page at `at`, which an earlier call has mapped, unless `at` is null.
 pub(crate) fn map_page(file: &File, at: *mut AtomicU32) -> io::Result<*mut AtomicU32> {
     const PAGE: usize = 4096;
     const READ: i32 = 1;
@@ -311,13 +298,10 @@ extern "C" fn handler(number: i32) {
     }
 }
 
-/// The signals that a fault raises: SIGILL, SIGBUS, SIGFPE and SIGSEGV.
-///
-/// If a handler of such a signal returned, the failed instruction would be executed again, for ever.
+/// The signals of faults (SIGILL, SIGBUS, SIGFPE, SIGSEGV). If a handler returned, the fault would occur again.
 const FAULTS: [i32; 4] = [4, 7, 8, 11];
 
-/// Makes the signal `number` raise the eventfd `event`, in place of its previous action. Fails for a signal that a
-/// fault raises.
+/// Fails for a signal of a fault.
 pub(crate) fn raise_at(number: i32, event: RawFd) -> io::Result<()> {
     const INVALID: i32 = 22;
     if FAULTS.contains(&number) {
@@ -333,7 +317,7 @@ pub(crate) fn raise_at(number: i32, event: RawFd) -> io::Result<()> {
     }
 }
 
-/// Clears an eventfd that is raised. Returns false if the eventfd isn't raised.
+/// Clears an eventfd. Returns false if the eventfd isn't raised.
 pub(crate) fn take_event(event: RawFd) -> bool {
     let mut count = [0; 8];
     // SAFETY: there is room for eight bytes.
@@ -355,8 +339,7 @@ pub(crate) fn await_event(event: RawFd) -> bool {
     }
 }
 
-/// Waits for at most `nanos` nanoseconds until one of two descriptors is readable or has failed. Returns for each of
-/// them if it is so.
+/// Waits for at most `nanos` nanoseconds until one of two descriptors is readable or has failed.
 pub(crate) fn readable(fds: [RawFd; 2], nanos: u64) -> [bool; 2] {
     let mut polled = fds.map(|fd| Polled { fd, wanted: 1, found: 0 });
     let time = [nanos as i64 / 1_000_000_000, nanos as i64 % 1_000_000_000];
@@ -365,8 +348,7 @@ pub(crate) fn readable(fds: [RawFd; 2], nanos: u64) -> [bool; 2] {
     polled.map(|it| it.found != 0)
 }
 
-/// The numbers of the system calls `sched_setattr` and `sched_getattr`; None on an architecture for which they aren't
-/// known here.
+/// The system calls `sched_setattr` and `sched_getattr`; None if their numbers aren't known for this architecture.
 #[cfg(target_arch = "x86_64")]
 const SCHEDULING: Option<(i64, i64)> = Some((314, 315));
 #[cfg(any(target_arch = "aarch64", target_arch = "riscv64"))]
@@ -374,15 +356,11 @@ const SCHEDULING: Option<(i64, i64)> = Some((274, 275));
 #[cfg(not(any(target_arch = "x86_64", target_arch = "aarch64", target_arch = "riscv64")))]
 const SCHEDULING: Option<(i64, i64)> = None;
 
-/// Requests a time slice of `nanos` for the calling thread (Linux 6.12 and later). Returns None if the system doesn't
-/// grant it.
-///
-/// A waking thread with a shorter slice gets a processor sooner. A thread whose scheduling policy isn't the default one
-/// is left unchanged.
+/// Requests a time slice of `nanos` for the calling thread, if its scheduling policy is the default one. Returns None
+/// if the system (before Linux 6.12) doesn't grant it.
 pub(crate) fn ask_for_slices(nanos: u64) -> Option<()> {
     let (set, get) = SCHEDULING?;
-    // The words of `struct sched_attr`: its size and the policy, flags, priorities, the slice, and three words for
-    // other policies.
+    // The words of `struct sched_attr`: size and policy, flags, priorities, the slice, and three for other policies.
     let mut attributes = [0u64; 7];
     // SAFETY: the attributes have 56 bytes.
     let got = unsafe { syscall(get, 0i32, attributes.as_mut_ptr(), 56u32, 0u32) };

@@ -1,7 +1,7 @@
 //! A task: one allocation that contains the future, and later its output.
 //!
-//! The runtime owns the task until the task has ended, and each handle owns it until the handle is dropped. The last of
-//! these owners frees the allocation.
+//! The runtime and the task's handles own it together: the runtime until the task ends, a handle until it is dropped.
+//! The last of these owners frees the allocation.
 
 use crate::sync::atomic::{AtomicU32, AtomicU64, Ordering::*};
 use crate::sync::Mutex;
@@ -18,21 +18,18 @@ use std::task::{Context, Poll, Waker};
 
 /// State bit: the task has ended, and its output is stored.
 const COMPLETE: u32 = 1;
-/// State bit: the task's `JoinHandle` exists.
+/// State bit: the task's `JoinHandle` was not dropped.
 const JOINED: u32 = 2;
-/// State bit: the `JoinHandle` has stored its waker in `join_waker`. While the bit is set, only the thread that ends
-/// the task may read the waker.
+/// State bit: `join_waker` has the handle's waker. While the bit is set, only the thread that ends the task reads it.
 const WAITING: u32 = 4;
-/// State bit: the thread that has ended the task is done with it, and won't access it any more.
+/// State bit: the thread that has ended the task won't access it any more, so that the last handle may free it.
 const SETTLED: u32 = 8;
 /// State bit: the task was aborted. The worker that takes it next must end it instead of polling it.
 const ABORTED: u32 = 16;
-/// State bit: there were abort handles when the task ended. So the thread that ends the task may access it until it has
-/// set `SETTLED`.
+/// State bit: an abort handle was made, so the thread that ends the task may access the task until it sets `SETTLED`.
 const SHARED: u32 = 32;
-/// Added to the state for each abort handle: this bit and the bits above it count the abort handles.
+/// The number to add to a task's state for one abort handle more: this bit and those above it count them.
 const ONE: u32 = 64;
-/// The bits of a state of which at least one is set while there is a `JoinHandle` or an abort handle.
 const HELD: u32 = JOINED | !(ONE - 1);
 
 /// The value with which a task panicked; see `JoinError::Panicked`.
@@ -96,8 +93,7 @@ impl JoinError {
         matches!(self, JoinError::Panicked(_))
     }
 
-    /// Returns true if the task was aborted, or if the runtime ended before the task did; see the example at
-    /// `JoinHandle`.
+    /// Returns true if the task was aborted, or if its runtime ended first; see the example at `JoinHandle`.
     #[must_use]
     pub fn is_cancelled(&self) -> bool {
         !self.is_panic()
@@ -138,7 +134,6 @@ impl JoinError {
         }
     }
 
-    /// Returns the panic's message, if there is one.
     fn message(&self) -> Option<&str> {
         match self {
             JoinError::Panicked(panic) => panic.message(),
@@ -178,23 +173,19 @@ impl From<JoinError> for std::io::Error {
 }
 
 struct VTable {
-    /// Polls the future. Returns true if the future is ready; its output is then stored in the task.
+    /// Polls the future. If the future is ready, stores its output in the task, and returns true.
     poll: unsafe fn(*mut Header, &mut Context<'_>) -> bool,
-    /// Drops the future, and stores this error as the task's output.
     cancel: unsafe fn(*mut Header, JoinError),
-    /// Moves the output to the given pointer.
     take_output: unsafe fn(*mut Header, *mut ()),
-    /// Drops the output, unless the handle has taken it.
     drop_output: unsafe fn(*mut Header),
     free: unsafe fn(*mut Header),
 }
 
 pub(crate) struct Header {
     state: AtomicU32,
-    /// The index of the runtime that polls the task. It is written before the first poll.
+    /// The number of the runtime that polls the task (its `Shared::table`); written before the first poll.
     table: AtomicU32,
-    /// The task's *name* in its runtime (its slot and generation), by which its wakers find it. It is written before
-    /// the first poll.
+    /// The task's identifier in its runtime, by which wakers wake it; written before the first poll.
     name: AtomicU64,
     vtable: &'static VTable,
     join_waker: UnsafeCell<Option<Waker>>,
@@ -218,8 +209,7 @@ pub struct About {
     pub name: Option<&'static Label>,
 }
 
-/// A name that programs give to tasks, for reports. Equal names share one label, which is never freed, so a program
-/// should use a bounded number of names.
+/// A name that programs give to tasks, for reports. Equal names share one label, and a label is never freed.
 ///
 /// ```
 /// assert!(std::ptr::eq(arachne::Label::of("sweeper"), arachne::Label::of("sweeper")));
@@ -230,7 +220,7 @@ pub struct Label(String);
 static LABELS: Mutex<Vec<&'static Label>> = Mutex::new(Vec::new());
 
 impl Label {
-    /// Returns the label with the text `text`, which the first call with this text makes; see the example at `Label`.
+    /// Returns the label with this text. The first call with a text makes its label; see the example at `Label`.
     pub fn of(text: &str) -> &'static Label {
         let mut labels = LABELS.lock().unwrap();
         if let Some(label) = labels.iter().find(|label| label.0 == text) {
@@ -273,12 +263,9 @@ struct Task<F: Future> {
     stage: UnsafeCell<Stage<F>>,
 }
 
-/// A pointer to a task, as the 64-bit number that the core stores. `new` makes it, and whoever ends the task uses it
-/// up.
+/// A pointer to a task, as the 64-bit number that the proved core stores. It is invalid after the task has ended.
 pub(crate) type Raw = u64;
 
-/// Makes a task that runs `future`. Returns the pointer by which the runtime owns the task, and the handle on the
-/// task's output.
 pub(crate) fn new<F>(future: F, about: About) -> (Raw, JoinHandle<F::Output>)
 where
     F: Future + Send + 'static,
@@ -323,12 +310,10 @@ fn at(raw: Raw) -> *mut Header {
     raw as usize as *mut Header
 }
 
-/// Polls a task; if it was aborted, ends it instead. Returns true if the task has ended: then its handle was woken, and
-/// the caller must not use `raw` again.
+/// Polls a task or, if it was aborted, ends it. Returns true if the task has ended; `raw` is then invalid.
 ///
 /// # Safety
-/// `raw` must be from `new`, and its task must not have ended. No other thread may poll or end the task during the
-/// call.
+/// `raw` must be from `new`, and its task must not have ended. No other thread may poll or end it during the call.
 #[inline]
 pub(crate) unsafe fn run(raw: Raw, table: usize, name: u64, cx: &mut Context<'_>) -> bool {
     let header = at(raw);
@@ -365,7 +350,8 @@ pub(crate) unsafe fn about(raw: Raw) -> About {
     (*at(raw)).about
 }
 
-/// Marks a task as ended, and wakes whoever waits for its output. If the task has no handle any more, frees it.
+/// Records that the task has ended, and wakes the task that waits for its output. Frees it if it has no handle any
+/// more.
 unsafe fn complete(header: *mut Header) {
     let before = (*header).state.fetch_or(COMPLETE, AcqRel);
     if before & HELD == 0 {
@@ -387,12 +373,11 @@ unsafe fn complete(header: *mut Header) {
     // not be accessed from here on.
 }
 
-/// Returns true if the thread that ended a task with the state `state` won't access the task any more.
+/// Returns true if the task has ended, and the thread that ended it won't access it any more.
 fn is_settled(state: u32) -> bool {
     state & COMPLETE != 0 && (state & (WAITING | SHARED) == 0 || state & SETTLED != 0)
 }
 
-/// Marks the task as aborted, and wakes it. The worker that then takes the task ends it.
 fn abort(header: &Header) {
     header.state.fetch_or(ABORTED, SeqCst);
     let name = header.name.load(SeqCst);
@@ -423,8 +408,7 @@ unsafe fn cancel<F: Future>(header: *mut Header, why: JoinError) {
     lay((*task).stage.get(), Err(why));
 }
 
-/// Drops the future where it is stored, and stores `output` there. If the drop panics and `output` is Ok, stores that
-/// panic instead.
+/// Drops the future, and stores `output` in its place. If `output` is Ok and the drop panics, stores that panic.
 unsafe fn lay<F: Future>(stage: *mut Stage<F>, output: Result<F::Output, JoinError>) {
     let dropped = catch_unwind(AssertUnwindSafe(|| std::ptr::drop_in_place(stage)));
     let output = match (dropped, output) {
@@ -506,9 +490,9 @@ impl<T> JoinHandle<T> {
         self.header().state.load(Acquire) & COMPLETE != 0
     }
 
-    /// Aborts the task. The worker that takes it next drops its future, and its output is `JoinError::Aborted`.
+    /// Aborts the task: the worker that takes it next drops its future, and its output is `JoinError::Aborted`.
     ///
-    /// A task that has ended, or that ends in a poll which runs now, keeps its output. See the example at `JoinHandle`.
+    /// A task that ends before a worker takes it again keeps its output. See the example at `JoinHandle`.
     pub fn abort(&self) {
         abort(self.header());
     }
@@ -533,7 +517,8 @@ impl<T> JoinHandle<T> {
 }
 
 impl<T> JoinHandle<T> {
-    /// Returns true if the task has ended. Otherwise stores `waker`, to be woken when the task ends.
+    /// Returns true if the task has ended. Otherwise stores `waker`, which is woken when the task ends, and returns
+    /// false.
     pub(crate) fn is_there(&mut self, waker: &Waker) -> bool {
         let header = self.header();
         let mut state = header.state.load(Acquire);
@@ -561,7 +546,6 @@ impl<T> JoinHandle<T> {
         true
     }
 
-    /// Takes the output of a task that has ended.
     fn take(&mut self) -> Poll<Result<T, JoinError>> {
         let mut output: Poll<Result<T, JoinError>> = Poll::Pending;
         let to: *mut Poll<Result<T, JoinError>> = &mut output;
@@ -570,7 +554,6 @@ impl<T> JoinHandle<T> {
         output
     }
 
-    /// Returns the output, or `None` if the task has not ended.
     pub(crate) fn output(mut self) -> Option<Result<T, JoinError>> {
         match self.is_finished().then(|| self.take())? {
             Poll::Ready(output) => Some(output),
@@ -594,8 +577,7 @@ impl<T> Drop for JoinHandle<T> {
     fn drop(&mut self) {
         let header = self.header();
         if header.state.load(Relaxed) & SHARED != 0 {
-            // If the task has ended, this handle must drop the output. Otherwise the thread that ends the task will do
-            // so.
+            // If the task has ended, this handle must drop the output. Otherwise the thread that ends the task does so.
             let leave = |state| (state & COMPLETE == 0).then_some(state & !JOINED);
             if header.state.fetch_update(AcqRel, Acquire, leave).is_ok() {
                 return;
@@ -603,8 +585,7 @@ impl<T> Drop for JoinHandle<T> {
             // SAFETY: the output is stored, and nobody else takes it.
             unsafe { (header.vtable.drop_output)(self.at.as_ptr()) };
         }
-        // If the task has not ended, or SETTLED isn't set, the thread that ends the task or an abort handle will free
-        // it.
+        // If the task isn't ended and SETTLED, the thread that ends it or an abort handle will free it.
         let before = header.state.fetch_and(!JOINED, AcqRel);
         if before & HELD == JOINED && is_settled(before) {
             // SAFETY: the thread that ended the task no longer accesses it, and the handles are gone.

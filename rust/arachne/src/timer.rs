@@ -1,4 +1,4 @@
-//! Sleeps and timeouts. Each worker has a queue of timers, and checks it whenever it polls the epoll.
+//! Sleeps and timeouts. Each worker has a queue of timers, which it checks whenever it polls the epoll.
 
 use crate::shared::{here, shared_of, Context as Worker, Shared};
 use crate::sync::atomic::{AtomicU64, Ordering::*};
@@ -11,7 +11,6 @@ use std::pin::Pin;
 use std::task::{Context, Poll, Waker};
 use std::time::Duration;
 
-/// Returns the nanoseconds of the system's monotonic clock.
 pub(crate) use crate::sys::now;
 
 type Key = (u64, u64);
@@ -22,9 +21,8 @@ struct Queue {
     made: u64,
 }
 
-/// A queue of timers: those of one worker, or those of all threads that are no workers.
 pub(crate) struct Timers {
-    /// The time, in nanoseconds, at which the first timer is due; `u64::MAX` if there is no timer.
+    /// The time, in nanoseconds, at which the first timer is due; `u64::MAX` if there is none.
     next: AtomicU64,
     queue: Mutex<Queue>,
 }
@@ -41,7 +39,7 @@ impl Timers {
         self.next.load(SeqCst)
     }
 
-    /// Adds a timer that is due at `at`. Returns its key, and true if no other timer is due before it.
+    /// Returns the timer's key, and true if no other timer is due before it.
     fn add(&self, at: u64, waker: Waker) -> (Key, bool) {
         let mut queue = self.queue.lock().unwrap();
         queue.made += 1;
@@ -54,7 +52,7 @@ impl Timers {
         (key, first)
     }
 
-    /// Replaces the waker of the timer `key`. Returns false if the timer has fired already.
+    /// Returns false if the timer has fired already.
     fn renew(&self, key: Key, waker: &Waker) -> bool {
         let mut queue = self.queue.lock().unwrap();
         match queue.waiting.get_mut(&key) {
@@ -68,7 +66,7 @@ impl Timers {
         }
     }
 
-    /// Removes the timer `key`. Returns its waker, or None if the timer has fired already.
+    /// Returns the timer's waker, or None if the timer has fired already.
     fn remove(&self, key: Key) -> Option<Waker> {
         let mut queue = self.queue.lock().unwrap();
         let waker = queue.waiting.remove(&key);
@@ -82,7 +80,7 @@ impl Timers {
         self.next.store(queue.waiting.keys().next().map_or(u64::MAX, |key| key.0), SeqCst);
     }
 
-    /// Removes all timers that are due at `now`, and calls their wakers. Returns the number of these timers.
+    /// Removes all timers that are due at `now`, and calls their wakers.
     pub(crate) fn fire(&self, now: u64) -> usize {
         let due = {
             let mut queue = self.queue.lock().unwrap();
@@ -97,8 +95,7 @@ impl Timers {
     }
 }
 
-/// A sleep's timer, with the name (slot and generation) of the task that it wakes; `NOBODY` if its waker isn't a
-/// task's.
+/// A sleep's timer, and the identifier of the task that it wakes; `NOBODY` if its waker isn't that of a task.
 struct Waits {
     timers: &'static Timers,
     key: Key,
@@ -106,7 +103,7 @@ struct Waits {
     name: u64,
 }
 
-/// The future of `sleep`. It may be moved between polls, so it needs no `pin!`.
+/// The future of `sleep`. The future may be moved between polls, so it needs no `pin!`.
 ///
 /// ```
 /// use std::time::Duration;
@@ -119,7 +116,7 @@ pub struct Sleep {
     waits: Option<Waits>,
 }
 
-/// Waits for at least `duration`. Timers have a resolution of a millisecond.
+/// Waits for at least `duration`. Timers have a resolution of a millisecond; for less, read a timerfd by `net::Async`.
 ///
 /// ```
 /// use std::time::{Duration, Instant};
@@ -214,7 +211,7 @@ impl Drop for Sleep {
     }
 }
 
-/// The error of `timeout`: the time was over before the future was ready.
+/// The error of `timeout`: the future was not ready in time.
 ///
 /// ```
 /// assert_eq!(std::io::Error::from(arachne::Elapsed).kind(), std::io::ErrorKind::TimedOut);
@@ -250,7 +247,7 @@ pub struct Timeout<F> {
     sleep: Sleep,
 }
 
-/// Waits for a future's output for at most `duration`. After that time the future returns `Elapsed`.
+/// Waits for a future's output for at most `duration`. If that time passes first, returns `Elapsed`.
 ///
 /// ```
 /// use std::time::Duration;
@@ -279,16 +276,14 @@ impl<F: Future> Future for Timeout<F> {
     }
 }
 
-/// Returns the timers for futures that this thread polls: those of its worker or, if it is no worker, those that all
-/// such threads share. Returns None outside of a runtime.
+/// Returns the timers for futures that this thread polls: its worker's own, or those shared by all other threads.
 pub(crate) fn of_this_thread() -> Option<&'static Timers> {
     let shared = here()?;
     let me = Worker::with(|worker| worker.filter(|w| std::ptr::eq(w.shared, shared)).map(|w| w.me));
     Some(me.map_or(&shared.visitors, |me| &shared.workers[me].0.timers))
 }
 
-/// Returns for how many milliseconds a worker may sleep until a timer of one of `workers` is due; -1 if there is no
-/// timer.
+/// Returns the milliseconds until the first timer of `workers` is due (at most a minute); -1 if there is none.
 pub(crate) fn rest(shared: &Shared, workers: impl Iterator<Item = usize>) -> i32 {
     let next = workers.map(|worker| shared.next_timer(worker)).min().unwrap_or(u64::MAX);
     if next == u64::MAX {

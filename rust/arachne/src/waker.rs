@@ -1,7 +1,6 @@
-//! Wakers of tasks. The data pointer of a waker is only the task's name (its slot and generation); for each runtime
-//! there is a table of functions (a vtable).
-//!
-//! So cloning and dropping a waker does nothing, and the waker of a task that has ended wakes nobody.
+//! Wakers of tasks. A waker's data pointer is its task's identifier (the slot, and how many tasks have ended there),
+//! and each runtime has its own vtable. So cloning and dropping a waker does nothing, and the waker of a task that has
+//! ended wakes nobody.
 
 use crate::core::{place_of, Woken};
 use crate::hand::LINE;
@@ -9,7 +8,7 @@ use crate::shared::{add, shared_of, with_hands, Context as Worker, TABLES};
 use std::mem::ManuallyDrop;
 use std::task::{RawWaker, RawWakerVTable, Waker};
 
-/// A name that no task has.
+/// A number that identifies no task.
 pub(crate) const NOBODY: u64 = u64::MAX;
 
 unsafe fn clone<const TABLE: usize>(data: *const ()) -> RawWaker {
@@ -30,29 +29,25 @@ macro_rules! tables {
 static VTABLES: [RawWakerVTable; TABLES] =
     tables!(0 1 2 3 4 5 6 7 8 9 10 11 12 13 14 15 16 17 18 19 20 21 22 23 24 25 26 27 28 29 30 31);
 
-/// Returns the waker of the task with the name `name` (its slot and generation) in the runtime with the index `table`.
-/// The waker need not be dropped.
 #[inline]
 pub(crate) fn waker_of(table: usize, name: u64) -> ManuallyDrop<Waker> {
     // SAFETY: the functions of VTABLES take any word.
     ManuallyDrop::new(unsafe { Waker::from_raw(RawWaker::new(name as usize as *const (), &VTABLES[table])) })
 }
 
-/// Returns true if this is the waker of the task that the worker polls now.
 #[inline]
 pub(crate) fn is_of_running(waker: &Waker, worker: &Worker) -> bool {
     let name = worker.current.get();
     name != NOBODY && waker.will_wake(&waker_of(worker.shared.table, name))
 }
 
-/// If this thread is a worker that now polls the task of `waker`, returns `of(worker)`; otherwise false.
+/// If this thread is a worker that polls the task of `waker` now, returns `of(worker)`; otherwise false.
 #[inline]
 pub(crate) fn in_own_poll(waker: &Waker, of: impl FnOnce(&Worker) -> bool) -> bool {
     Worker::with(|worker| worker.map_or(false, |worker| is_of_running(waker, worker) && of(worker)))
 }
 
-/// Returns the name (slot and generation) of the task that `waker` wakes, if it is a task of the runtime with the index
-/// `table`.
+/// Returns the identifier of the task of `waker`, if a worker of the runtime `table` polls it now on this thread.
 #[inline]
 pub(crate) fn name_in(waker: &Waker, table: usize) -> Option<u64> {
     Worker::with(|worker| {
@@ -61,8 +56,7 @@ pub(crate) fn name_in(waker: &Waker, table: usize) -> Option<u64> {
     })
 }
 
-/// Wakes the task with the name `name` (its slot and generation) of the runtime with the index `table`, unless it has
-/// ended.
+/// Wakes the task `name` of the runtime with the index `table`, unless the task has ended.
 pub(crate) fn wake_name(table: usize, name: u64) {
     let shared = match shared_of(table) {
         Some(shared) => shared,
@@ -71,7 +65,7 @@ pub(crate) fn wake_name(table: usize, name: u64) {
     Worker::with(|worker| match worker {
         Some(worker) if worker.shared.table == table => {
             if worker.current.get() == name {
-                // This worker is polling the task now, and will make it ready again after the poll.
+                // This worker makes the task ready again after the poll.
                 worker.woken.set(true);
                 return;
             }

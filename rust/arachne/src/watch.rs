@@ -1,5 +1,6 @@
-//! The watcher: a thread that reports slow polls. While a worker is in one, the watcher runs its ready tasks, sockets
-//! and timers.
+//! The watcher: a thread that reports slow polls of tasks. While a worker stays in one poll, the watcher polls the
+//! epoll, fires that worker's timers, and wakes another worker to take its ready tasks. If all workers are in such
+//! polls, the watcher itself runs ready tasks.
 
 use crate::core::{Hands, Job, Rested, SHARD};
 use crate::reactor::EVENTS;
@@ -11,8 +12,6 @@ use crate::timer::now;
 use crate::waker::{waker_of, NOBODY};
 use std::time::Duration;
 
-/// For this many nanoseconds the watcher does the work of workers that are stuck in a poll. Then it looks for others
-/// that are stuck.
 const TURN: u64 = 2_000_000;
 
 struct Seen {
@@ -22,7 +21,6 @@ struct Seen {
     told: bool,
 }
 
-/// The watcher's loop: checks all workers until the runtime stops.
 pub(crate) fn run(shared: &'static Shared, hands: Hands, longer: Duration, log: bool) {
     let tick = (longer / 20).clamp(Duration::from_micros(500), Duration::from_millis(5));
     let longer = longer.as_nanos() as u64;
@@ -38,8 +36,7 @@ pub(crate) fn run(shared: &'static Shared, hands: Hands, longer: Duration, log: 
         stuck = 0;
         for (worker, seen) in seen.iter_mut().enumerate() {
             let age = age_of_poll(shared, worker, seen, now);
-            // The watcher begins to help well before it reports the poll: after about three checks that found the
-            // worker in this poll.
+            // The watcher helps well before it reports the poll: after about three checks that found the worker in it.
             if age > longer / 12 {
                 stuck |= 1 << worker;
             }
@@ -56,8 +53,8 @@ pub(crate) fn run(shared: &'static Shared, hands: Hands, longer: Duration, log: 
     shared.root.lock().unwrap().join(hands);
 }
 
-/// Returns for how many nanoseconds, as far as the watcher has seen, the worker has been in its current poll; 0 if it
-/// is in none.
+/// Returns for how many nanoseconds `worker` has been in its current poll of a task, as far as the watcher has seen it;
+/// 0 if it polls no task.
 fn age_of_poll(shared: &Shared, worker: usize, seen: &mut Seen, now: u64) -> u64 {
     let counts = &shared.workers[worker].0;
     let (polls, name) = (counts.polls.load(Relaxed), counts.running.load(Relaxed));
@@ -77,11 +74,8 @@ fn tell(shared: &Shared, worker: usize, age: u64, log: bool) {
     }
 }
 
-/// Does the work of the workers in `stuck` (a bit mask), which are stuck in a poll: polls the epoll, fires their
-/// timers, and wakes another worker for their ready jobs.
-///
-/// If all workers are stuck, the watcher runs these jobs itself. Returns when no worker is stuck any more, or after
-/// `TURN` nanoseconds.
+/// Fires timers, and runs tasks or wakes a worker for them, in place of the workers in `stuck` (a bit mask). Returns
+/// once each of these has ended its poll, or after `TURN` nanoseconds.
 fn rescue(shared: &'static Shared, hands: &Hands, stuck: u64) {
     let polls: Vec<u64> = shared.workers.iter().map(|w| w.0.polls.load(Relaxed)).collect();
     let all = u64::MAX >> (64 - shared.active.0.load(Relaxed));
@@ -115,7 +109,6 @@ fn rescue(shared: &'static Shared, hands: &Hands, stuck: u64) {
     }
 }
 
-/// Runs up to 64 ready jobs in the task slots of one worker. Returns how many it has run.
 fn run_some(shared: &'static Shared, hands: &Hands, worker: usize) -> usize {
     let mut ran = 0;
     for &shard in shared.workers[worker].0.used_shards() {

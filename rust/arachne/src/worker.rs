@@ -1,33 +1,28 @@
-//! A worker's loop: it runs ready jobs (tasks, as the core stores them), polls the epoll and its timers, steals jobs
-//! from other workers, and sleeps.
+//! A worker's loop: it runs ready tasks, checks the epoll and its timers, steals tasks from other workers, and sleeps.
 //!
-//! The core decides which worker gets a job and whether a worker may park. This module decides where a worker searches
-//! next, and which sleeping worker to wake.
+//! The proved core, which calls a task a *job*, lets only one worker at a time have a task, and decides whether a
+//! worker may sleep. This module decides where a worker searches for tasks, and which sleeping worker to wake.
 //!
-//! **Next.** If the running job spawns a job or wakes one, that job runs next on the same worker, up to `NEXTS` jobs in
-//! a row (a *chain*). If a second such job comes before the first has run, the first becomes ready in its block (a
-//! group of 64 task slots), from which any worker can take it. A job that yields, or that would make the chain too
-//! long, goes into the worker's *line*, its local queue.
+//! **Next.** A task that the running task spawns or wakes runs next on the same worker. Up to `NEXTS` tasks run in a
+//! row in this way (a *chain*). If another task is spawned or woken before the next task has run, that one runs next,
+//! and the task that was to run next is made ready in its task slot, for any worker. A task that yields goes to the end
+//! of the worker's own queue (its *line*), as does a task that would make the chain too long. The next task, the line
+//! and a short queue of stolen tasks are together the worker's *local queues*.
 //!
-//! **Order.** After a chain the worker *sweeps* its blocks: of each block it runs, once, every job that was ready when
-//! the sweep of that block began. After all its blocks (a *round*), the worker runs all jobs in its line, in order. So
-//! a job that is ready again and again makes no other job wait for more than a round.
+//! **Order.** After a chain the worker *sweeps* its task slots, in blocks of 64, and runs each task once that was ready
+//! when the sweep of its block began. After all blocks (a *round*), the worker runs the tasks of its line. So a task
+//! that is ready again and again makes no other task wait for more than a round.
 //!
-//! **Checks.** After `LOOK_OUT` polls of tasks, or after some time if polls are long, a worker checks its timers, the
-//! epoll, and which other workers make no progress (no new poll since the last check). From each such worker it takes
-//! up to two jobs, out of that worker's blocks and local queues. If the check is due because of the time, the epoll is
-//! left out if another worker has polled it lately. If polls are long (fewer than `FEW` fit into `LOOK_TIME`), another
-//! worker counts as making no progress for as long as it is in one poll. The checking worker must run its own jobs too:
-//! it takes more jobs only after it has run those that it has stolen and one of its own. While it runs the jobs of its
-//! line, it takes none, unless the other worker has been in its poll for `LONG_POLL`. After `LONG` checks in a row that
-//! found the same worker without progress, it fires that worker's timers too.
+//! **Checks.** After `LOOK_OUT` polls of tasks, or after some time if polls are long, a worker fires its timers, polls
+//! the epoll, and reads how many polls each other worker has ended. From each worker that has ended none since it read
+//! this last, it takes up to two tasks. If a worker has ended none in `LONG` checks, it fires that worker's timers too.
 //!
-//! **Stealing.** A worker without work can take any ready job, also out of another worker's local queues: first the job
-//! that would run first there. It takes half of another worker's ready jobs or, if it finds none, half of the jobs in
-//! that worker's local queues behind the next one. A worker's only such job is taken only if that worker sleeps or
-//! makes no progress. Stolen jobs run before all other ready jobs of the thief, and may be stolen again. A worker
-//! sleeps only if no other worker has two or more jobs that it could take over. While any worker is idle, each other
-//! worker keeps only as many jobs in its local queues as run in about `LOOK_TIME`, and wakes the idle worker for more.
+//! **Stealing.** A worker without work (a *thief*) takes half of the ready tasks in another worker's task slots. If
+//! there is none, the thief takes half of the tasks in the other worker's local queues, but not the next task. The only
+//! task of the other worker is taken only if that worker sleeps or has ended no poll since the thief's last check.
+//! Stolen tasks run before all other ready tasks of the thief, and may be stolen again. A worker sleeps only if it
+//! finds no other worker with two or more tasks to take. While any worker is idle, each other worker keeps only as many
+//! tasks in its local queues as run in about `LOOK_TIME`.
 
 use crate::core::{place_of, Hands, Job, Rested, Spawned, BLOCK, SHARD};
 use crate::cores::Judge;
@@ -43,85 +38,63 @@ mod sleepers;
 
 pub(crate) use sleepers::Ends;
 
-/// The most jobs that run in a row, each of them made ready by the one before (a *chain*).
+/// The most tasks that run in a row in which each was woken or spawned by the task before it (a *chain*).
 const NEXTS: u32 = 128;
 
-/// After `LOOK_OUT` polls, or `LOOK_TIME` nanoseconds, a worker checks the epoll, its timers and other workers, even if
-/// it has jobs to run. If the check is due because of the time, it skips the epoll if another worker has polled it
-/// within `LOOK_TIME`.
+/// After `LOOK_OUT` polls of tasks, or after `LOOK_TIME` nanoseconds, a busy worker polls the epoll, fires its timers,
+/// and takes tasks from workers in long polls. After `LOOK_TIME`, it skips the epoll if another worker has polled it
+/// within that time.
 const LOOK_OUT: u32 = 64;
 pub(crate) const LOOK_TIME: u64 = 100_000;
-/// Nanoseconds between two checks of the epoll and the timers by the only active worker: nobody else could run the jobs
-/// that it finds. A check that is due because of the time polls the epoll only every `LONELY_LOOK` nanoseconds, as the
-/// jobs that it finds run behind those in the local queues.
+/// If only one worker may run tasks, it fires its timers after `LONELY_TIME` nanoseconds, and polls the epoll after
+/// `LONELY_LOOK`, instead of `LOOK_TIME`. No other worker could run the tasks that it would find earlier.
 const LONELY_TIME: u64 = 500_000;
 const LONELY_LOOK: u64 = 2_000_000;
-/// The worker that decides for the policy reads its clock only once in this many polls.
+/// While it runs tasks, the first worker asks the policy how many workers may run only once in this many polls.
 const JUDGED: u32 = 8;
-/// A worker fires the timers of another worker after this many checks in a row have found no new poll of that worker.
+/// A worker fires the timers of another one that has ended no poll in this many of its checks in a row.
 const LONG: u32 = 8;
-/// If another worker has been in one poll for this many nanoseconds, a busy worker takes even the job that was to run
-/// next on it.
+/// If a worker has been in one poll for this many nanoseconds, others may steal even the task that it would run next.
 const LONG_POLL: u64 = 1_000_000;
-/// A worker clears the summary bits of empty blocks (of task slots) after its sweeps have found this many such blocks.
 const STALE: u32 = 16;
-/// The most jobs that one poll of the epoll, or one theft from another worker, may put into a worker's local queues.
-/// While any worker is idle, it is the most jobs there in all.
+/// The most tasks that one poll of the epoll, or one theft from another worker, may put into a worker's local queues.
+/// While any worker has no work, a worker's local queues may have only this many tasks in all.
 const FEW: usize = 8;
-/// The most jobs in a worker's line (its local queue). There may be `KEPT` jobs that yielded or would make a chain too
-/// long; if there is only one worker, `HAND` jobs of any kind.
+/// A task that yields goes into the worker's line (its own queue) if fewer tasks than this are there. If only one
+/// worker may run tasks, the limit is `HAND`.
 const KEPT: usize = 16;
 pub(crate) const HAND: usize = 48;
-/// If this many more events and timers are found than the worker's local queues have room for, the worker wakes another
-/// one to help.
 const MANY: usize = 4;
 
-/// A worker counts at most this many of its ready jobs, for the policy that decides on the number of cores.
+/// A worker counts at most this many of its ready tasks, for the policy that decides how many workers may run.
 const CROWD: u32 = 128;
 
-/// How far a worker is in its round over its blocks, and the progress that it has seen other workers make.
 pub(crate) struct Turn {
-    /// The number of stolen jobs that this worker must still run. Other workers may have taken some of these jobs
-    /// meanwhile.
+    /// The number of stolen tasks that this worker must still run before its own. Other workers may have stolen some of
+    /// them.
     first: usize,
-    /// The number of jobs of the line (the local queue) that this worker must still run before its next sweep. Other
-    /// workers may have taken some of them meanwhile.
+    /// The number of tasks of the line (this worker's own queue) that it must still run before it searches its task
+    /// slots.
     line_left: usize,
-    /// The block (of 64 task slots) that is being swept.
+    /// The block (64 task slots) of this worker whose ready tasks it runs now.
     block: usize,
-    /// A bit mask of the slots of `block` whose jobs were ready when the sweep began, and are still to be taken.
     wanted: u64,
-    /// The index of the block (of 64 task slots) to sweep next.
+    /// The index, among all blocks of this worker, of the block at which it next searches for ready tasks.
     next: usize,
-    /// The number of empty blocks that sweeps have found although the blocks' bits in the summary word are set.
     stale: u32,
     chain: u32,
-    /// The number of tasks that this worker has polled since it last checked the epoll and the other workers, or was
-    /// idle.
     polls: u32,
-    /// About how many polls of tasks take `LOOK_TIME` nanoseconds together.
+    /// About how many tasks this worker polls in `LOOK_TIME` nanoseconds, at most `LOOK_OUT`.
     most: u32,
-    /// True if each call of `look_out` must also count the ready jobs for the policy, and check if the arbiter wants
-    /// the core back.
     counts: bool,
-    /// For each other worker, how many polls it had made when this worker last checked its progress.
     seen: Vec<u64>,
-    /// For each other worker, the number of checks in a row in which it had made no new poll, modulo `LONG`.
     stood: Vec<u32>,
-    /// For each worker, the time (in nanoseconds) since which this worker has seen no new poll of it.
     since: Vec<u64>,
-    /// For each other worker, how many polls it had made when this worker last checked it before going to sleep.
     met: Vec<u64>,
-    /// The time (in nanoseconds) at which this worker last checked the others before going to sleep.
     looked: u64,
-    /// While this worker sleeps, it checks the others each time that this many milliseconds have passed.
     rests: i32,
-    /// The number of polls that all workers together had made when `rests` was last set.
     watched: u64,
-    /// True if the last call of `look_at_others` has stolen jobs, which this worker must run.
     helps: bool,
-    /// True if this worker woke without being woken by another one, and has neither run a job nor called `goes_on`
-    /// since then.
     unsaid: bool,
 }
 
@@ -150,8 +123,6 @@ impl Turn {
         }
     }
 
-    /// Estimates how many polls take `LOOK_TIME`, from the polls and the time since this function was last called. The
-    /// next estimate begins at `now`.
     fn pace(&mut self, context: &Context, now: u64) {
         if self.polls != 0 {
             let fitting = self.polls as u64 * LOOK_TIME / now.saturating_sub(context.looked.get()).max(1);
@@ -161,16 +132,13 @@ impl Turn {
         context.looked.set(now);
     }
 
-    /// Returns true if the next check of the epoll, the timers and the other workers is due because of the time. As it
-    /// reads the clock, call it only if polls are long.
+    /// Returns true if this worker must poll the epoll and its timers now. Reads the clock, which takes long.
     #[inline]
     fn is_over(&self, context: &Context, alone: bool) -> bool {
         let time = if alone { LONELY_TIME } else { LOOK_TIME };
         now().saturating_sub(context.looked.get()) >= time
     }
 
-    /// Returns how many jobs this worker may keep in its local queues while another worker is idle: as many as it will
-    /// run before its next check of the other workers.
     #[inline]
     fn few(&self) -> usize {
         FEW.min(self.most as usize)
@@ -180,10 +148,8 @@ impl Turn {
 impl Shared {
     // --------------------------------------------------------------------------------------- whom to wake
 
-    /// Wakes a worker because a job has become ready in its block (a group of 64 slots).
-    ///
-    /// If `unpark` is true, wakes the worker that owns the block. Otherwise wakes any sleeping worker, to help; if
-    /// `quiet` is true, wakes none.
+    /// Wakes a worker because a task has become ready. If `unpark` is true, wakes the worker that owns the task's slot;
+    /// otherwise wakes any sleeping worker or, if `quiet` is true, none.
     #[inline]
     pub(crate) fn published(&self, name: u64, unpark: bool, quiet: bool) {
         if unpark {
@@ -193,15 +159,13 @@ impl Shared {
         }
     }
 
-    /// Puts a job that this worker holds back into its block (of task slots) as ready, so that any worker can take it.
     #[inline]
     pub(crate) fn make_ready(&self, context: &Context, job: &Job) {
         let unpark = context.hands.rest_ready(job);
         self.published(job.name, unpark, false);
     }
 
-    /// Makes `job` the job that runs next on this worker. The job that was to run next until now becomes ready, so that
-    /// any worker can take it.
+    /// Sets `job` to run next on this worker, and makes the task that was to run next ready for any worker.
     #[inline]
     pub(crate) fn set_next(&self, context: &Context, job: Job) {
         if !context.worker.hand.next.put(job) {
@@ -209,7 +173,6 @@ impl Shared {
         }
     }
 
-    /// Does what `set_next` does if there is a next job already. It is rare, so it isn't inlined.
     #[inline(never)]
     fn displace_next(&self, context: &Context, job: Job) {
         if let Some(waits) = context.worker.hand.next.take(context.alone) {
@@ -219,8 +182,8 @@ impl Shared {
         context.worker.hand.next.put(job);
     }
 
-    /// Makes all jobs in the local queues of the worker `other` ready, so that any worker can take them. For each job,
-    /// wakes only the worker that owns the block (the task slots) of the job.
+    /// Puts all tasks in the local queues of the worker `other` back into their task slots, ready for any worker. For
+    /// each, wakes the worker that owns the slot if it sleeps, and no other.
     pub(crate) fn relieve(&self, hands: &Hands, other: usize) {
         while let Some(job) = self.workers[other].0.hand.take(true) {
             hands.gets(&job, other);
@@ -228,24 +191,22 @@ impl Shared {
         }
     }
 
-    /// Wakes the worker `worker`, if it sleeps. Returns true if this call woke it.
+    /// Wakes `worker` if it sleeps. Returns true if this call has woken it, and no other thread has.
     fn rouse(&self, worker: usize) -> bool {
         let bit = 1 << worker;
         if self.sleepers.0.load(SeqCst) & bit == 0 || self.sleepers.0.fetch_and(!bit, SeqCst) & bit == 0 {
             return false;
         }
-        // The worker is counted as searching before it wakes. So no second worker is woken until this one has searched
-        // for work.
+        // The worker counts as searching before it wakes, so that no second one is woken before it has searched.
         self.searching.0.fetch_add(1, SeqCst);
         self.ring(worker);
         true
     }
 
-    /// Wakes `worker` from its sleep. If it doesn't sleep, its next sleep ends at once.
-    ///
-    /// If the worker begins to wait in the epoll just after this call has read `waits`, it doesn't see that its bell
-    /// (its condition variable) was rung. It still finds the work that the caller has made ready before this call: it
-    /// registers as the worker in the epoll first, and then checks for work a last time.
+    /// Wakes `worker` from its sleep. If the worker doesn't sleep, its next sleep ends at once. There is one exception:
+    /// a worker that enters the epoll just after this call has read `waits` (the number of the worker there) misses the
+    /// wake. But a worker that has set `waits` searches for work once more, and finds the work that the caller has made
+    /// ready.
     pub(crate) fn ring(&self, worker: usize) {
         if self.waits.0.load(SeqCst) == worker {
             self.reactor.notify();
@@ -254,8 +215,8 @@ impl Shared {
         }
     }
 
-    /// Wakes a sleeping worker, unless another worker is searching for work already. If it can, it spares the worker
-    /// that waits in the epoll and the *deputy*, which polls the epoll in that worker's stead.
+    /// Wakes a sleeping worker, unless a worker searches for work already. Prefers one that waits on its condition
+    /// variable, then the *deputy* (which polls the epoll now and then), then the one in the epoll.
     #[inline]
     pub(crate) fn rouse_any(&self) {
         let sleepers = self.sleepers.0.load(SeqCst);
@@ -268,11 +229,8 @@ impl Shared {
         }
     }
 
-    /// Records that this worker no longer searches for work (it stays awake). If no other worker searches, wakes one if
-    /// there seems to be more work.
-    ///
-    /// While this worker searched, no worker was woken for new work. So `searching` must be decreased first, and then
-    /// the check for more work made.
+    /// Records that this worker no longer searches for work. If no other worker searches, and yet there is work, wakes
+    /// a worker. `searching` is decreased before the look for work, because until then no worker is woken for new work.
     fn stop_looking(&self, hands: &Hands) {
         if self.searching.0.fetch_sub(1, SeqCst) != 1 {
             return;
@@ -287,7 +245,7 @@ impl Shared {
         }
     }
 
-    /// Records that this worker is awake, after it slept or tried to. Returns true if another worker has woken it.
+    /// Records that this worker doesn't sleep any more. Returns true if another thread has woken it.
     fn awake(&self, context: &Context) -> bool {
         let bit = 1 << context.me;
         let roused = self.sleepers.0.load(SeqCst) & bit == 0 || self.sleepers.0.fetch_and(!bit, SeqCst) & bit == 0;
@@ -297,8 +255,6 @@ impl Shared {
         roused
     }
 
-    /// Returns true if nobody will see the epoll's events: no worker waits in it, and there is no deputy, which polls
-    /// it instead.
     fn is_unattended(&self) -> bool {
         self.waits.0.load(SeqCst) == NO_ONE && self.deputy.0.load(SeqCst) == NO_ONE
     }
@@ -313,12 +269,11 @@ impl Shared {
         self.queued.0.load(SeqCst) != 0 && !self.clogged.load(SeqCst)
     }
 
-    /// Returns about how many jobs are ready in the task slots of `worker`, counting to eight at most.
     pub(crate) fn ready(&self, hands: &Hands, worker: usize) -> u32 {
         self.ready_up_to(hands, worker, 8)
     }
 
-    /// Returns about how many jobs are ready in the task slots of `worker`, counting to `most` at most.
+    /// Returns about how many tasks are ready in the task slots of `worker`, at most `most`.
     fn ready_up_to(&self, hands: &Hands, worker: usize, most: u32) -> u32 {
         let mut count = 0;
         for &shard in self.workers[worker].0.used_shards() {
@@ -334,7 +289,7 @@ impl Shared {
 
     // --------------------------------------------------------------------------------------- one task
 
-    /// Polls the task of `job`, which this worker must hold. Then ends the job, or puts it back as ready or as blocked.
+    /// Polls the task of `job`, which this worker must have taken. After the poll, ends the task or puts it back.
     #[inline]
     fn run(&self, context: &Context, turn: &mut Turn, job: Job) {
         let name = job.name;
@@ -362,14 +317,13 @@ impl Shared {
         self.rest(context, job);
     }
 
-    /// Puts back `job` after a poll in which it has not ended. It becomes blocked. If it was woken during the poll, it
-    /// goes behind all ready jobs of this worker instead.
+    /// Puts back a task that didn't end in its poll: as blocked or, if it was woken meanwhile, at the end of this
+    /// worker's own queue.
     #[inline]
     fn rest(&self, context: &Context, job: Job) {
         let name = job.name;
         if !context.woken.get() {
-            // The name must be written before the job is blocked: the runtime's end finds the blocked jobs by these
-            // names.
+            // The name must be written before the job is blocked: the runtime's end finds blocked jobs by these names.
             let kept = &self.names[job.place()];
             if kept.load(Relaxed) != name {
                 kept.store(name, Relaxed);
@@ -387,8 +341,8 @@ impl Shared {
         self.set_behind(context, job, self.kept());
     }
 
-    /// Ends a job, and frees its slot. The slot must be free before `roomy` and `clogged` are read: `spawn_at` clears a
-    /// block's bit in `roomy`, and `begin_queued` sets `clogged`, before they try a second time to find a free slot.
+    /// Ends the task and frees its slot. The slot is freed before the flags `roomy` and `clogged` are read, because a
+    /// thread that finds no free slot changes both and then tries again.
     #[inline]
     fn finish(&self, context: &Context, job: &Job) {
         context.hands.finish(job);
@@ -399,7 +353,6 @@ impl Shared {
         }
     }
 
-    /// Records that a block (of 64 task slots) may have a free slot.
     #[inline]
     pub(crate) fn show_room(&self, block: usize) {
         let (word, bit) = (&self.roomy[block / SHARD].0, 1 << (block % SHARD));
@@ -410,8 +363,6 @@ impl Shared {
 
     // --------------------------------------------------------------------------------------- what is next
 
-    /// Takes the job that this worker runs next. If a check of the epoll, the timers and the other workers is due,
-    /// makes that check first. Returns None if there is no job.
     #[inline]
     fn pick(&'static self, context: &Context, turn: &mut Turn) -> Option<Job> {
         let is_over = |turn: &Turn| turn.most < LOOK_OUT && turn.polls >= 1 && turn.is_over(context, self.is_alone());
@@ -425,8 +376,8 @@ impl Shared {
         self.pick_next(context, turn).or_else(|| self.pick_ready(context, turn))
     }
 
-    /// Takes the job that was spawned or woken last. If too many such jobs have run in a row, puts it into the line
-    /// (the local queue) instead, and returns None.
+    /// Takes the task that was set to run next. If `NEXTS` such tasks have run in a row, puts it at the end of this
+    /// worker's own queue instead, and returns None.
     #[inline]
     fn pick_next(&self, context: &Context, turn: &mut Turn) -> Option<Job> {
         if let Some(job) = context.worker.hand.next.take(context.alone) {
@@ -441,8 +392,8 @@ impl Shared {
         None
     }
 
-    /// Puts a job behind all ready jobs of this worker: into the line (the local queue) or, if `most` jobs are there
-    /// already, into its task slot as ready.
+    /// Puts a task at the end of this worker's line (its own queue) or, if `most` tasks are there, into the task's
+    /// slot, ready for any worker.
     #[inline]
     pub(crate) fn set_behind(&self, context: &Context, job: Job, most: usize) {
         if !context.worker.hand.line.put(job, most) {
@@ -450,8 +401,6 @@ impl Shared {
         }
     }
 
-    /// Returns how many jobs that yielded, or would make a chain too long, may be in the line (the local queue). While
-    /// any worker is idle, it is only one.
     #[inline]
     fn kept(&self) -> usize {
         match self.all_busy() {
@@ -498,8 +447,9 @@ impl Shared {
         }
     }
 
-    /// Takes the next ready job in the task slots of this worker, block by block. Returns None if no job is ready, or
-    /// after the last block if jobs in the line (the local queue) or tasks without a slot come first.
+    /// Takes the next ready task in the task slots of this worker, block (64 slots) by block. After the last block,
+    /// returns None if no task is ready, or if the worker must first run the tasks in its own queue or begin tasks that
+    /// wait for a slot.
     #[inline]
     fn sweep(&self, context: &Context, turn: &mut Turn) -> Option<Job> {
         loop {
@@ -525,10 +475,8 @@ impl Shared {
         }
     }
 
-    /// Finds the first block (of 64 task slots) with ready jobs of the worker `owner`, from block index `from` on.
-    ///
-    /// Returns the index at which the next search begins, the block, and a bit mask of its slots with ready jobs. Adds
-    /// to `stale` the number of empty blocks on the way whose summary bit is still set.
+    /// Searches the blocks (64 task slots each) of the worker `owner` for ready tasks. Returns the index of the block
+    /// after the one found, that block, and a bit mask of its slots with a ready task.
     #[inline]
     fn find_block(&self, hands: &Hands, owner: usize, from: usize, stale: &mut u32) -> Option<(usize, usize, u64)> {
         let first = from / SHARD;
@@ -551,16 +499,15 @@ impl Shared {
         None
     }
 
-    /// Puts the first task of the queue into a free slot, of this worker if possible. Returns `None` if no task is
-    /// queued or no slot is free, `Some(Some(job))` if this worker now holds the job, and `Some(None)` if another
-    /// worker will run it.
+    /// Puts the first task that waits for a task slot into a free one, of this worker if possible. Returns None if
+    /// there is no such task or no free slot, `Some(Some(job))` if this worker must run the task, and `Some(None)` if
+    /// the slot belongs to another worker, which will run it.
     fn begin_queued(&'static self, context: &Context) -> Option<Option<Job>> {
         let raw = self.pop_queued()?;
         if let Some(job) = self.place(context, raw) {
             return Some(job);
         }
-        // The flag must be set before the second try. Then a slot that was freed earlier is found by that try, and
-        // whoever frees one later clears the flag.
+        // The flag must be set before the second try: whoever frees a slot after that try clears the flag.
         self.clogged.store(true, SeqCst);
         if let Some(job) = self.place(context, raw) {
             self.clogged.store(false, SeqCst);
@@ -598,22 +545,21 @@ impl Shared {
 
     // --------------------------------------------------------------------------------------- others
 
-    /// Returns the workers without a core whose jobs the worker `me` runs, and whose timers it fires.
+    /// Returns the workers that may run no tasks now, and whose tasks the worker `me` runs for them.
     fn lodgers(&self, me: usize) -> impl Iterator<Item = usize> {
         let active = self.active.0.load(SeqCst);
         (active..self.workers.len()).filter(move |&other| other % active == me)
     }
 
-    /// Checks the epoll, the timers and the other workers, although this worker may have jobs to run. Returns false if
-    /// the arbiter wants this worker's core back.
+    /// Polls the epoll, fires timers, and takes tasks from workers in long polls, as a busy worker does now and then.
+    /// Returns false if this worker must give its processor back.
     #[inline(never)]
     fn look_out(&self, context: &Context, turn: &mut Turn, by_time: bool) -> bool {
         if context.worker.hand.line.len() > turn.few() && !self.all_busy() {
             self.rouse_any();
         }
-        // The jobs that this check finds must not run before the ready jobs of this worker; if polls are long, they
-        // must not run before the jobs in its line either. The only active worker takes all of them anyway, as it runs
-        // all jobs in that order.
+        // Jobs found here must not run before this worker's ready jobs or, if polls are long, before those of its local
+        // queue. The only active worker keeps all of them, since it runs all jobs in that order.
         let (alone, lasts) = (self.is_alone(), turn.few() < FEW);
         let first = |turn: &Turn| turn.wanted == 0 && !self.mine(context);
         let takes = alone || (context.worker.hand.line.is_empty() || !lasts) && first(turn);
@@ -636,11 +582,11 @@ impl Shared {
         !turn.counts || !self.is_asked_back(context.me)
     }
 
-    /// Takes jobs from workers that make no progress (no new poll since the last check), and fires their timers.
+    /// Takes tasks from each worker that has ended no poll of a task since this worker's last call. After `LONG` such
+    /// calls in a row, fires that worker's timers too.
     fn look_at_others(&self, context: &Context, turn: &mut Turn) {
-        // If polls are long, a worker that is in a poll counts as making no progress. Before this worker takes more
-        // jobs from it, it must have run those that it took before and one of its own. It must also have run the jobs
-        // of its line, unless the other worker's poll is very long.
+        // If polls are long, this worker also takes jobs from workers in a poll. But it first runs those that it took
+        // before and one of its own, and all jobs of its local queue, unless the other worker's poll is very long.
         let (active, long_polls) = (self.active.0.load(Relaxed), turn.few() < FEW);
         for other in 0..self.workers.len() {
             let worker = &self.workers[other].0;
@@ -668,8 +614,7 @@ impl Shared {
             if !gets_on && !sleeps && may_help {
                 self.take_out(context, turn, other, 2, lasts);
             }
-            // The blocks of a sleeping worker are checked only now and then: a worker is woken anyway when a job
-            // becomes ready there.
+            // A sleeping worker's slots are checked only now and then, as it is woken when a job becomes ready there.
             if (long || !sleeps) && may_help && self.ready(&context.hands, other) != 0 {
                 self.help(context, turn, other, 2);
             }
@@ -677,8 +622,8 @@ impl Shared {
         turn.helps = turn.first != 0;
     }
 
-    /// Takes up to `most` ready jobs from one block (64 task slots) of the worker `other`, to run them next on this
-    /// worker. Returns true if it took any.
+    /// Takes up to `most` ready tasks from one block (64 task slots) of the worker `other`, to run them before this
+    /// worker's own. Returns true if it got one.
     fn help(&self, context: &Context, turn: &mut Turn, other: usize, most: usize) -> bool {
         let (hands, stale) = (&context.hands, &mut 0);
         let start = context.random() as usize % (self.workers[other].0.used_shards().len() * SHARD);
@@ -689,8 +634,8 @@ impl Shared {
         self.has_taken(context, turn, got)
     }
 
-    /// Takes up to `most` jobs from the local queues of the worker `other`, to run them next on this worker. If `next`
-    /// is true, also takes the job that was to run next on `other`. Returns true if it took any.
+    /// Takes up to `most` tasks from the local queues of the worker `other`, to run them before this worker's own. If
+    /// `next` is true, takes even the task that `other` would run next. Returns true if it got one.
     fn take_out(&self, context: &Context, turn: &mut Turn, other: usize, most: usize, next: bool) -> bool {
         let most = most.min(FIRST - context.worker.hand.first.len());
         let jobs = (0..most).map_while(|_| self.workers[other].0.hand.take(next));
@@ -702,7 +647,6 @@ impl Shared {
         self.has_taken(context, turn, got)
     }
 
-    /// Makes a stolen job run before all other ready jobs of this worker.
     fn set_first(&self, context: &Context, job: Job) {
         if !context.worker.hand.first.put(job, FIRST) {
             self.make_ready(context, &job);
@@ -717,17 +661,11 @@ impl Shared {
         got != 0
     }
 
-    /// Returns how many jobs that events wake may still go into this worker's local queues.
     fn room(&self, context: &Context, turn: &Turn) -> usize {
         let most = if self.is_alone() { HAND } else { turn.few() };
         most.saturating_sub(context.worker.hand.line.len())
     }
 
-    /// Returns how many events to ask the epoll for: as many as this worker's local queues have room for.
-    ///
-    /// All other events stay in the kernel, in their order, for the next worker that polls the epoll. If this worker
-    /// took them too, their tasks would have to wait whenever this worker loses its processor, and would run before the
-    /// jobs in its line. A worker without room asks for a few events, whose tasks other workers can take.
     fn asks(&self, room: usize) -> usize {
         match room {
             0 if self.is_alone() => EVENTS,
@@ -741,16 +679,15 @@ impl Shared {
         self.active.0.load(Relaxed) == 1
     }
 
-    /// Polls the epoll, and fires the timers that are due. Returns how many events and timers there were.
+    /// Polls the epoll without waiting, fires the due timers, and wakes the tasks that waited for these. Returns the
+    /// number of events and timers.
     fn look_at_events(&self, context: &Context, room: usize) -> usize {
         let found = if self.reactor.is_used() { self.reactor.look(self.asks(room)) } else { Found::NOTHING };
         self.hear(context, &found, room)
     }
 
-    /// Wakes the tasks that wait for the events `found`, and fires the timers that are due. Returns how many events and
-    /// timers there were.
-    ///
-    /// The first `room` of the woken tasks go into this worker's local queues, and no worker is woken to help with
+    /// Wakes the tasks that wait for the events `found`, fires the due timers, and returns how many events and timers
+    /// there were. The first `room` of the woken tasks go into this worker's own queue, and no worker is woken for
     /// them.
     fn hear(&self, context: &Context, found: &Found, room: usize) -> usize {
         context.keeps.set(false);
@@ -767,8 +704,6 @@ impl Shared {
         heard
     }
 
-    /// Fires the due timers of the worker `other`, which is in a long poll or has no processor. No worker is woken to
-    /// help. Returns how many timers fired.
     fn fire_quietly(&self, context: &Context, other: usize) -> usize {
         context.keeps.set(false);
         let fired = self.fire(other);
@@ -776,7 +711,6 @@ impl Shared {
         fired
     }
 
-    /// Fires the timers of the worker `owner` that are due. Returns how many there were.
     pub(crate) fn fire(&self, owner: usize) -> usize {
         if self.next_timer(owner) == u64::MAX {
             return 0;
@@ -786,8 +720,7 @@ impl Shared {
         fire(&self.workers[owner].0.timers) + if owner == 0 { fire(&self.visitors) } else { 0 }
     }
 
-    /// Returns the time (in nanoseconds) at which the first timer of the worker `owner` is due; `u64::MAX` if it has
-    /// none.
+    /// Returns when (in nanoseconds) the earliest timer of the worker `owner` is due; `u64::MAX` if it has none.
     #[inline]
     pub(crate) fn next_timer(&self, owner: usize) -> u64 {
         let own = self.workers[owner].0.timers.next();
@@ -798,11 +731,10 @@ impl Shared {
         }
     }
 
-    /// Steals half of another worker's ready jobs. If it has none and `last` is true, steals half of the jobs in that
-    /// worker's local queues instead, but not the one that runs next.
-    ///
-    /// A worker's only job is stolen only if that worker sleeps or has made no new poll since the last check. Returns
-    /// true if any job was stolen.
+    /// Steals half of the ready tasks in another worker's task slots. If there is none and `last` is true, steals half
+    /// of the tasks in that worker's local queues, but not the one that it runs next. A worker's only task is stolen
+    /// only if that worker sleeps or, with `last`, has ended no poll since this worker began to search. Returns true if
+    /// it stole a task.
     fn steal(&self, context: &Context, turn: &mut Turn, last: bool) -> bool {
         let count = self.workers.len();
         let offset = context.random() as usize % count;
@@ -824,7 +756,6 @@ impl Shared {
 
     // --------------------------------------------------------------------------------------- the loop
 
-    /// The loop of a worker's thread, which ends when the runtime stops.
     pub(crate) fn work(&'static self, context: &Context, mut judge: Option<Judge>, counts: bool) {
         let mut turn = Turn::new(self, counts);
         let worker = context.worker;
@@ -860,8 +791,6 @@ impl Shared {
         self.lay_down(context, &mut turn);
     }
 
-    /// Polls the epoll, unless another worker waits in it, and fires the timers that are due. Returns how many events
-    /// and timers there were.
     fn look_when_idle(&self, context: &Context, turn: &mut Turn) -> usize {
         let room = self.room(context, turn);
         if self.waits.0.load(Relaxed) != NO_ONE {
@@ -869,21 +798,19 @@ impl Shared {
         }
         let heard = self.look_at_events(context, room);
         if heard != 0 && self.is_alone() {
-            // This worker's local queues may be full now. The next check must not be due before these jobs have run, as
-            // it would find no room.
+            // The local queues may be full now: a check before these jobs have run would find no room.
             turn.pace(context, now());
             self.looked.0.store(context.looked.get(), Relaxed);
         }
         heard
     }
 
-    /// Takes ready jobs of the workers without a core for which this worker works. Returns true if it took any.
     fn help_lodgers(&self, context: &Context, turn: &mut Turn) -> bool {
         self.lodgers(context.me)
             .any(|other| self.ready(&context.hands, other) != 0 && self.help(context, turn, other, FEW))
     }
 
-    /// Makes all jobs in this worker's local queues ready, so that any worker can take them.
+    /// Puts all tasks in this worker's local queues back into their task slots, ready for any worker.
     pub(crate) fn lay_down(&self, context: &Context, turn: &mut Turn) {
         while let Some(job) = context.worker.hand.take(true) {
             let unpark = context.hands.rest_ready(&job);

@@ -1,4 +1,4 @@
-//! Tests of the crate by programs like those in docs/rust.md.
+//! Programs like those in docs/rust.md.
 use arachne::*;
 use std::sync::atomic::*;
 use std::sync::Arc;

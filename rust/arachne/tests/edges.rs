@@ -1,5 +1,4 @@
-//! Tests of futures, tasks and runtimes that are dropped, aborted or ended early: nothing leaks, and no task or thread
-//! waits for ever.
+//! Futures, tasks and runtimes that are dropped, aborted or ended early. Nothing may leak, or wait for ever.
 use arachne::{
     block_on, channel, net, sleep, spawn, spawn_blocking, stopping, timeout, yield_now, Builder, JoinError, Lock,
     Runtime, Semaphore, Signal,
@@ -14,7 +13,6 @@ use std::thread;
 use std::time::{Duration, Instant};
 
 const MS: Duration = Duration::from_millis(1);
-/// A time that is longer than any delay on a busy machine.
 const LONG: Duration = Duration::from_secs(120);
 
 struct Nobody;
@@ -22,7 +20,6 @@ impl Wake for Nobody {
     fn wake(self: Arc<Self>) {}
 }
 
-/// A waker that counts its wakes.
 #[derive(Default)]
 struct Woken(AtomicUsize);
 impl Wake for Woken {
@@ -31,7 +28,6 @@ impl Wake for Woken {
     }
 }
 
-/// Polls once, with a waker that wakes nobody.
 fn poll_once<F: Future + Unpin>(future: &mut F) -> Poll<F::Output> {
     let waker = Arc::new(Nobody).into();
     Pin::new(future).poll(&mut Context::from_waker(&waker))
@@ -45,8 +41,7 @@ impl Drop for OnDrop {
     }
 }
 
-/// Polls a future with a waker whose references are counted, makes the future ready by `let_it`, and polls it until it
-/// is ready. Checks that the future has then dropped the waker.
+/// Once `let_it` has made the future ready, the future must have dropped its waker.
 fn frees_its_waker(runtime: &Runtime, what: &str, future: impl Future, let_it: impl FnOnce()) {
     let (mut future, counted, start) = (Box::pin(future), Arc::new(Nobody), Instant::now());
     let mut poll = || {
@@ -65,8 +60,7 @@ fn frees_its_waker(runtime: &Runtime, what: &str, future: impl Future, let_it: i
     }
 }
 
-/// Polls a future with a waker whose references are counted, and drops the future while it waits. Checks that the waker
-/// was dropped too.
+/// A future that is dropped while it waits must have dropped its waker.
 fn frees_its_waker_at_drop(runtime: &Runtime, what: &str, future: impl Future) {
     let (mut future, counted) = (Box::pin(future), Arc::new(Nobody));
     let waker = counted.clone().into();
@@ -99,8 +93,7 @@ fn wakers_of_others_are_freed() {
     frees_its_waker(&runtime, "a handle", task, || gate.add_permits(1));
 }
 
-/// A waiting future is woken because it is its turn, and is dropped before it is polled. Then the next future in the
-/// queue is woken.
+/// If a future is woken as its turn comes, and dropped before it is polled, the next one in the queue must be woken.
 #[test]
 fn a_turn_that_was_given_is_handed_on_at_drop() {
     let (sender, receiver) = channel(1);
@@ -125,8 +118,7 @@ fn a_turn_that_was_given_is_handed_on_at_drop() {
     assert_eq!(semaphore.available_permits(), 2);
 }
 
-/// A waiting sender or receiver is woken when the other end of the channel is dropped. Values that nobody can receive
-/// any more are dropped.
+/// Values that nobody can receive must be dropped.
 #[test]
 fn whoever_waits_hears_that_the_other_end_is_gone() {
     let runtime = Runtime::new(1);
@@ -166,7 +158,7 @@ fn what_is_aborted_before_it_begins_never_runs() {
             thread::yield_now();
         }
     };
-    // The only worker, or the only thread of the blocking pool, is kept busy until the task or the work was aborted.
+    // The only worker, or the only thread of the blocking pool, is busy until the second task or work was aborted.
     for blocking in [false, true] {
         (runs.store(false, SeqCst), gate.store(false, SeqCst));
         let (first, began) = (busy.clone(), Arc::new(AtomicBool::new(false)));
@@ -189,7 +181,6 @@ fn what_is_aborted_before_it_begins_never_runs() {
     }
 }
 
-/// A task that waits for a timer is polled once when the timer is due, and not again.
 #[test]
 fn a_timer_wakes_once() {
     let runtime = Runtime::new(2);
@@ -202,7 +193,7 @@ fn a_timer_wakes_once() {
         is_due = is_due || Pin::new(&mut sleeps).poll(cx).is_ready();
         Poll::<()>::Pending
     }));
-    // The sleeps follow one another, so that a busy machine doesn't merge several wakes into one.
+    // These sleeps follow one another, so that a busy machine doesn't merge several wakes into one.
     (0..8).for_each(|_| block_on(runtime.spawn(sleep(4 * MS))).unwrap());
     assert!(polls.load(SeqCst) <= 2, "{} polls", polls.load(SeqCst));
     task.abort();
@@ -213,8 +204,7 @@ fn a_sleep_wakes_whoever_polled_it_last() {
     let runtime = Runtime::new(2);
     let (sender, receiver) = channel(1);
     let (back, comes) = channel(1);
-    // One task polls the sleep twice, with its own waker. A second task polls it and sends it to this thread, which
-    // polls it and moves it to a third task.
+    // A task polls the sleep twice. A second task polls it, and then this thread, which moves it to a third task.
     runtime.spawn(async move {
         let mut sleeps = sleep(150 * MS);
         for _ in 0..2 {
@@ -263,7 +253,7 @@ fn the_end_waits_for_work_that_blocks() {
     assert_eq!(runtime.shutdown_within(LONG).aborted, 0);
     assert_eq!(done.load(SeqCst), 5);
     all.into_iter().for_each(|task| assert!(block_on(task).is_ok()));
-    // If no time is left, the runtime cancels work that has not begun, and also work that is requested later.
+    // If no time is left, the runtime cancels work that has not begun, and work that is requested later.
     let runtime = Builder::new(1).blocking_threads(1).build().unwrap();
     let (dropped, began) = (Arc::new(AtomicUsize::new(0)), Arc::new(AtomicBool::new(false)));
     let (seen, begins, kept) = (dropped.clone(), began.clone(), OnDrop(dropped));
@@ -285,8 +275,8 @@ fn the_end_waits_for_work_that_blocks() {
     assert!(matches!(block_on(block_on(asks_late).unwrap()), Err(JoinError::Cancelled)));
 }
 
-/// Blocking work that never ends delays `shutdown_within` only until the deadline. No later runtime gets the tasks that
-/// this work spawns.
+/// A closure of `spawn_blocking` that never ends delays the runtime's end only until the deadline. A task that the
+/// closure spawns after that must not run in a later runtime.
 #[test]
 fn the_end_leaves_work_that_blocks_for_ever() {
     let (release, blocks) = std::sync::mpsc::channel::<()>();
@@ -311,8 +301,7 @@ fn the_end_leaves_work_that_blocks_for_ever() {
     assert_eq!(next.live(), 0);
 }
 
-/// After the runtime has begun to end, blocking work spawns a task and waits for it. This doesn't delay the runtime's
-/// end.
+/// The end must come even if a `spawn_blocking` closure spawns a task, and waits for it, while the runtime ends.
 #[test]
 fn the_end_cancels_what_work_that_blocks_has_spawned() {
     let runtime = Runtime::new(1);
@@ -330,8 +319,8 @@ fn the_end_cancels_what_work_that_blocks_has_spawned() {
     assert!(matches!(block_on(work).unwrap(), Err(JoinError::Cancelled)));
 }
 
-/// While the only worker is in a poll that doesn't end, the timers of other threads fire, and so do those of a
-/// `block_on` in that poll.
+/// While the only worker is in an endless poll, timers of other threads, and of a `block_on` in this poll, must still
+/// fire.
 #[test]
 fn timers_of_other_threads_fire_while_the_worker_blocks() {
     let (runtime, blocks) = (Runtime::new(1), Arc::new(AtomicBool::new(true)));
@@ -370,7 +359,7 @@ fn a_runtime_is_entered_and_ended_within_a_task_of_another_or_its_own() {
     drop(block_on(drops));
 }
 
-/// `stopping` wakes only the last waker with which it was polled.
+/// `stopping` must wake only the waker with which it was polled last.
 #[test]
 fn who_waits_for_the_end_may_change() {
     let runtime = Runtime::new(1);
@@ -385,8 +374,7 @@ fn who_waits_for_the_end_may_change() {
     assert_eq!(woken, [0, 0, 1]);
 }
 
-/// While one worker is in an endless poll, a wake reaches the other worker, which sleeps; the woken task's slot may
-/// belong to either worker.
+/// A worker that sleeps while the only other one is in an endless poll must run each task that is woken.
 #[test]
 fn a_sleeper_is_woken_beside_a_busy_worker() {
     let runtime = Runtime::new(2);
@@ -438,7 +426,6 @@ fn a_writer_waits_for_room() {
     block_on(writes).unwrap();
 }
 
-/// A future that panics at its poll, or is ready and panics at its drop.
 struct Panics {
     in_drop: bool,
     _kept: OnDrop,
@@ -468,7 +455,7 @@ fn a_panic_leaks_nothing_and_is_told() {
     assert_eq!(dropped.load(SeqCst), 2);
 }
 
-/// If no task slot is free, `try_spawn` returns the future instead of putting the task into the queue.
+/// If no task slot is free, `try_spawn` must return the future in its error.
 #[test]
 fn what_has_no_place_comes_back() {
     let runtime = Builder::new(1).places(1).build().unwrap();
@@ -502,8 +489,7 @@ fn what_has_no_place_at_the_end_is_cancelled() {
     tasks.into_iter().for_each(|task| assert!(matches!(block_on(task), Err(JoinError::Cancelled))));
 }
 
-/// While the only worker is in a long poll, the watcher is the first to run some tasks. The runtime's end must find
-/// these tasks, too.
+/// During a long poll, the watcher (a kernel thread) runs some tasks, which the runtime's end must find too.
 #[test]
 fn what_the_watcher_ran_ends_with_the_runtime() {
     let runtime = Builder::new(1).watch_polls(5 * MS, false).build().unwrap();
@@ -528,7 +514,6 @@ fn what_the_watcher_ran_ends_with_the_runtime() {
     waiting.into_iter().for_each(|task| assert!(matches!(block_on(task), Err(JoinError::Cancelled))));
 }
 
-/// A task of another runtime, or blocking work, waits for a socket of a runtime that ends: it gets an error.
 #[test]
 fn a_socket_of_an_ended_runtime_keeps_nobody_waiting() {
     let (ends, runtime) = (Runtime::new(1), Runtime::new(2));
@@ -553,7 +538,6 @@ fn a_socket_of_an_ended_runtime_keeps_nobody_waiting() {
     }
 }
 
-/// A sleep begins in a runtime that ends. The sleep continues in whichever runtime polls it next.
 #[test]
 fn a_sleep_outlives_its_runtime() {
     let (ends, runtime) = (Runtime::new(1), Runtime::new(2));
@@ -567,7 +551,8 @@ fn a_sleep_outlives_its_runtime() {
     runtime.block_on(moved);
 }
 
-/// A later runtime of the same size reuses the state of an ended one. This size is used in no other test: 7 workers.
+/// A wait for a socket of an ended runtime must fail even if a later runtime of the same size reuses the state. No
+/// other test uses this size, 7 workers.
 #[test]
 fn a_socket_of_an_ended_runtime_waits_in_no_later_one() {
     let (ends, signal) = (Runtime::new(7), Signal::heard(10).unwrap());

@@ -1,8 +1,8 @@
-//! Checks that the declarations in Rust agree with the header: codes, types and order of fields, and signatures.
+//! The crate's declarations of the proved library agree with its C header: codes, structs and signatures.
 use std::collections::BTreeMap;
 use std::path::PathBuf;
 
-/// Returns the text of the header that is beside the archive or, if there is none, of the repository's.
+/// Returns the header that is beside the library's archive or, if there is none, the repository's.
 fn header() -> Option<String> {
     let beside = std::env::var("ARACHNE_LIBS").ok().map(|folder| PathBuf::from(folder).join("arachne_exec.h"));
     // In the folder of scripts/release, and in the repository.
@@ -26,7 +26,6 @@ fn without_comments(text: &str) -> String {
         .join("\n")
 }
 
-/// Returns the Rust type for a type of C.
 fn rust_type(c: &str) -> String {
     let c = c.trim();
     if let Some(to) = c.strip_suffix('*') {
@@ -46,7 +45,6 @@ fn rust_type(c: &str) -> String {
     .to_string()
 }
 
-/// Returns the type and the name in a declaration such as `uint64_t at`, `void *opaque` or `const T *to`.
 fn declared(text: &str) -> (String, String) {
     let text = text.trim();
     let at = text.rfind(|c: char| !(c.is_alphanumeric() || c == '_')).expect("a type and a name");
@@ -162,7 +160,6 @@ fn declarations_agree_with_the_header() {
     }
 }
 
-/// The comparison detects each kind of difference.
 #[test]
 fn a_slip_would_be_seen() {
     let text =

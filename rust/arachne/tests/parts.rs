@@ -1,5 +1,4 @@
-//! Tests of each part of the crate: abort, time, channel, semaphore, limits, the runtime's end, blocking work,
-//! observation.
+//! Tests of each part of the crate: abort, time, channels, semaphores, limits, shutdown, blocking work, observation.
 use arachne::{
     block_on, channel, net, sleep, spawn, spawn_background, spawn_blocking, spawn_named, stopping, timeout, yield_now,
     Builder, Doing, Elapsed, Hooks, JoinError, Limit, Lock, Policy, Runtime, Semaphore, SendError, Signal,
@@ -13,7 +12,6 @@ use std::thread;
 use std::time::{Duration, Instant};
 
 const MS: Duration = Duration::from_millis(1);
-/// A time that is longer than any delay on a busy machine.
 const LONG: Duration = Duration::from_secs(120);
 
 struct Nobody;
@@ -21,7 +19,6 @@ impl Wake for Nobody {
     fn wake(self: Arc<Self>) {}
 }
 
-/// Polls once, with a waker that wakes nobody.
 fn poll_once<F: Future + Unpin>(future: &mut F) -> Poll<F::Output> {
     let waker = Arc::new(Nobody).into();
     std::pin::Pin::new(future).poll(&mut Context::from_waker(&waker))
@@ -47,7 +44,6 @@ fn an_aborted_task_is_dropped_and_says_so() {
             })
         })
         .collect();
-    // After this number of polls, half of the tasks wait.
     while runtime.stats().polls < 250 {
         thread::yield_now();
     }
@@ -56,7 +52,6 @@ fn an_aborted_task_is_dropped_and_says_so() {
         assert!(matches!(block_on(task), Err(JoinError::Aborted)));
     }
     assert_eq!(dropped.load(SeqCst), 500);
-    // A task that has ended keeps its output.
     let task = runtime.spawn(async { 7 });
     while !task.is_finished() {
         thread::yield_now();
@@ -108,7 +103,6 @@ fn sleeps_end_in_order_and_not_early() {
         })
         .collect();
     tasks.into_iter().for_each(|task| block_on(task).unwrap());
-    // The same from outside of the runtime, by `block_on`.
     let start = Instant::now();
     runtime.block_on(sleep(5 * MS));
     assert!(start.elapsed() >= 5 * MS);
@@ -250,7 +244,7 @@ fn a_connection_is_made_without_blocking_and_refused() {
     });
     assert_eq!(&block_on(client).unwrap(), b"hello");
     assert_eq!(&block_on(server).unwrap(), b"hello");
-    // Another test may have got the port meanwhile, but not at this address.
+    // Another test may have the port now, but not at this address.
     let nobody = std::net::SocketAddr::from(([127, 98, 76, 54], at.port()));
     let refused = runtime.spawn(async move { net::TcpStream::connect(nobody).await.map(drop) });
     assert!(block_on(refused).unwrap().is_err());
@@ -275,7 +269,6 @@ fn work_that_blocks_has_threads_of_its_own() {
     let sum: i32 = all.into_iter().map(|task| block_on(task).unwrap()).sum();
     assert_eq!(sum, 15);
     assert!(start.elapsed() >= 40 * MS, "more threads than were allowed");
-    // Blocking work may spawn tasks.
     let inner = runtime.block_on(async { spawn_blocking(|| spawn(async { 7 })).await.unwrap() });
     assert_eq!(block_on(inner).unwrap(), 7);
 }
@@ -317,7 +310,7 @@ fn what_has_no_place_is_refused_or_waits() {
     waiting.into_iter().for_each(|task| block_on(task).unwrap());
 }
 
-/// A listener whose connections return each byte after 30 ms.
+/// A server that reads a byte from each connection, and sends it back after 30 ms.
 async fn slow_echo(listener: net::TcpListener, accepted: Arc<AtomicUsize>) {
     while let Ok((stream, _)) = listener.accept().await {
         accepted.fetch_add(1, SeqCst);
@@ -397,8 +390,7 @@ fn what_has_come_when_the_end_begins_is_read() {
     let streams: Vec<_> = (0..COUNT).map(|_| std::net::TcpStream::connect(to).unwrap()).collect();
     streams.iter().for_each(|stream| ask(stream, 1));
     streams.iter().for_each(|stream| assert_eq!(answer(stream).unwrap(), 1));
-    // The only worker checks no socket until the runtime has begun to end. Then it reads the data that arrived
-    // meanwhile.
+    // The only worker checks no socket until the runtime's end begins. Then it must read data that arrived before.
     let near = std::net::TcpListener::bind("127.0.0.1:0").unwrap();
     let far = std::net::TcpStream::connect(near.local_addr().unwrap()).unwrap();
     let near = net::TcpStream::from_std(near.accept().unwrap().0).unwrap();
@@ -441,7 +433,7 @@ fn the_end_waits_for_nothing_in_the_background() {
     };
     let first = runtime.spawn_background(sweeps(OnDrop(dropped.clone())));
     let (at, ends) = (OnDrop(dropped.clone()), ended.clone());
-    // This task takes a while to end, and spawns background tasks meanwhile; some of these also end.
+    // This task takes a while to end. Before that, it spawns background tasks, some of which end.
     runtime.spawn(async move {
         drop(spawn_background(sweeps(at)));
         for _ in 0..300 {
@@ -456,7 +448,7 @@ fn the_end_waits_for_nothing_in_the_background() {
     assert!(start.elapsed() < LONG);
     assert_eq!((ended.load(SeqCst), dropped.load(SeqCst)), (1, 2));
     assert!(matches!(block_on(first), Err(JoinError::Cancelled)));
-    // A task that isn't in the background still counts.
+    // The runtime's end still waits for a task that isn't in the background.
     let runtime = Runtime::new(2);
     runtime.spawn_background(std::future::pending::<()>());
     runtime.spawn(std::future::pending::<()>());
@@ -474,7 +466,7 @@ fn a_signal_is_heard() {
     assert!(signal.wait());
 }
 
-/// A caught signal of a fault would be raised again and again, because the failed instruction is repeated.
+/// A signal of a fault can't be caught, because the failed instruction would be repeated and fail again.
 #[test]
 fn signals_of_faults_are_refused() {
     let error = |number| Signal::heard(number).unwrap_err().raw_os_error();
@@ -526,7 +518,7 @@ fn an_observed_runtime_lists_its_tasks() {
     while runtime.tasks().iter().filter(|task| waits(task)).count() < 5 {
         thread::sleep(MS);
     }
-    // Without this call the signal that is raised next would end the process.
+    // Without this call, the signal that is raised next would end the process.
     runtime.list_tasks_at(10).unwrap();
     raise("USR1");
     for task in runtime.tasks() {
@@ -618,8 +610,7 @@ fn cores_are_given_back_and_asked_for() {
     busy.into_iter().for_each(|task| block_on(task).unwrap());
 }
 
-/// Some tasks yield for ever. Meanwhile, other ready tasks are polled, events of the epoll are handled, and timers
-/// fire.
+/// Other tasks must still be polled, sockets be read, and timers fire.
 #[test]
 fn tasks_that_yield_for_ever_hold_nobody_up() {
     // With only one worker, no other worker can check its epoll.
@@ -662,8 +653,7 @@ fn echo_beside_yields(cores: usize) {
     busy.into_iter().for_each(|task| block_on(task).unwrap());
 }
 
-/// Far more tasks than there are blocks (of 64 task slots) become ready again and again. No task runs twice as often as
-/// another.
+/// No task may run twice as often as another.
 #[test]
 fn tasks_that_yield_for_ever_run_equally_often() {
     for (cores, count) in [(1, 20), (1, 1000), (1, 5000)] {
@@ -690,8 +680,7 @@ fn tasks_that_yield_for_ever_run_equally_often() {
     }
 }
 
-/// While all workers are busy, one worker has many tasks in its local queues. As soon as another worker becomes idle,
-/// the first makes most of these tasks ready, so that the other can take them.
+/// While all workers are busy, one has many tasks. Once another is idle, it must get to run some of these tasks.
 #[test]
 fn what_is_in_hand_is_for_whoever_has_nothing_to_do() {
     let runtime = Runtime::new(2);
@@ -734,8 +723,7 @@ fn what_is_in_hand_is_for_whoever_has_nothing_to_do() {
     block_on(other).unwrap();
 }
 
-/// A socket that always has more data doesn't occupy its worker for ever, whether or not a task has waited for it
-/// before.
+/// The only worker must still run other tasks.
 #[test]
 fn a_socket_that_always_has_more_holds_nobody_up() {
     for waits in [false, true] {
@@ -776,7 +764,6 @@ fn a_socket_that_always_has_more_holds_nobody_up() {
     }
 }
 
-/// A connection always has more data. It is served until the deadline, and not longer.
 #[test]
 fn what_always_has_more_ends_at_the_deadline() {
     let (runtime, (near, mut far)) = (Runtime::new(2), std::os::unix::net::UnixStream::pair().unwrap());
@@ -793,7 +780,7 @@ fn what_always_has_more_ends_at_the_deadline() {
     assert!(begin.elapsed() < LONG / 2);
 }
 
-/// When the runtime begins to end, data that arrived before is still read, even if one poll can't read all of it.
+/// When the runtime begins to end, data that arrived before must still be read, even if one poll can't read all of it.
 #[test]
 fn what_was_put_off_is_read_before_the_end() {
     const LEN: usize = 40_000;
@@ -861,8 +848,6 @@ fn what_is_read_within_block_on_in_a_task_is_not_put_off() {
     assert_eq!(block_on(task).unwrap(), 50);
 }
 
-/// The tasks that wait for sockets run in the order of the events, even if the tasks are more than fit into a worker's
-/// local queues.
 #[test]
 fn sockets_are_heard_in_the_order_in_which_they_were_told_of() {
     for count in [8, 200] {
@@ -917,7 +902,7 @@ fn a_burst_of_connections_waits_to_be_accepted() {
     let runtime = Runtime::new(2);
     let listener = net::TcpListener::bind("127.0.0.1:0").unwrap();
     let to = listener.local_addr().unwrap();
-    // No task accepts yet, so a client for which the backlog has no room would not be connected at all.
+    // No task accepts yet, so a client for which the backlog has no room can't connect.
     let connect = |_| std::net::TcpStream::connect_timeout(&to, 10_000 * MS).expect("there is no room for it");
     let begun: Vec<_> = (0..count).map(connect).collect();
     let accepts = runtime.spawn(async move {
@@ -948,7 +933,7 @@ fn each_kernel_thread_is_started_before_its_first_task() {
     assert!(tasks.into_iter().all(|task| block_on(task).unwrap() == 1));
     drop(runtime);
     assert_eq!(count.swap(0, SeqCst), 3);
-    // The watcher polls tasks too, if no worker is free.
+    // The watcher (a kernel thread that watches polls) polls tasks too, if no worker is free.
     let runtime = Builder::new(1).watch_polls(5 * MS, false).on_worker_start(starts).build().unwrap();
     let (runs, ends) = (Arc::new(AtomicBool::new(false)), Arc::new(AtomicBool::new(false)));
     let (told, end) = (runs.clone(), ends.clone());
@@ -970,7 +955,6 @@ fn each_kernel_thread_is_started_before_its_first_task() {
     assert_eq!(count.load(SeqCst), 2);
 }
 
-/// The result type of a caller with boxed errors.
 async fn boxed(task: arachne::JoinHandle<u8>) -> Result<u8, Box<dyn std::error::Error + Send + Sync>> {
     Ok(task.await?)
 }
@@ -991,12 +975,10 @@ fn a_panic_is_an_error_and_can_go_on() {
     let error = block_on(panics()).unwrap_err();
     assert!(!error.is_cancelled() && format!("{error:?}, {error}") == "Panicked(..), the task panicked");
     assert_eq!(*error.into_panic().downcast::<u32>().unwrap(), 7);
-    // A task that was aborted has no panic to resume.
     let waits = runtime.spawn(std::future::pending::<u8>());
     waits.abort();
     let error = block_on(boxed(waits)).unwrap_err().downcast::<JoinError>().unwrap();
     assert!(error.is_cancelled() && matches!(error.try_into_panic(), Err(JoinError::Aborted)));
-    // The message of a panic is reported.
     match block_on(runtime.spawn(async { panic!("on {}", "purpose") })) {
         Err::<(), _>(JoinError::Panicked(panic)) => assert_eq!(panic.message(), Some("on purpose")),
         _ => unreachable!(),
@@ -1044,7 +1026,6 @@ fn other_descriptors_are_awaited() {
     block_on(writer).unwrap();
     block_on(echoes).unwrap();
     assert!(block_on(reader).unwrap() == bytes);
-    // Datagrams of UDP.
     let socket = || net::Async::new(std::net::UdpSocket::bind("127.0.0.1:0").unwrap()).unwrap();
     let (near, far) = (socket(), socket());
     let to = far.get_ref().local_addr().unwrap();
@@ -1066,7 +1047,6 @@ fn other_descriptors_are_awaited() {
     block_on(asks).unwrap();
 }
 
-/// A struct that derives Debug and has the crate's types as fields.
 #[derive(Debug)]
 #[allow(dead_code)]
 struct Shown<'a> {

@@ -1,5 +1,5 @@
-//! A long poll keeps a worker busy. A free worker must run the ready tasks behind that poll, in whichever local queue
-//! or task slot they are.
+//! While a worker is in a long poll (the *blocking* poll), others must run the ready tasks *behind* that poll: those in
+//! the local queues and task slots of the poll's worker.
 use arachne::{block_on, net, sleep, spawn, yield_now, Builder, JoinHandle, Policy, Runtime, Semaphore};
 use std::io::{Read, Write};
 use std::os::unix::net::UnixStream;
@@ -9,12 +9,10 @@ use std::thread;
 use std::time::{Duration, Instant};
 
 const MS: Duration = Duration::from_millis(1);
-/// How long the blocking poll lasts if not all tasks begin before. No thread waits that long for a processor.
+/// The blocking poll ends after this time even if some task has not begun. No wait for a processor takes as long.
 const POLL: Duration = Duration::from_secs(2);
-/// If processors are free, each task must begin within this time, even if the free workers sleep when the task becomes
-/// ready.
+/// With free processors, each task behind the poll must begin within this time, even if the free workers sleep.
 const SOON: Duration = Duration::from_millis(5);
-/// A time that is longer than any delay on a busy machine.
 const LONG: Duration = Duration::from_secs(60);
 const CORES: usize = 3;
 const BEHIND: usize = 8;
@@ -27,8 +25,7 @@ fn until(what: &str, most: Duration, done: impl Fn() -> bool) {
     }
 }
 
-/// The record of one repetition of a test: how many tasks are ready behind the blocking one, since when, and when each
-/// of them began.
+/// One repetition of a test: the number of tasks behind the blocking poll, and the time after which each began.
 #[derive(Clone)]
 struct Seen(Arc<Marks>);
 
@@ -45,8 +42,7 @@ impl Seen {
         Seen(Arc::new(Marks { behind, ..Marks::default() }))
     }
 
-    /// The first call blocks its worker until all other tasks have begun, or `POLL` has passed. Each later call records
-    /// that a task begins.
+    /// The first call blocks its worker until all tasks have begun, at most for `POLL`. Later calls record their time.
     fn begins(&self) {
         let now = Instant::now();
         if !self.0.blocks.swap(true, SeqCst) {
@@ -64,8 +60,7 @@ impl Seen {
         self.0.began.lock().unwrap().len() == self.0.behind
     }
 
-    /// Waits until all tasks have begun, and fails if the blocking poll ends before. Returns how long after becoming
-    /// ready the last task began.
+    /// Returns the time after which the last task began. Fails if the blocking poll ends before that.
     fn last(&self) -> Duration {
         until("what is behind a poll", LONG, || self.have_begun());
         let last = *self.0.began.lock().unwrap().iter().max().unwrap();
@@ -78,11 +73,9 @@ impl Seen {
     }
 }
 
-/// Tasks that keep their workers busy until they are released.
 struct Busy(Arc<AtomicBool>, Vec<JoinHandle<()>>);
 
 impl Busy {
-    /// Occupies `workers` workers until the result is released.
     fn keep(runtime: &Runtime, workers: usize) -> Busy {
         let (end, begun) = (Arc::new(AtomicBool::new(false)), Arc::new(AtomicUsize::new(0)));
         let keep = |_| {
@@ -103,8 +96,7 @@ impl Busy {
     }
 }
 
-/// A thread that sleeps for a millisecond, again and again. It records when it last woke too late, which means that no
-/// processor was free.
+/// A thread that sleeps again and again. It returns when it last woke late, because no processor was free.
 struct Calm(Arc<AtomicBool>, thread::JoinHandle<Option<Instant>>);
 
 impl Calm {
@@ -129,8 +121,8 @@ impl Calm {
     }
 }
 
-/// Repeats a test. In each repetition, all tasks behind the poll must begin before the poll ends. If the machine had
-/// free processors in at least six repetitions, then in half of those the tasks must begin within `soon`.
+/// Each time, all tasks behind the blocking poll must begin before that poll ends. If the machine had free processors
+/// in at least six repetitions, the tasks must begin within `soon` in half of these repetitions.
 fn rounds(soon: Duration, behind: usize, round: impl Fn(&Runtime, &Seen, Duration)) {
     let runtime = Runtime::new(CORES);
     let (mut calm, mut late) = (0, Vec::new());
@@ -149,10 +141,11 @@ fn rounds(soon: Duration, behind: usize, round: impl Fn(&Runtime, &Seen, Duratio
     assert!(calm < 6 || late.len() * 2 <= calm, "in {calm} calm rounds late: {late:?}");
 }
 
-/// The ready tasks are some that have yielded while all workers were busy.
+/// While a task's poll blocks its worker, tasks that yielded there earlier are run by the other workers, once these are
+/// no longer busy.
 #[test]
 fn what_has_yielded_is_run() {
-    // A worker that becomes free checks for those tasks before it sleeps.
+    // A worker that becomes free checks for the tasks that have yielded before it sleeps.
     rounds(MS, BEHIND, |runtime, seen, pause| {
         thread::sleep(pause);
         let others = Busy::keep(runtime, CORES - 1);
@@ -178,7 +171,7 @@ fn what_has_yielded_is_run() {
     });
 }
 
-/// One of the ready tasks would run next on the blocked worker; the others became ready before it.
+/// Other workers must run the tasks behind the blocking poll, even the one that would run next on that poll's worker.
 #[test]
 fn what_is_next_is_run() {
     for asleep in [true, false] {
@@ -207,7 +200,7 @@ fn what_is_next_is_run() {
     }
 }
 
-/// All workers have slept for long. Only one task becomes ready, and no other worker is woken for it.
+/// After all workers have slept 100 ms, a task spawns another and blocks. A second worker must soon run the new task.
 #[test]
 fn what_is_next_is_run_after_a_long_sleep() {
     rounds(SOON, 1, |runtime, seen, _| {
@@ -223,7 +216,8 @@ fn what_is_next_is_run_after_a_long_sleep() {
     });
 }
 
-/// While the other workers were busy, one poll of the epoll has returned the events for all tasks.
+/// One worker gets the events of all tasks' sockets while the other workers are busy, and its first task blocks. Once
+/// free, the others must run the other tasks.
 #[test]
 fn what_was_told_of_is_run() {
     rounds(SOON, BEHIND, |runtime, seen, pause| {
@@ -249,7 +243,8 @@ fn what_was_told_of_is_run() {
     });
 }
 
-/// While all other workers sleep, the worker that waits in the epoll gets the events for all tasks at once.
+/// The worker in the epoll gets the events of all tasks' sockets, and its first task blocks. The sleeping workers must
+/// run the other tasks.
 #[test]
 fn what_was_told_of_is_run_by_who_sleeps() {
     rounds(SOON, BEHIND, |runtime, seen, pause| {
@@ -269,8 +264,8 @@ fn what_was_told_of_is_run_by_who_sleeps() {
     });
 }
 
-/// Other workers have stolen the tasks from a worker that is stuck in a poll. The first of the stolen tasks blocks its
-/// worker, too.
+/// Workers steal the tasks of a worker in a poll, and the first stolen task blocks its thief. All tasks must soon
+/// begin.
 #[test]
 fn what_was_taken_of_a_worker_that_does_not_get_on_is_run() {
     for asleep in [true, false] {
@@ -298,8 +293,7 @@ fn what_was_taken_of_a_worker_that_does_not_get_on_is_run() {
     }
 }
 
-/// A busy worker also takes the tasks behind another's long poll, and at last the one that was to run next. There are
-/// two workers, and one of them is never idle.
+/// A worker that is never idle must also run the tasks behind the only other worker's poll.
 #[test]
 fn what_is_behind_is_run_by_one_that_is_busy() {
     let runtime = Runtime::new(2);
@@ -340,7 +334,7 @@ fn what_is_behind_is_run_by_one_that_is_busy() {
     }
 }
 
-/// Tasks that yield are stolen from local queues all the time. Still, each is polled exactly as often as it yields.
+/// Yielding tasks are stolen from local queues all the time. Each part between two yields must run once, on one worker.
 #[test]
 fn a_job_is_taken_once() {
     let runtime = Runtime::new(4);
@@ -367,7 +361,7 @@ fn a_job_is_taken_once() {
     }
 }
 
-/// With one worker in a runtime, its watcher runs the ready tasks.
+/// While the only worker is in a poll, the watcher (a kernel thread) must run the ready tasks.
 #[test]
 fn the_watcher_runs_what_is_behind() {
     let runtime = Builder::new(1).watch_polls(10 * MS, false).build().unwrap();
@@ -391,8 +385,8 @@ fn the_watcher_runs_what_is_behind() {
     }
 }
 
-/// The third worker has no core, and its ready jobs and timers are looked after by a worker that is in a poll. So is
-/// the only active worker. The watcher must run these jobs and fire these timers.
+/// The only active worker is in a poll, and so is the second, which covers for it. The watcher (a kernel thread that
+/// watches polls) must run the tasks of the inactive third worker, and fire its timers.
 #[test]
 fn the_watcher_looks_after_a_core_that_was_given_back() {
     let runtime = Builder::new(3).policy(Policy::default()).watch_polls(10 * MS, false).build().unwrap();
@@ -429,8 +423,7 @@ fn the_watcher_looks_after_a_core_that_was_given_back() {
     tasks.into_iter().for_each(|task| block_on(task).unwrap());
 }
 
-/// The only worker that has a core is in a poll. A worker whose core was given back must run the ready tasks, handle
-/// the events of sockets, and fire the timers.
+/// While the only active worker is in a poll, an inactive one must run ready tasks, handle sockets, and fire timers.
 #[test]
 fn a_worker_without_a_core_covers_for_the_only_one_with_one() {
     let runtime = Builder::new(2).policy(Policy::default()).build().unwrap();

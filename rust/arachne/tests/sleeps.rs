@@ -1,5 +1,5 @@
-//! Tests of how workers sleep and are woken: one waits in the epoll, one (the deputy) polls it now and then, and the
-//! others wait to be woken.
+//! Tests of how workers sleep and are woken. One waits in the epoll, one (the deputy) polls it now and then, and the
+//! others only wait to be woken.
 use arachne::{block_on, net, sleep, spawn, spawn_balanced, yield_now, Builder, Runtime, Semaphore};
 use std::io::{Read, Write};
 use std::net::SocketAddr;
@@ -9,11 +9,9 @@ use std::thread;
 use std::time::{Duration, Instant};
 
 const MS: Duration = Duration::from_millis(1);
-/// A time that is longer than any delay on a busy machine.
 const LONG: Duration = Duration::from_secs(120);
 
-/// A server that echoes each byte. If the byte is a `b`, the task also increments `blocked`, and blocks its worker
-/// until `ends` is set.
+/// A server that echoes each byte. A byte `b` also blocks the worker until `ends` is set, and increments `blocked`.
 fn echo(runtime: &Runtime, ends: &Arc<AtomicBool>, blocked: &Arc<AtomicUsize>) -> SocketAddr {
     let listener = net::TcpListener::bind("127.0.0.1:0").unwrap();
     let at = listener.local_addr().unwrap();
@@ -62,8 +60,8 @@ fn until(done: impl Fn() -> bool) {
     }
 }
 
-/// There is no watcher. First the worker that waited in the epoll is in an endless poll, and later all workers but one
-/// are. The events of all sockets must still be handled, even of sockets that connect later.
+/// One worker after the other enters an endless poll, first the one that waited in the epoll, until one worker is left.
+/// The events of all sockets must still be handled.
 #[test]
 fn sockets_are_seen_beside_polls_that_block() {
     for (cores, pause) in (2..5).flat_map(|cores| [(cores, MS / 4), (cores, 20 * MS)]) {
@@ -75,8 +73,7 @@ fn sockets_are_seen_beside_polls_that_block() {
             .map(|i| {
                 let mut stream = connect(at);
                 ask(&mut stream, 2);
-                // All workers sleep, so the worker in the epoll gets this event; the deputy has slept for a short or a
-                // long time.
+                // All workers sleep, so the worker in the epoll gets this event.
                 thread::sleep(pause);
                 stream.write_all(b"b").unwrap();
                 until(|| blocked.load(SeqCst) == i);
@@ -90,7 +87,8 @@ fn sockets_are_seen_beside_polls_that_block() {
     }
 }
 
-/// More sockets become ready at once than one poll of the epoll returns, and than fit into a worker's local queues.
+/// More sockets become ready at once than one poll of the epoll returns, or than a worker's local queues have room for.
+/// All clients must get their answers.
 #[test]
 fn more_is_told_at_once_than_one_worker_takes() {
     for cores in 1..4 {
@@ -114,8 +112,7 @@ fn more_is_told_at_once_than_one_worker_takes() {
     }
 }
 
-/// A worker that only polls the epoll occasionally never consumes the event that should wake the worker that waits in
-/// the epoll.
+/// A worker that polls the epoll now and then must not take the event that wakes the worker that waits there.
 #[test]
 fn a_wake_of_who_waits_is_left_to_it() {
     let runtime = Runtime::new(2);
@@ -138,8 +135,7 @@ fn a_wake_of_who_waits_is_left_to_it() {
             thread::sleep(MS / 8);
             block_on(runtime.spawn(async {})).unwrap();
         }
-        // Half of the tasks are in slots of the other worker. That worker is woken while this one polls the epoll, and
-        // is soon blocked.
+        // Half of these tasks are in slots of the other worker, which is woken while this worker polls the epoll.
         let begun: Vec<_> = (0..32).map(|_| runtime.spawn(async {})).collect();
         blocks.store(true, SeqCst);
         until(|| blocked.load(SeqCst));
@@ -160,7 +156,6 @@ fn a_wake_of_who_waits_is_left_to_it() {
     }
 }
 
-/// Blocks the worker until the flag is set.
 fn blocks(flag: &AtomicBool) {
     let start = Instant::now();
     while !flag.load(SeqCst) {
@@ -169,8 +164,8 @@ fn blocks(flag: &AtomicBool) {
     }
 }
 
-/// A worker is in a poll that waits for jobs in its own local queues. Another worker must run these jobs, even the one
-/// that would run next. The other workers sleep already when that poll begins, or fall asleep later.
+/// A worker is in a poll that waits for tasks of its own local queues, even for the task to run next. Another worker
+/// must run these tasks, whether it sleeps already or falls asleep later.
 #[test]
 fn what_is_in_hand_is_run_beside_a_poll_that_blocks() {
     for (cores, pause) in (2..5).flat_map(|cores| [(cores, MS / 4), (cores, 20 * MS)]) {
@@ -178,8 +173,7 @@ fn what_is_in_hand_is_run_beside_a_poll_that_blocks() {
         for asleep in [true, false] {
             thread::sleep(pause);
             let begin = Arc::new(AtomicBool::new(asleep));
-            // In the second case, the other workers are in polls until the local queues of the first worker are filled,
-            // and are idle soon after.
+            // In the second case, the other workers are in polls until the first worker's local queues are filled.
             for _ in 1..if asleep { 1 } else { cores } {
                 let (begin, beginning) = (begin.clone(), Arc::new(AtomicBool::new(false)));
                 let begun = beginning.clone();
@@ -190,7 +184,7 @@ fn what_is_in_hand_is_run_beside_a_poll_that_blocks() {
                 blocks(&beginning);
             }
             let task = runtime.spawn(async move {
-                // This task yields, and stays in the worker's local queue while the task that it spawned before blocks.
+                // These tasks yield, and stay in the local queue while the task that was spawned before them blocks.
                 let yielded: Vec<_> =
                     (0..if asleep { 1 } else { 5 }).map(|_| Arc::new(AtomicBool::new(false))).collect();
                 let tasks = yielded.iter().cloned().map(|flag| async move {
@@ -220,7 +214,7 @@ fn what_is_in_hand_is_run_beside_a_poll_that_blocks() {
     }
 }
 
-/// A poll blocks until a timer of its own worker has fired, which another worker must fire.
+/// If a poll blocks until a timer of its worker has fired, another worker must fire that timer.
 #[test]
 fn timers_are_seen_beside_a_poll_that_blocks() {
     for cores in 2..5 {
@@ -246,7 +240,7 @@ fn timers_are_seen_beside_a_poll_that_blocks() {
     }
 }
 
-/// Returns how often the threads with these folders in `/proc` have gone to sleep, all together.
+/// Returns how often the threads with these folders in `/proc` have gone to sleep in all.
 fn sleeps(threads: &[String]) -> u64 {
     let of = |thread: &String| {
         let text = std::fs::read_to_string(format!("/proc/{thread}/status")).unwrap();
@@ -256,7 +250,6 @@ fn sleeps(threads: &[String]) -> u64 {
     threads.iter().map(of).sum()
 }
 
-/// Calls `about` once on each worker of the runtime, and returns the results.
 fn at_each_worker<T: Send + 'static>(runtime: &Runtime, cores: usize, about: fn() -> T) -> Vec<T> {
     let all: Arc<Mutex<Vec<T>>> = Arc::default();
     let each = all.clone();
@@ -265,7 +258,7 @@ fn at_each_worker<T: Send + 'static>(runtime: &Runtime, cores: usize, about: fn(
             let all = each.clone();
             spawn_balanced(async move {
                 all.lock().unwrap().push(about());
-                // Waits until each worker has one of these tasks, so that each task has a worker of its own.
+                // Each task waits for all others, so that each worker gets one of them.
                 until(|| all.lock().unwrap().len() == cores);
             });
         }
@@ -292,7 +285,6 @@ fn an_idle_runtime_sleeps_on() {
     ask(&mut stream, 2);
 }
 
-/// Returns the time slice of this thread, if the kernel reports one.
 fn slice() -> Option<u64> {
     let text = std::fs::read_to_string("/proc/thread-self/sched").ok()?;
     text.lines().find(|line| line.starts_with("se.slice "))?.split(':').nth(1)?.trim().parse().ok()

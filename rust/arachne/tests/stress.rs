@@ -1,5 +1,5 @@
 //! Stress tests: stale wakers, lost wakes, leaks, a runtime that ends at any moment, and the lock. The environment
-//! variable ARACHNE_STRESS multiplies the number of repetitions.
+//! variable ARACHNE_STRESS multiplies the repetitions.
 use arachne::{block_on, net, poll_fn, spawn, spawn_balanced, yield_now, Builder, JoinError, Lock, Policy, Runtime};
 use std::future::Future;
 use std::pin::Pin;
@@ -23,8 +23,7 @@ impl Rng {
     }
 }
 
-/// Wakers of tasks that have ended don't wake later tasks in the same slots. The test counts the polls of the later
-/// tasks.
+/// A waker of a task that has ended must not wake the next task in the same slot.
 #[test]
 fn stale_wakers_wake_nobody() {
     let rt = Runtime::new(3);
@@ -107,8 +106,7 @@ impl Mailbox {
     }
 }
 
-/// Threads and tasks send messages to random tasks, and other threads wake these tasks without a message. Every message
-/// must be received.
+/// Threads and tasks send messages to random tasks, which other threads wake too. No message may be lost.
 #[test]
 fn no_wake_is_lost() {
     let rt = Runtime::new(4);
@@ -205,8 +203,7 @@ impl Drop for Alive {
     }
 }
 
-/// After panics, dropped handles, joins by other tasks and the drop of a runtime in the middle of this, no task and no
-/// value is left.
+/// Tasks panic, join others and lose their handles, and the runtime is dropped. Then no task and no value may be left.
 #[test]
 fn nothing_leaks() {
     for round in 0..rounds(15) {
@@ -244,7 +241,7 @@ fn nothing_leaks() {
                 let mut ended = 0;
                 for task in half {
                     let mut task = task;
-                    // Polled only once, since some of these tasks wait for ever.
+                    // The task is polled only once, because some of these tasks wait for ever.
                     if poll_fn(|cx| Poll::Ready(Pin::new(&mut task).poll(cx).is_ready())).await {
                         ended += 1;
                     }
@@ -257,7 +254,6 @@ fn nothing_leaks() {
         while !ended.is_finished() {
             std::thread::yield_now();
         }
-        // Nobody asked for the task's output.
         drop(ended);
         drop(rt);
         for task in kept {
@@ -267,8 +263,7 @@ fn nothing_leaks() {
     }
 }
 
-/// A runtime ends while other threads spawn tasks and wake them, and tasks yield. Each task is dropped, and its handle
-/// returns an error.
+/// A runtime ends while its tasks yield and are woken. Each must be dropped, and its handle be ready.
 #[test]
 fn the_end_finds_each_task() {
     for round in 0..rounds(100) {
@@ -313,7 +308,7 @@ fn the_end_finds_each_task() {
     }
 }
 
-/// More tasks wait at once than there are slots in a block (64), or in a shard (4,096).
+/// More tasks wait than there are slots in a shard (4,096). Each must end once it is woken.
 #[test]
 fn many_wait() {
     let rt = Runtime::new(2);
@@ -348,7 +343,7 @@ fn many_wait() {
     assert_eq!(sum, 20_000 * 19_999 / 2);
 }
 
-/// Only one task or thread has the lock at a time. Dropping futures that wait for it doesn't stop the other waiters.
+/// Dropping futures that wait for the lock must not stop the other waiters.
 #[test]
 fn the_lock_excludes() {
     let rt = Runtime::new(4);
@@ -383,7 +378,6 @@ fn the_lock_excludes() {
             })
         })
         .collect();
-    // The lock also works from outside of the runtime.
     let outside = lock.clone();
     let thread = thread::spawn(move || {
         for _ in 0..each {
@@ -400,7 +394,7 @@ fn the_lock_excludes() {
     println!("{} asks were dropped while they waited", given_up.load(Relaxed));
 }
 
-/// Many connections echo their bytes unchanged, even while cores are given back and asked for.
+/// Many connections must echo their bytes unchanged, while the policy changes the number of active workers.
 #[test]
 fn echo() {
     let rt = Builder::new(4).policy(Policy { every: Duration::from_millis(2), ..Policy::default() }).build().unwrap();

@@ -1,5 +1,4 @@
-//! Tests of the types that a program ported from tokio needs: abort handles, sets of tasks, owned permits, intervals,
-//! handles on runtimes, Unix and UDP sockets, and std's sockets.
+//! Tests of the types that a program ported from tokio needs, such as abort handles, sets of tasks, and sockets.
 use arachne::net::{TcpListener, TcpStream, UdpSocket, UnixListener, UnixStream};
 use arachne::{
     block_on, interval, interval_at, sleep, spawn, timeout, yield_now, AcquireError, Handle, JoinError, JoinSet,
@@ -14,7 +13,6 @@ use std::thread;
 use std::time::{Duration, Instant};
 
 const MS: Duration = Duration::from_millis(1);
-/// A time that is longer than any delay on a busy machine.
 const LONG: Duration = Duration::from_secs(120);
 
 struct OnDrop(Arc<AtomicUsize>);
@@ -24,7 +22,6 @@ impl Drop for OnDrop {
     }
 }
 
-/// Returns a count of drops, and a value whose drop increments the count.
 fn counted() -> (Arc<AtomicUsize>, OnDrop) {
     let dropped = Arc::new(AtomicUsize::new(0));
     (dropped.clone(), OnDrop(dropped))
@@ -64,7 +61,7 @@ fn an_abort_handle_ends_its_task_and_may_outlive_it() {
 #[test]
 fn an_abort_handle_keeps_no_output() {
     let runtime = Runtime::new(2);
-    // First the task ends before the handle on its output is dropped, then after it.
+    // First the task ends before the handle for its output is dropped, then after it.
     for first in [true, false] {
         let ((dropped, output), gate) = (counted(), Arc::new(Semaphore::new(0)));
         let opens = gate.clone();
@@ -133,7 +130,6 @@ fn a_set_gives_outputs_as_tasks_end() {
             assert_eq!(set.join_next().await.unwrap().unwrap(), Ok(n));
         }
         assert!(set.is_empty() && set.join_next().await.is_none());
-        // A task that panics reports the panic, and a task that another thread wakes is polled.
         set.spawn(async { panic!("on purpose") });
         assert!(set.join_next().await.unwrap().unwrap_err().is_panic());
         set.spawn(async {
@@ -162,7 +158,6 @@ fn a_set_aborts_what_it_has_and_leaves_what_was_detached() {
         assert!(is_cancelled(set.join_next().await.unwrap()));
         set.shutdown().await;
         assert_eq!((dropped.load(SeqCst), set.len()), (2, 0));
-        // A task that was detached runs on, and nobody gets its output.
         let detached = endless(&mut set);
         set.detach_all();
         let ready = set.spawn(async {});
@@ -221,7 +216,6 @@ fn a_closed_semaphore_gives_nothing() {
 fn a_sleep_that_is_reset_wakes_at_its_new_time() {
     let runtime = Runtime::new(2);
     runtime.block_on(async {
-        // The sleep is reset to an earlier time, to a later time, and once more after it has ended.
         let (begin, mut nap) = (Instant::now(), sleep(LONG));
         assert!(timeout(MS, &mut nap).await.is_err());
         Pin::new(&mut nap).reset(Instant::now() + 2 * MS);
@@ -254,7 +248,6 @@ fn an_interval_ticks_by_its_period() {
             assert_eq!(ticks.tick().await, first + n * 4 * MS);
             assert!(begin.elapsed() >= n * 4 * MS);
         }
-        // Dropping the future of a tick loses no tick.
         let next = timeout(Duration::ZERO, ticks.tick()).await.err().map(|_| first + 16 * MS);
         assert_eq!(ticks.tick().await, next.unwrap_or(first + 20 * MS));
         ticks.reset();
@@ -262,7 +255,6 @@ fn an_interval_ticks_by_its_period() {
     });
 }
 
-/// The longest period is longer than the clock's range.
 #[test]
 fn an_interval_may_have_any_period() {
     Runtime::new(1).block_on(async {
@@ -397,7 +389,7 @@ fn a_connection_is_looked_at_and_goes_to_std_and_back() {
     assert!(near.nodelay().unwrap());
     let (near, mut far) = runtime.block_on(async {
         let mut buffer = [0; 8];
-        // After this poll the socket is registered in the reactor.
+        // This poll registers the socket in the reactor.
         assert!(timeout(MS, near.peek(&mut buffer)).await.is_err());
         let write = arachne::spawn_blocking(move || far.write_all(b"hello").map(|()| far));
         assert!(near.peek(&mut buffer).await.unwrap() > 0);
@@ -405,8 +397,7 @@ fn a_connection_is_looked_at_and_goes_to_std_and_back() {
         assert_eq!(&buffer[..5], b"hello");
         (near, write.await.unwrap().unwrap())
     });
-    // A socket from `into_std` doesn't wait if it has no data, and isn't in the epoll. The socket that is then made
-    // from it belongs to another runtime.
+    // A socket from `into_std` is in no epoll, and returns at once if it has no data. Another runtime can then use it.
     let mut near = near.into_std().unwrap();
     assert_eq!(near.read(&mut [0; 1]).unwrap_err().kind(), std::io::ErrorKind::WouldBlock);
     near.set_nonblocking(false).unwrap();
@@ -541,7 +532,7 @@ fn datagrams_come_and_go() {
     assert_eq!(UdpSocket::from_std(far).unwrap().local_addr().unwrap(), to);
 }
 
-/// Two tasks wait for a socket, and one of them stops waiting. The other is still woken.
+/// If one of two tasks that wait for a socket stops waiting, the other must still be woken.
 #[test]
 fn a_wait_that_is_given_up_leaves_the_others_their_socket() {
     let runtime = Runtime::new(2);
@@ -558,7 +549,6 @@ fn a_wait_that_is_given_up_leaves_the_others_their_socket() {
     }
 }
 
-/// Tasks and threads wait at one listener: each gets a connection.
 #[test]
 fn several_accept_at_one_listener() {
     let runtime = Runtime::new(2);
@@ -577,7 +567,7 @@ fn several_accept_at_one_listener() {
     assert_eq!(accepted, 6);
 }
 
-/// Each of two readers sees the connection's end, and each of two writers continues once there is room.
+/// Each of two readers must see the connection's end, and each of two writers must go on once there is room.
 #[test]
 fn several_read_and_write_one_stream() {
     let runtime = Runtime::new(2);
@@ -619,7 +609,6 @@ fn a_task_waits_for_a_signal_and_for_the_end() {
     assert!(signal.wait());
     raise();
     runtime.block_on(signal.recv()).unwrap();
-    // A task that waits for a signal doesn't prevent the runtime's end.
     runtime.spawn(async move {
         let mut end = arachne::stopping();
         assert!(end.or(signal.recv()).await.is_none());
@@ -663,7 +652,6 @@ fn a_host_is_looked_up_beside_the_workers() {
     assert!(runtime.block_on(arachne::net::lookup_host("no such host:80")).is_err());
 }
 
-/// If epoll can't watch a descriptor, this is noticed only when a task has to wait for it.
 #[test]
 fn a_descriptor_that_cannot_be_watched_fails_at_its_first_wait() {
     let file = arachne::net::Async::new(std::fs::File::open("/proc/self/exe").unwrap()).unwrap();

@@ -1,5 +1,4 @@
-//! The daemon's loop. It reads messages, asks the proved library which thread gets which core, and moves the threads
-//! accordingly.
+//! The daemon's loop. It reads messages, asks the proved library which thread gets which core, and moves the threads.
 
 mod hearing;
 mod turns;
@@ -20,35 +19,34 @@ use std::sync::atomic::Ordering::*;
 use std::time::{Duration, Instant};
 use turns::Turns;
 
-/// How long a client may keep more cores than it is allowed, before the daemon takes them.
+/// If a client is later than this to give back cores, the daemon takes them by force.
 const PATIENCE: Duration = Duration::from_millis(10);
-/// The time between two checks for threads that have ended, and for other threads that run on a granted core.
+/// The daemon searches this often for threads that have ended, and for threads that run on a core that was granted to
+/// another thread.
 const LOOKS: Duration = Duration::from_secs(1);
-/// The most threads that the daemon checks between two of its decisions.
+/// The most threads that the daemon checks before it decides again which thread gets which core.
 const AT_ONCE: usize = 8;
-/// The most processes that the daemon sends its status to in one pass of its loop.
+/// The most connections to the status socket that the daemon answers in one pass of its loop.
 const READERS: usize = 8;
 
 struct Thread {
     id: u32,
-    /// The time at which the thread began. It distinguishes the thread from a later one with the same id.
+    /// The time at which the thread began, which distinguishes it from a later thread with the same id.
     began: u64,
     connection: u64,
     core: Option<usize>,
 }
 
 struct Core {
-    /// The processors of the core. While the core is granted, no other thread may use any of them. The thread that has
-    /// the core runs on the first of them.
+    /// The core's processors. While the core is granted, its thread runs on the first of them, and no thread runs on
+    /// any other of them.
     cpus: Vec<usize>,
-    /// The thread that has the core: the client, and the thread's number among the client's threads.
     owner: Option<(u32, u32)>,
     /// The time at which the core was last granted or given back.
     since: Instant,
 }
 
 struct Client {
-    /// The number by which the proved library knows the client.
     number: usize,
     process: u32,
     user: u32,
@@ -59,29 +57,18 @@ struct Client {
     least: u32,
     asked: u32,
     allowed: u32,
-    /// How often the client was given a core.
     given: u64,
-    /// How often a core was taken from the client because it didn't give the core back in time.
+    /// How often the daemon took a core from the client by force.
     forced: u64,
-    /// The time by which the client must give back the cores that it has beyond those allowed; `None` if it has no such
-    /// cores.
     until: Option<Instant>,
-    /// The number of the last *turn* (a move of a core from one client to another) that concerned this client: it got a
-    /// core, gave one, or had no thread for one.
     turned: u64,
-    /// The number of times that the daemon must still move all threads of the client's process to `rest` (the
-    /// processors of threads without a core). It does so twice, because a thread that begins during the first move
-    /// begins on the processors of its parent.
     arrives: u32,
-    /// The client's threads. Each key is the number that the client has given the thread.
+    /// The client's threads, by the numbers that the client has given them.
     threads: BTreeMap<u32, Thread>,
 }
 
-/// The threads that the daemon has yet to check, and to move off the granted cores.
 struct Look {
     threads: Threads,
-    /// If true, all these threads are moved to `rest` (the processors of threads without a core). If false, only those
-    /// that may run on a granted core are moved.
     all: bool,
 }
 
@@ -89,35 +76,29 @@ pub struct Arbiter {
     clients_socket: UnixListener,
     readers_socket: UnixListener,
     means: Means,
-    /// The state of the proved library: the clients, their threads, and which thread has which core.
     state: State,
     start: Instant,
     log: bool,
-    /// The processors that are never granted.
     kept: Vec<usize>,
     cores: Vec<Core>,
     host: Host,
-    /// The processors that are granted or kept.
     managed: Vec<usize>,
     /// The processors on which threads without a core run.
     rest: Vec<usize>,
-    /// All processors that a thread may use when it no longer belongs to a client.
     all: Vec<usize>,
-    /// The connections. Their numbers grow in the order in which they were made.
+    /// The connections by number. Newer connections have greater numbers.
     connections: BTreeMap<u64, Connection>,
-    /// The number of connections accepted so far.
     connected: u64,
-    /// The clients. Each key is the number of the client's control connection.
+    /// The clients, by the number in `connections` of their control connection.
     clients: BTreeMap<u32, Client>,
     forced: u64,
     turns: Turns,
     look: Option<Look>,
-    /// The time at which the daemon last began to check the threads of all clients.
     looked: Instant,
 }
 
 impl Arbiter {
-    /// Returns an arbiter without clients. Fails if memory is refused, or if `options` has too many cores.
+    /// Fails if memory is refused, or if `options` has more than 1,024 cores.
     pub fn new(options: &Options, means: Means, clients: UnixListener, readers: UnixListener) -> io::Result<Arbiter> {
         let mut kept = options.cores();
         let cores = kept.split_off(options.keep);
@@ -146,7 +127,8 @@ impl Arbiter {
         })
     }
 
-    /// Serves clients until this process is asked to end, and then lets all threads run on all processors again.
+    /// Grants cores to clients until this process is asked to end. After that, all threads may run on all processors
+    /// again.
     pub fn run(&mut self) {
         while !sys::ENDS.load(SeqCst) {
             self.hear(self.time_left());
@@ -164,7 +146,6 @@ impl Arbiter {
         sys::print(format_args!("by force {}, after {:.0} s", self.forced, self.start.elapsed().as_secs_f64()));
     }
 
-    /// Returns for how many milliseconds the daemon may wait for messages before it has something else to do.
     fn time_left(&self) -> i32 {
         let ends = self.clients.values().filter_map(|client| client.until);
         let next = ends.chain(self.next_turn()).min();
@@ -185,8 +166,8 @@ impl Arbiter {
 
     // ------------------------------------------------------------------------------------------ decisions
 
-    /// Drops clients whose connections have ended, lets the library decide, and takes and gives cores, until nothing
-    /// changes any more.
+    /// Drops clients that have ended, lets the library decide which thread gets which core, and moves the threads,
+    /// until no decision changes any more.
     fn settle(&mut self) {
         loop {
             self.bury();
@@ -204,9 +185,9 @@ impl Arbiter {
         }
     }
 
-    /// Publishes how many cores a client is allowed, and takes back the cores that it has beyond that number. A core of
-    /// a thread that floats (never waits) is taken at once, and other cores only if the client is late to give them
-    /// back.
+    /// Writes to a client's page how many cores it is allowed, and takes those that it has beyond that number. The core
+    /// of a thread that floats (never waits for a core) is taken at once. Any other core is taken only if the client is
+    /// late to give it back.
     fn take_from(&mut self, id: u32) {
         let share = self.share(id);
         let client = self.clients.get_mut(&id).unwrap();
@@ -238,12 +219,10 @@ impl Arbiter {
         }
     }
 
-    /// Returns the number of cores that a client is allowed, and the number that it has.
     fn share(&mut self, id: u32) -> Share {
         self.clients.get(&id).map_or(Share { allowed: 0, held: 0 }, |client| self.state.share(client.number))
     }
 
-    /// Drops the clients and threads whose connections have ended.
     fn bury(&mut self) {
         loop {
             let gone = self.connections.iter().find(|(_, it)| it.gone).map(|(&name, _)| name);
@@ -282,7 +261,8 @@ impl Arbiter {
         let client = self.clients.get_mut(&id);
         if let Some((process, thread)) = client.and_then(|it| Some((it.process, it.threads.remove(&place)?))) {
             self.connections.remove(&thread.connection);
-            // Others may be granted until the next look, unless nothing is granted.
+            // Until its cpuset is emptied, the thread may use only processors that can't be granted (all, if none is
+            // granted).
             let free = if self.host.takes_machine() { &self.managed } else { &self.kept };
             self.means.leave(thread.id, thread.is_of(process), free, &self.all);
         }
@@ -290,8 +270,8 @@ impl Arbiter {
 
     // ------------------------------------------------------------------------------------------ moves
 
-    /// Moves a thread to its core. Returns false if the thread can't be moved; then the thread no longer belongs to its
-    /// client.
+    /// Moves a thread to the core that it was given. If that fails, removes the thread from its client, and returns
+    /// false.
     fn place(&mut self, given: Move) -> bool {
         let id = match self.clients.iter().find(|(_, client)| client.number == given.client) {
             Some((&id, _)) => id,
@@ -305,7 +285,6 @@ impl Arbiter {
         thread.core = Some(core);
         (self.cores[core].owner, self.cores[core].since) = (Some((id, place)), Instant::now());
         if !self.set_on_core(core) {
-            // The thread has ended, or the system doesn't let the daemon move it.
             self.drop_thread(id, place);
             return false;
         }
@@ -316,7 +295,7 @@ impl Arbiter {
         true
     }
 
-    /// Moves a thread that has a core to `rest`, the processors on which threads without a core run.
+    /// Takes a thread's core away, if it has one, and lets the thread run on the processors for threads without a core.
     fn unplace(&mut self, client: u32, place: u32) {
         let of = self.clients.get_mut(&client).and_then(|it| Some((it.process, it.threads.get_mut(&place)?)));
         let (process, thread) = match of {
@@ -332,9 +311,6 @@ impl Arbiter {
         }
     }
 
-    /// Moves the owner's thread to its core. While the host of this virtual machine takes the core's processor, the
-    /// thread is moved to `rest` (the processors of threads without a core) instead. Returns false if the thread can't
-    /// be moved.
     fn set_on_core(&mut self, core: usize) -> bool {
         let owner = self.cores[core].owner.and_then(|(id, place)| {
             let client = self.clients.get(&id)?;
@@ -359,7 +335,7 @@ impl Arbiter {
         let rest: Vec<usize> = self.kept.iter().chain(free).copied().collect();
         if rest != self.rest {
             let all = self.clients.values().flat_map(|it| it.threads.values().map(move |thread| (it.process, thread)));
-            // A set is its thread's even after the thread has ended.
+            // With cpusets this also sets the cpuset of a thread that has ended, since no other thread can own it.
             let by_set = matches!(self.means, Means::Cpusets(_));
             let others = all.filter(|(process, thread)| {
                 thread.core.map_or(true, |core| host.takes(core)) && (by_set || thread.is_of(*process))
@@ -369,8 +345,7 @@ impl Arbiter {
         }
     }
 
-    /// Sends a message of four numbers on the connection `name`. If the connection's buffer is full because the client
-    /// doesn't read, marks the connection; the next `bury` drops the client.
+    /// Sends a message of four numbers. If that fails (the client doesn't read, say), the next `bury` drops the client.
     fn send(&mut self, name: u64, words: [u32; 4]) {
         if let Some(connection) = self.connections.get_mut(&name) {
             let sent = connection.stream.write(&bytes_of(words));
@@ -380,8 +355,7 @@ impl Arbiter {
 
     // ------------------------------------------------------------------------------------------ looks
 
-    /// Checks some threads of clients' processes: moves those of a newly connected client to `rest`, and others off
-    /// granted cores.
+    /// Moves a few threads: those of a new client to the processors `rest`, and other threads off granted cores.
     fn look_at_threads(&mut self) {
         let threads = self.clients.values().flat_map(|client| client.threads.values());
         let known: HashSet<u32> = threads.map(|thread| thread.id).collect();
@@ -401,14 +375,12 @@ impl Arbiter {
         }
     }
 
-    /// Returns true if a thread is kept on the first processor of a core.
     fn is_on_one(&self, thread: u32) -> bool {
         matches!(sys::affinity_of(thread)[..], [cpu] if self.cores.iter().any(|core| core.cpus[0] == cpu))
     }
 
-    /// Returns the next look: at the threads of a client that has connected, each second at threads that clients'
-    /// threads may have begun, or at what is in the cpuset of a thread that has left. Each second the daemon also drops
-    /// threads that have ended.
+    /// Returns the threads to check next: those of a new client, or those in the cpuset of a thread that has left. Once
+    /// a second, drops threads that have ended, and returns the threads that clients' threads may have started.
     fn next_look(&mut self) -> Option<Look> {
         if let Some(client) = self.clients.values_mut().find(|client| client.arrives != 0) {
             client.arrives -= 1;
@@ -427,23 +399,21 @@ impl Arbiter {
         Some(self.look_at_strangers())
     }
 
-    /// Returns a look at the threads that clients' threads may have begun.
     fn look_at_strangers(&self) -> Look {
         let processes = self.clients.values().map(|client| client.process).collect();
         let known = self.clients.values().flat_map(|it| it.threads.values().map(|thread| thread.id)).collect();
         Look { threads: self.means.strangers(known, processes), all: false }
     }
 
-    /// Looks at what the host of this virtual machine takes. If it takes the machine, ends all connections, so that
-    /// clients go on as without a daemon. If it takes a processor, moves the processor's thread to `rest` (the
-    /// processors of threads without a core), and back when the host has returned the processor.
+    /// If the host takes the whole machine, the daemon closes all connections, and clients go on as without a daemon.
+    /// If the host takes a granted processor, the thread there runs on `rest` until the host returns the processor.
     fn look_at_host(&mut self) {
         let (was_taken, changed) = (self.host.takes_machine(), self.host.look());
         if self.host.takes_machine() != was_taken {
             self.say(|| format!("machine taken by the host: {}", self.host.takes_machine()));
         }
         if self.host.takes_machine() && !was_taken {
-            // Once the clients are gone, only this look finds what their threads have begun on a core.
+            // After the clients are gone, only this look finds the threads that their threads have started on a core.
             self.look = Some(self.look_at_strangers());
             self.drop_clients();
             self.connections.clear();
@@ -458,7 +428,6 @@ impl Arbiter {
         }
     }
 
-    /// Writes the daemon's status to each process that has connected to the status socket.
     fn answer_readers(&self) {
         for (mut stream, _) in (0..READERS).map_while(|_| self.readers_socket.accept().ok()) {
             let _ = stream.set_nonblocking(true);
@@ -493,13 +462,12 @@ impl Arbiter {
 }
 
 impl Thread {
-    /// Returns true if this thread still exists, that is, if its id isn't that of a later thread.
+    /// Returns true if the thread still exists, and its id isn't that of a later thread.
     fn is_of(&self, process: u32) -> bool {
         threads::began(process, self.id) == Some(self.began)
     }
 }
 
-/// Returns the seconds since 1970. With them the logs of several processes can be compared.
 fn clock() -> f64 {
     std::time::SystemTime::now().duration_since(std::time::SystemTime::UNIX_EPOCH).unwrap().as_secs_f64()
 }

@@ -1,5 +1,4 @@
-//! Finds what the host of this virtual machine takes for others, of a processor and of the machine. The kernel counts
-//! the stolen time.
+//! Finds out which processors the host of this virtual machine takes for itself, by the stolen time that Linux reports.
 
 use std::fs;
 use std::path::PathBuf;
@@ -7,20 +6,18 @@ use std::time::{Duration, Instant};
 
 /// The time between two reads of the stolen time.
 pub const WINDOW: Duration = Duration::from_millis(200);
-/// The host takes a processor, or the machine, if, between two reads, it has stolen at least `MUCH` per cent of its
-/// time. This counts as taken until the host has stolen no more than `LITTLE` per cent for a time: `CALM` for a
-/// processor, and `CALM_MACHINE` for the machine.
+/// The host counts as taking a processor (or the machine) once it has stolen at least `MUCH` per cent of the time
+/// between two reads, until it has stolen at most `LITTLE` per cent for the time `CALM` (or `CALM_MACHINE`).
 const MUCH: u64 = 15;
 const LITTLE: u64 = 5;
 const CALM: Duration = Duration::from_secs(1);
 const CALM_MACHINE: Duration = Duration::from_secs(5);
 
-/// What the host has taken of a processor, or of several together.
 struct Account {
     stolen: u64,
     all: u64,
     is_taken: bool,
-    /// The last read by which the host has stolen more than `LITTLE` per cent.
+    /// The time of the last read that found more than `LITTLE` per cent stolen.
     busy: Instant,
 }
 
@@ -34,8 +31,8 @@ pub struct Host {
 }
 
 impl Host {
-    /// Begins to watch the processors `cpus`, and the machine, whose processors are `all_cpus`. At first nothing counts
-    /// as taken. In tests, the environment variable ARBITER_STAT names a file that is read instead of the kernel's.
+    /// Watches the processors `cpus`, and the machine, which has the processors `all_cpus`. In tests, the environment
+    /// variable ARBITER_STAT names a file that is read instead of the kernel's.
     pub fn new(cpus: Vec<usize>, all_cpus: Vec<usize>) -> Host {
         let file = std::env::var_os("ARBITER_STAT").unwrap_or_else(|| "/proc/stat".into()).into();
         let processors = cpus.iter().map(|_| Account::new()).collect();
@@ -44,18 +41,17 @@ impl Host {
         host
     }
 
-    /// Returns true if the host takes the processor with the index `nth` in the list that `new` got.
     pub fn takes(&self, nth: usize) -> bool {
         self.processors[nth].is_taken
     }
 
-    /// Returns true if the host takes the machine: so much of all the daemon's processors together.
+    /// Returns true if the host takes the machine, that is, all the daemon's processors together.
     pub fn takes_machine(&self) -> bool {
         self.machine.is_taken
     }
 
     /// If `WINDOW` has passed since the last read, reads the stolen time. Returns the indexes of the processors that
-    /// now count as taken and didn't before, or the other way round.
+    /// the host has taken or returned since then.
     pub fn look(&mut self) -> Vec<usize> {
         if self.looked.elapsed() < WINDOW {
             return Vec::new();
@@ -85,8 +81,7 @@ impl Account {
         Account { stolen: 0, all: 0, is_taken: false, busy: Instant::now() }
     }
 
-    /// Compares the stolen and the total time with those of the last call. Returns true if this changes whether this
-    /// counts as taken; that ends once it has been calm for `calm`.
+    /// Compares a processor's stolen and total time with those of the last read. Returns true if `is_taken` changes.
     fn reads(&mut self, (stolen, all): (u64, u64), calm: Duration) -> bool {
         let (took, time) = (stolen.saturating_sub(self.stolen), all.saturating_sub(self.all));
         let is_first = self.all == 0;
@@ -102,7 +97,7 @@ impl Account {
     }
 }
 
-/// Returns two times of a processor, in hundredths of a second: the time that the host has stolen, and the total.
+/// Returns the stolen time and the total time of a processor, in hundredths of a second.
 fn account(text: &str, cpu: usize) -> Option<(u64, u64)> {
     let name = format!("cpu{cpu}");
     let line = text.lines().map(str::split_whitespace).find(|words| words.clone().next() == Some(&*name))?;

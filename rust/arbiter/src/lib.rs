@@ -1,3 +1,3 @@
-//! The parts of the daemon that tests also use on their own: the messages, and the calls of the proved library.
+//! The parts of the daemon that its tests use too: the messages, and the calls of the proved library.
 pub mod library;
 pub mod protocol;

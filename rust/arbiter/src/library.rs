@@ -1,5 +1,5 @@
-//! The calls of the proved library `arachne_grants_c`. It parses messages, keeps the daemon's state, and decides which
-//! thread gets a core. The declarations are those of `examples/c/arachne_grants.h`.
+//! Calls the proved library `arachne_grants_c`, which parses messages and decides which thread gets which core. The
+//! declarations are those of `examples/c/arachne_grants.h`.
 
 #[repr(C)]
 struct Handle {
@@ -27,7 +27,6 @@ struct RawAction {
     place: usize,
 }
 
-/// The number of cores that a client is allowed, and the number that it has.
 #[repr(C)]
 #[derive(Clone, Copy, Debug)]
 pub struct Share {
@@ -40,7 +39,6 @@ const HELLO: u32 = 3;
 const JOIN: u32 = 4;
 const WAIT: u32 = 5;
 const ASK: u32 = 6;
-/// The lowest of the codes that say why some bytes are no message.
 const SHORT: u32 = 7;
 const TAKEN: u32 = 14;
 const PLACED: u32 = 15;
@@ -62,7 +60,7 @@ extern "C" {
     fn arachne_arbiter_share(arbiter: *mut Handle, client: usize) -> Share;
 }
 
-/// A client's message: it registers with the daemon, asks for a number of cores, or reports on one of its threads.
+/// A client's message. It registers the client or a thread, asks for a number of cores, or says that a thread waits.
 #[derive(Clone, Copy, PartialEq, Eq, Debug)]
 pub enum Message {
     Hello { priority: u32, reserved: u32, most: u32 },
@@ -71,7 +69,7 @@ pub enum Message {
     Ask { cores: u32 },
 }
 
-/// Parses the message at the beginning of `bytes`. The error says why the bytes are no message.
+/// Reads a client's message. The error says why the bytes are no message.
 pub fn read(bytes: &[u8]) -> Result<Message, &'static str> {
     // SAFETY: the length is the slice's, which lives through the call.
     let it = unsafe { arachne_message_read(bytes.as_ptr(), bytes.len()) };
@@ -87,13 +85,13 @@ pub fn read(bytes: &[u8]) -> Result<Message, &'static str> {
     }
 }
 
-/// A core, and the thread that is to be moved to this core or off it.
+/// A core, and the thread that must be moved to it or off it.
 #[derive(Clone, Copy, PartialEq, Eq, Debug)]
 pub struct Move {
     pub client: usize,
     pub place: usize,
     pub core: usize,
-    /// True if the thread waits for the core. Then the caller must send it a message.
+    /// True if the thread waits for the core. The caller must then send it a message.
     pub waited: bool,
 }
 
@@ -105,13 +103,12 @@ impl Move {
     }
 }
 
-/// The state of the proved library: the clients, their threads, and which thread has which core. Clients are numbered
-/// from 0 to 63, and so are the threads of each client.
+/// The proved library's record of the clients, of their threads, and of which thread has which core. Clients are
+/// numbered 0 to 63, and so are a client's threads.
 pub struct State(Handle);
 
 impl State {
-    /// Returns a state of `cores` cores, without clients. Returns None if `cores` is greater than 1,024, or if memory
-    /// is refused.
+    /// Returns None if `cores` is greater than 1,024, or if memory is refused.
     pub fn new(cores: usize) -> Option<State> {
         let mut state = State(Handle { opaque: std::ptr::null_mut() });
         // SAFETY: the handle is empty, and lives through the call.
@@ -119,8 +116,9 @@ impl State {
         (code == DONE).then_some(state)
     }
 
-    /// Adds a client with the number `client`. Returns false, and changes nothing, if the library doesn't allow this
-    /// now; so do the other methods that return a `bool`.
+    /// Adds a client. Returns false, and changes nothing, if the library refuses the call, for example because the
+    /// number is in use. The other methods that return a `bool` also return false, and change nothing, if the library
+    /// refuses the call.
     pub fn hello(&mut self, client: usize, priority: u8, reserved: u32, most: u32) -> bool {
         // SAFETY: nobody else uses the handle, as `&mut` says.
         unsafe { arachne_arbiter_hello(&mut self.0, client, priority, reserved, most) == DONE }
@@ -157,14 +155,14 @@ impl State {
         let _ = unsafe { arachne_arbiter_decide(&mut self.0) };
     }
 
-    /// Takes a core from a client that has more cores than it is allowed. The core is that of a thread that floats
-    /// (never waits); if `late` is true, it may be that of any thread.
+    /// Takes a core from a client that has more cores than it is allowed. Unless `late` is true, takes a core only from
+    /// a thread that floats (never waits for a core).
     pub fn take_back(&mut self, client: usize, late: bool) -> Option<Move> {
         // SAFETY: nobody else uses the handle, as `&mut` says.
         Move::of(unsafe { arachne_arbiter_take_back(&mut self.0, client, late) })
     }
 
-    /// Gives a free core to a client that has fewer cores than it is allowed.
+    /// Gives a free core to a thread of a client that has fewer cores than it is allowed.
     pub fn give(&mut self) -> Option<Move> {
         // SAFETY: nobody else uses the handle, as `&mut` says.
         Move::of(unsafe { arachne_arbiter_give(&mut self.0) })

@@ -1,4 +1,4 @@
-//! Grants whole cores to processes. `docs/arbiter.md` and the page arachne-arbiter(8) say how.
+//! A daemon that grants whole cores to processes. `docs/arbiter.md` and the page arachne-arbiter(8) describe it.
 
 mod daemon;
 mod host;
@@ -24,7 +24,7 @@ const USAGE: &str =
     "arachne-arbiter run SOCKET [--cpuset FOLDER [--sweep] | --rest GROUP..] [--cores LIST] [--keep N] \
                      [--hyperthreads] [--turn MILLISECONDS] [--open] [--log]\narachne-arbiter status SOCKET";
 
-/// The exit status of a daemon that finds another daemon at its socket, or with its cpusets.
+/// The exit status if another daemon uses the socket or the cpusets.
 const THERE_IS_ONE: i32 = 3;
 
 fn main() {
@@ -75,7 +75,7 @@ fn put_back(options: &Options) {
     remove_socket(&options.socket);
     remove_socket(&status::path_of(&options.socket));
     if let Some(folder) = &options.cpuset {
-        // Another daemon that has begun meanwhile has removed these cpusets, and has its own.
+        // Another daemon that has begun since then has removed these cpusets, and has its own.
         if let Ok(_lock) = means::lock(folder) {
             means::restore(folder);
         }
@@ -83,7 +83,6 @@ fn put_back(options: &Options) {
     means::release_groups(&options.groups);
 }
 
-/// Removes a socket. A file that is none stays.
 fn remove_socket(path: &Path) {
     if fs::symlink_metadata(path).map_or(false, |it| it.file_type().is_socket()) {
         let _ = fs::remove_file(path);

@@ -6,30 +6,29 @@ use std::fs;
 use std::io;
 use std::path::{Path, PathBuf};
 
-/// The most sets that are removed before a decision.
+/// The most cpusets that the daemon removes before it decides again which thread gets which core.
 const REMOVED: usize = 8;
 
 pub enum Means {
-    /// Cpusets of version 1, in a folder of the arbiter's: `rest`, and a set for each client's thread.
+    /// Each thread of a client has its own cpuset (version 1). The set `rest` is for other threads.
     Cpusets(Sets),
-    /// By the affinity of clients' threads; these control groups (version 2) restrict the processors of other
-    /// processes. Without a group, other processes run on any processor.
+    /// Each thread of a client is kept on its core by its affinity. These control groups (version 2) keep other
+    /// processes off granted cores. Without a group, other processes run on any processor.
     Affinity(Vec<PathBuf>),
 }
 
-/// The folder of an arbiter's cpusets, in which each client's thread has a set of its own.
+/// The folder of the daemon's cpusets. Each thread of a client has its own set.
 ///
-/// Linux lets a move to another set wait for a grace period, some 10 ms, but changes a set's processors at once. So a
-/// thread is moved only as it joins and once it has left, and no decision waits for that.
+/// Linux takes some 10 ms to move a thread to another set, but changes the processors of a set at once. So a thread is
+/// moved only when it joins its client and after it has left, and no decision waits for a move.
 pub struct Sets {
     top: PathBuf,
     mems: String,
-    /// All processors that an affinity can name. A thread whose affinity names fewer would be kept on these even if its
-    /// set has others.
+    /// The numbers of all processors for which an affinity mask has a bit. Threads get this affinity, so that only
+    /// their cpusets restrict them.
     all: Vec<usize>,
-    /// The threads that have left, whose sets are still to be removed.
+    /// The threads that have left their clients, and whose sets must still be removed.
     left: Vec<u32>,
-    /// Those whose sets weren't empty: what a client's thread has begun begins in its set.
     again: Vec<u32>,
 }
 
@@ -48,7 +47,6 @@ impl Sets {
         write(set.join("cpuset.mems"), &self.mems)
     }
 
-    /// Moves a thread to a set of its own, of these processors.
     fn enter(&mut self, thread: u32, cpus: &[usize]) -> io::Result<()> {
         for threads in [&mut self.left, &mut self.again] {
             threads.retain(|it| *it != thread);
@@ -81,10 +79,10 @@ fn numbers(file: PathBuf) -> Vec<u32> {
 }
 
 impl Means {
-    /// If `parent` is given, makes cpusets of these processors below it. Otherwise restricts each control group in
-    /// `groups` to `cpus`, by its `cpuset.cpus`.
+    /// Without `parent`, restricts the processes of each control group in `groups` to `cpus`.
     ///
-    /// If an arbiter was killed and has left cpusets below `parent`, first moves their threads back and removes them.
+    /// With `parent`, makes cpusets of the processors `cpus` below it. If an earlier daemon has left cpusets there,
+    /// moves their threads to `parent` and removes them first.
     pub fn new(parent: Option<&Path>, groups: &[PathBuf], cpus: &[usize]) -> io::Result<Means> {
         let parent = match parent {
             Some(parent) => parent,
@@ -107,7 +105,8 @@ impl Means {
         Ok(Means::Cpusets(sets))
     }
 
-    /// Moves each process in the parent's own cpuset to the set `rest`, and returns the number of these processes.
+    /// Moves the processes in the cpuset above the daemon's to the set `rest` (for threads without a core). Returns how
+    /// many.
     pub fn sweep(&self) -> usize {
         match self {
             Means::Cpusets(Sets { top, .. }) => {
@@ -118,8 +117,8 @@ impl Means {
         }
     }
 
-    /// Returns true if a move to the set `rest` would let a process out of a cpuset that is neither this arbiter's nor
-    /// above it.
+    /// Returns true if a move to the set `rest` would take the process out of a cpuset that is neither above nor below
+    /// the daemon's own.
     pub fn frees(&self, process: u32) -> bool {
         let set_of = |process| fs::read_to_string(format!("/proc/{process}/cpuset")).unwrap_or_default();
         // This process is in the set `rest`.
@@ -129,7 +128,8 @@ impl Means {
         matches!(self, Means::Cpusets(_)) && !is_near
     }
 
-    /// Returns the threads of a process that must be moved to the set `rest`.
+    /// Returns the threads of a new client's process that must be moved to the cpuset `rest`, of threads without a
+    /// core.
     pub fn arrivals(&self, process: u32) -> Threads {
         match self {
             Means::Cpusets(_) => threads_of(process),
@@ -137,27 +137,26 @@ impl Means {
         }
     }
 
-    /// Moves one thread of a client's process to the cpuset `rest`. (To move a whole process at once, Linux would wait
-    /// for all processors.)
+    /// Moves one thread to the cpuset `rest`, of threads without a core. (To move a process, Linux waits for all
+    /// processors.)
     pub fn admit(&self, thread: u32) {
         if let Means::Cpusets(Sets { top, .. }) = self {
             let _ = write(top.join("rest/tasks"), thread);
         }
     }
 
-    /// Takes in a thread that has joined, which runs on the processors `rest` until it is moved to a core.
+    /// Lets a thread that a client has just registered run on the processors `rest` until it gets a core.
     pub fn enter(&mut self, thread: u32, rest: &[usize]) -> io::Result<()> {
         match self {
             Means::Cpusets(sets) => sets.enter(thread, rest),
             Means::Affinity(_) => {
-                // Its own cpuset may have none of these processors, and yet a core.
+                // The thread's own cpuset may have none of these processors. The thread may still get a core.
                 let _ = sys::set_affinity(thread, rest);
                 Ok(())
             }
         }
     }
 
-    /// Lets a client's thread run on these processors only.
     pub fn run_on(&self, thread: u32, cpus: &[usize]) -> io::Result<()> {
         match self {
             Means::Cpusets(sets) => sets.run_on(thread, cpus),
@@ -165,8 +164,8 @@ impl Means {
         }
     }
 
-    /// Lets a thread that is no client's any more run on all processors: with cpusets, on the processors `free` until
-    /// the next look moves it to the set `rest`. `lives` is false if the thread has ended.
+    /// Lets a thread that has left its client run on all processors `all`. With cpusets, the thread first runs on the
+    /// processors `free`, until `next_left` finds it. `lives` is false if the thread has ended.
     pub fn leave(&mut self, thread: u32, lives: bool, free: &[usize], all: &[usize]) {
         match self {
             Means::Cpusets(sets) => {
@@ -178,8 +177,8 @@ impl Means {
         }
     }
 
-    /// Removes some sets of threads that have left. Returns the threads in the first of these that isn't empty, which
-    /// must be moved to the set `rest`.
+    /// Removes the empty sets of threads that have left their clients, and returns the threads in the first set that
+    /// isn't empty. The caller must move these threads to the set `rest`.
     pub fn next_left(&mut self) -> Option<Threads> {
         let sets = match self {
             Means::Cpusets(sets) => sets,
@@ -196,15 +195,13 @@ impl Means {
         None
     }
 
-    /// Lets `next_left` try those sets again that weren't empty. Linux frees a set some time after its last thread has
-    /// ended.
     pub fn try_again(&mut self) {
         if let Means::Cpusets(sets) = self {
             sets.left.append(&mut sets.again);
         }
     }
 
-    /// Sets the processors of threads without a core to `rest`. `others` are the clients' threads that have no core.
+    /// Makes `rest` the processors of all threads without a core. `others` are the clients' threads without a core.
     pub fn set_rest(&self, rest: &[usize], others: impl Iterator<Item = u32>) {
         match self {
             Means::Cpusets(Sets { top, .. }) => drop(write(top.join("rest/cpuset.cpus"), list(rest))),
@@ -215,8 +212,8 @@ impl Means {
         others.for_each(|thread| drop(self.run_on(thread, rest)));
     }
 
-    /// Returns the threads that may run on clients' cores without being registered: a thread begins with the cpuset and
-    /// affinity of the one that began it. `known` are the clients' threads.
+    /// Returns the threads that may run on granted cores though no client has registered them, since a new thread
+    /// begins on the processors of the thread that starts it. `known` are the clients' registered threads.
     pub fn strangers(&self, known: Vec<u32>, processes: Vec<u32>) -> Threads {
         let begun = processes.into_iter().flat_map(family);
         match self {
@@ -228,7 +225,6 @@ impl Means {
         }
     }
 
-    /// Moves a thread that is no client's off its core.
     pub fn free(&self, thread: u32, all: &[usize]) {
         match self {
             Means::Cpusets(sets) => {
@@ -240,12 +236,12 @@ impl Means {
     }
 }
 
-/// Lets processes in these groups of version 2 run on all processors of the groups above.
+/// Lets the processes of these control groups (of version 2) run on all processors again.
 pub fn release_groups(groups: &[PathBuf]) {
     groups.iter().for_each(|group| drop(write(group.join("cpuset.cpus"), "\n")));
 }
 
-/// Locks a folder of cpusets until the file that this returns is closed. Fails if another daemon has locked it.
+/// Locks a folder of cpusets until the returned file is closed. Fails if another daemon has locked it.
 pub fn lock(folder: &Path) -> io::Result<fs::File> {
     let file = fs::File::open(folder)?;
     match sys::lock(&file) {
@@ -254,9 +250,9 @@ pub fn lock(folder: &Path) -> io::Result<fs::File> {
     }
 }
 
-/// Moves the threads in an arbiter's cpusets below `parent` back into `parent`, and removes the cpusets.
+/// Moves the threads in the daemon's cpusets below `parent` to `parent`, and removes the cpusets.
 ///
-/// Linux frees a set only some time after its last thread has ended, so this function retries for five seconds.
+/// Linux frees a cpuset only some time after its last thread has ended, so this function retries for five seconds.
 pub fn restore(parent: &Path) {
     let top = parent.join("arbiter");
     for _ in 0..500 {

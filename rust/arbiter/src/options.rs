@@ -1,4 +1,4 @@
-//! Parses the arguments of the command `run`: the processors, the sockets, and how to keep threads on cores.
+//! Parses the arguments of the command `run`.
 
 use crate::{sys, topology};
 use std::fs;
@@ -9,7 +9,7 @@ pub struct Options {
     pub cpuset: Option<PathBuf>,
     pub groups: Vec<PathBuf>,
     pub sweep: bool,
-    /// The processors of the cores.
+    /// The processors of the daemon, which never grants the first `keep` of their cores.
     pub cpus: Vec<usize>,
     /// All processors that this process may use.
     pub all: Vec<usize>,
@@ -21,7 +21,7 @@ pub struct Options {
 }
 
 impl Options {
-    /// Parses the arguments that follow `run`. Returns None if they are wrong.
+    /// Returns None if the arguments that follow `run` are wrong.
     pub fn read(mut words: impl Iterator<Item = String>) -> Option<Options> {
         let (socket, mut listed) = (words.next()?.into(), false);
         let mut options = Options {
@@ -51,8 +51,8 @@ impl Options {
                 _ => return None,
             }
         }
-        // The processors that this process may use don't count: an earlier arbiter may have left this process in its
-        // cpuset `rest`.
+        // Without `--cores`, the daemon takes the cpuset's processors, and not its own affinity. An earlier daemon may
+        // have left this process in its cpuset `rest`.
         if let (Some(folder), false) = (&options.cpuset, listed) {
             options.cpus = topology::read_list(fs::read_to_string(folder.join("cpuset.cpus")).ok()?.trim())?;
         }
@@ -61,7 +61,6 @@ impl Options {
         (one && kept && topology::are_there(&options.cpus)).then_some(options)
     }
 
-    /// Returns the processors of each core.
     pub fn cores(&self) -> Vec<Vec<usize>> {
         match self.hyperthreads {
             true => self.cpus.iter().map(|&cpu| vec![cpu]).collect(),

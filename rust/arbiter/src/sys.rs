@@ -1,4 +1,4 @@
-//! Linux's calls that the daemon needs, declared by hand as in Linux's C library on 64 bits, behind safe functions.
+//! The calls of Linux that the daemon needs, declared as in Linux's C library on 64 bits, behind safe functions.
 
 use std::fs::File;
 use std::io::{self, Write};
@@ -64,13 +64,12 @@ const PAGE: usize = 4096;
 /// The most processors that an affinity can name.
 pub const PROCESSORS: usize = 1024;
 
-/// Waits for at most `timeout` milliseconds until one of the descriptors `fds` is readable, or a signal comes.
 pub fn wait(fds: &mut [Polled], timeout: i32) {
     // SAFETY: the length is the slice's, which lives through the call.
     unsafe { poll(fds.as_mut_ptr(), fds.len() as u64, timeout) };
 }
 
-/// Returns the process id and the user id of the other end, as they were when that end connected.
+/// Returns the process id and the user id of the process at the other end, as they were when it connected.
 pub fn peer(stream: &UnixStream) -> io::Result<(u32, u32)> {
     let (mut peer, mut len) = ([0u32; 3], 12u32);
     // SAFETY: the length is that of three numbers of 32 bits, which live through the call.
@@ -80,7 +79,7 @@ pub fn peer(stream: &UnixStream) -> io::Result<(u32, u32)> {
     }
 }
 
-/// Sends bytes and a descriptor without waiting. Returns an error if not all bytes could be sent.
+/// Sends bytes and a descriptor without waiting. Fails unless all bytes could be sent.
 pub fn send_with(stream: &UnixStream, bytes: &[u8], fd: RawFd) -> io::Result<()> {
     let piece = Piece { base: bytes.as_ptr(), len: bytes.len() };
     let rights = Rights { len: 20, level: 1, kind: 1, fd, _pad: 0 };
@@ -94,8 +93,7 @@ pub fn send_with(stream: &UnixStream, bytes: &[u8], fd: RawFd) -> io::Result<()>
     }
 }
 
-/// A page of memory that the daemon writes and a client reads. The daemon never reads it, so nothing depends on what a
-/// client writes there.
+/// A page of memory that the daemon writes and never reads, and that a client reads.
 pub struct Page {
     file: File,
     at: *mut u8,
@@ -116,8 +114,8 @@ impl Page {
         if at as isize == -1 {
             return Err(io::Error::last_os_error());
         }
-        // From now on nobody can change the file's length, or write it except by the mapping above: F_ADD_SEALS with
-        // F_SEAL_SEAL, F_SEAL_SHRINK, F_SEAL_GROW and F_SEAL_FUTURE_WRITE.
+        // From now on nobody can change the file's length, or write to it other than by the mapping above. The numbers
+        // are F_ADD_SEALS, and F_SEAL_SEAL, F_SEAL_SHRINK, F_SEAL_GROW and F_SEAL_FUTURE_WRITE.
         // SAFETY: all arguments are numbers.
         if unsafe { fcntl(fd, 1033, 1 | 2 | 4 | 16) } != 0 {
             return Err(io::Error::last_os_error());
@@ -142,7 +140,6 @@ impl Drop for Page {
     }
 }
 
-/// Keeps a thread on the processors `cpus`.
 pub fn set_affinity(thread: u32, cpus: &[usize]) -> io::Result<()> {
     let mut mask = [0u64; 16];
     cpus.iter().for_each(|cpu| mask[cpu / 64 % 16] |= 1 << (cpu % 64));
@@ -161,20 +158,17 @@ pub fn affinity_of(thread: u32) -> Vec<usize> {
     (0..PROCESSORS).filter(|cpu| mask[cpu / 64] >> (cpu % 64) & 1 == 1).collect()
 }
 
-/// Gives this process the lowest real-time priority, if the system lets it, so that it runs before other processes:
-/// clients wait for its decisions.
+/// Gives this process the lowest real-time priority, if the system lets it, because clients wait for its decisions.
 pub fn go_first() {
     // SAFETY: the priority lives through the call.
     unsafe { sched_setscheduler(0, 1 | 0x4000_0000, &1) };
 }
 
-/// Returns the user of this process.
 pub fn user() -> u32 {
     // SAFETY: a call without arguments.
     unsafe { getuid() }
 }
 
-/// True after this process was asked to end.
 pub static ENDS: AtomicBool = AtomicBool::new(false);
 
 extern "C" fn heard(_: i32) {
@@ -195,8 +189,7 @@ pub fn end_with_parent() {
     unsafe { prctl(1, 15, 0, 0, 0) };
 }
 
-/// Returns a descriptor that becomes readable when the process ends. (The end of its sockets isn't enough: another
-/// process may have them open.)
+/// Returns a descriptor that is readable once the process has ended, even if another process keeps its sockets open.
 pub fn watch_process(process: u32) -> io::Result<File> {
     // SAFETY: all arguments of `pidfd_open` are numbers.
     match unsafe { syscall(434, process as i32, 0u32) } {
@@ -206,18 +199,17 @@ pub fn watch_process(process: u32) -> io::Result<File> {
     }
 }
 
-/// Locks a file until it is closed. Returns false if another process has locked it.
+/// Locks a file for this process. Returns false if another process has locked it.
 pub fn lock(file: &File) -> bool {
     // SAFETY: all arguments are numbers; they are LOCK_EX and LOCK_NB.
     unsafe { flock(file.as_raw_fd(), 2 | 4) == 0 }
 }
 
-/// Prints a line. Unlike `println!`, goes on if nobody can read it any more.
+/// Prints a line. Unlike `println!`, it ignores an error, such as that nobody reads the output any more.
 pub fn print(line: std::fmt::Arguments) {
     let _ = writeln!(io::stdout(), "{line}");
 }
 
-/// Sends SIGTERM to a process.
 pub fn terminate(process: u32) {
     // SAFETY: all arguments are numbers.
     unsafe { kill(process as i32, 15) };

@@ -3,26 +3,24 @@
 use std::fs;
 use std::io::Read;
 
-/// The most threads that are searched for one that joins, in a process with a PID namespace of its own.
+/// If a process is in a PID namespace of its own, `thread_of` searches at most this many of its threads.
 const IN_A_NAMESPACE: usize = 128;
-/// The most processes that `family` looks at.
+/// The most processes that `family` returns threads of.
 const FAMILY: usize = 256;
 /// The most bytes to read from the kernel's list of the processes that a thread has started.
 const CHILDREN: usize = 4096;
-/// More bytes than a thread's `stat` has, so that one read takes all.
+/// More bytes than a thread's `stat` file has, so that one read takes all.
 const STAT: usize = 2048;
 
-/// An iterator over thread ids. It reads /proc step by step, so a step doesn't take longer if there are more threads.
+/// An iterator over thread ids. It reads /proc step by step, so a step takes no longer if there are more threads.
 pub type Threads = Box<dyn Iterator<Item = u32>>;
 
-/// Returns the threads of a process.
 pub fn threads_of(process: u32) -> Threads {
     let entries = fs::read_dir(format!("/proc/{process}/task")).into_iter().flatten().flatten();
     Box::new(entries.filter_map(|entry| entry.file_name().to_str()?.parse().ok()))
 }
 
-/// Returns the threads of a process, and those of all its descendants: processes that it has started, that these have
-/// started, and so on.
+/// Returns the threads of a process and of its descendants, `FAMILY` processes at most.
 pub fn family(process: u32) -> Threads {
     let (mut others, mut room) = (Vec::new(), FAMILY - 1);
     let (mut process, mut threads) = (process, threads_of(process));
@@ -39,7 +37,6 @@ pub fn family(process: u32) -> Threads {
     Box::new(std::iter::from_fn(next))
 }
 
-/// Returns the processes that a thread has started, or the first of them if there are many.
 fn begun_by(process: u32, thread: u32) -> Vec<u32> {
     let mut text = [0; CHILDREN];
     let file = fs::File::open(format!("/proc/{process}/task/{thread}/children"));
@@ -49,8 +46,7 @@ fn begun_by(process: u32, thread: u32) -> Vec<u32> {
     text.split_inclusive(' ').filter_map(|word| word.strip_suffix(' ')?.parse().ok()).collect()
 }
 
-/// Returns the time at which a thread was started, in hundredths of a second since the machine started; None if the
-/// thread has ended.
+/// Returns when a thread began, in hundredths of a second since the machine started, or None if it has ended.
 pub fn began(process: u32, thread: u32) -> Option<u64> {
     let mut text = [0; STAT];
     let len = fs::File::open(format!("/proc/{process}/task/{thread}/stat")).ok()?.read(&mut text).ok()?;
@@ -59,9 +55,9 @@ pub fn began(process: u32, thread: u32) -> Option<u64> {
     text.rsplit_once(')')?.1.split_whitespace().nth(19)?.parse().ok()
 }
 
-/// Returns the id, as this process sees it, of the thread that the process `process` itself knows as `thread`. The two
-/// ids differ if that process is in a PID namespace of its own. Returns None if there is no such thread, or if the
-/// process isn't in a namespace below this one's.
+/// Returns this process's id for the thread that the process `process` knows as `thread`. The two ids differ if that
+/// process is in a PID namespace of its own. Returns None if there is no such thread, or if the process isn't in a
+/// namespace below this process's.
 pub fn thread_of(process: u32, thread: u32) -> Option<u32> {
     if numbers_of(process, process, "NSpid:")?.len() <= 1 {
         return Some(thread);
@@ -71,12 +67,11 @@ pub fn thread_of(process: u32, thread: u32) -> Option<u32> {
     threads_of(process).take(IN_A_NAMESPACE).find(|&it| is_it(it))
 }
 
-/// Returns true if the effective user of a process is `user`.
 pub fn is_user(process: u32, user: u32) -> bool {
     numbers_of(process, process, "Uid:").and_then(|users| users.get(1).copied()) == Some(user)
 }
 
-/// Returns the numbers in a line of a thread's `status`, or None if the thread has ended.
+/// Returns the numbers in a line of a thread's `status` file.
 fn numbers_of(process: u32, thread: u32, name: &str) -> Option<Vec<u32>> {
     let text = fs::read_to_string(format!("/proc/{process}/task/{thread}/status")).ok()?;
     let line = text.lines().find_map(|line| line.strip_prefix(name)).unwrap_or("");

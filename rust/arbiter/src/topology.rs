@@ -3,9 +3,8 @@
 use std::fs;
 use std::path::PathBuf;
 
-/// Groups the processors `cpus` by core; the cores are in the order of their first processors. A processor whose
-/// siblings the kernel doesn't list is a core by itself. In tests, the environment variable ARBITER_TOPOLOGY names a
-/// folder that is read instead of the kernel's.
+/// Groups processors by core, in the order of each core's first processor. A processor whose siblings the kernel
+/// doesn't list is a core by itself. In tests, the environment variable ARBITER_TOPOLOGY names the folder to read.
 pub fn by_core(cpus: &[usize]) -> Vec<Vec<usize>> {
     let folder = std::env::var_os("ARBITER_TOPOLOGY").unwrap_or_else(|| "/sys/devices/system/cpu".into());
     let mut cores: Vec<Vec<usize>> = Vec::new();
@@ -20,7 +19,6 @@ pub fn by_core(cpus: &[usize]) -> Vec<Vec<usize>> {
     cores
 }
 
-/// Returns true if all these processors exist, and none is listed twice.
 pub fn are_there(cpus: &[usize]) -> bool {
     let online = fs::read_to_string("/sys/devices/system/cpu/online").unwrap_or_default();
     let is_online = |cpu| read_list(online.trim()).map_or(true, |online| online.contains(cpu));

@@ -1,5 +1,5 @@
-//! Tests of the daemon through its protocol, with affinity, or with cpusets in the folder that ARBITER_CPUSET names.
-//! They need two processors. They rely only on delays that the daemon promises, so they also pass on a busy machine.
+//! Tests of the daemon through its protocol. The daemon keeps threads on cores by affinity or, if ARBITER_CPUSET names
+//! a folder, by cpusets. The tests need two processors. They rely on no time limits but those that the daemon promises.
 mod common;
 
 use arbiter::protocol::*;
@@ -19,7 +19,6 @@ use std::sync::mpsc;
 use std::thread;
 use std::time::{Duration, Instant};
 
-/// Returns true if the arbiter closes the connection, with a message REFUSED or without.
 fn is_refused(stream: &mut UnixStream) -> bool {
     receive(stream).map_or(true, |message| message[0] == REFUSED && receive(stream).is_none())
 }
@@ -28,7 +27,6 @@ fn is_granted(thread: &mut UnixStream) -> bool {
     receive(thread).unwrap()[0] == GRANT
 }
 
-/// A client that has one core, with its connections.
 struct Granted {
     client: u32,
     control: UnixStream,
@@ -68,7 +66,7 @@ fn the_higher_priority_has_its_core_within_some_milliseconds_by_force() {
         assert!(took >= Duration::from_millis(9), "it took {took:?}");
         assert_eq!(receive(&mut low).unwrap()[..2], [ALLOWED, cores - 1]);
 
-        // A thread whose core was taken by force waits for a core, and gets one after the other client has ended.
+        // A thread whose core was taken by force may wait for a core, and gets one once the other client has ended.
         let last = threads.last_mut().unwrap();
         send(last, [WAIT, 0, 0, 0]);
         drop(high);
@@ -94,8 +92,7 @@ fn who_obeys_is_not_waited_for_and_who_floats_never_waits() {
     assert!(others.iter_mut().all(is_granted));
 }
 
-/// The daemon reads all messages that have arrived before it decides. For this test it is stopped while a client's last
-/// threads join, and while the client asks for all cores.
+/// While the daemon is stopped, two clients ask for all cores. The one with the higher priority must get them.
 #[test]
 fn what_has_come_is_read_before_a_decision() {
     let daemon = Daemon::new("come");
@@ -116,7 +113,6 @@ fn what_has_come_is_read_before_a_decision() {
     assert!(of_low.iter_mut().all(is_granted));
     let (mut high, welcome) = daemon.hello(5, 0);
     of_high = vec![daemon.waiting(welcome[1], 0)];
-    // When this client is answered, the daemon has read all messages that were sent before.
     daemon.hello(5, 0);
     daemon.while_it_stands(|| {
         of_high.extend((1..cores).map(|place| daemon.waiting(welcome[1], place)));
@@ -127,14 +123,13 @@ fn what_has_come_is_read_before_a_decision() {
     assert_eq!(receive(&mut low).unwrap()[..2], [ALLOWED, 0], "in one step");
 }
 
-/// Returns the processors that this process's first thread may run on.
 fn processors() -> Vec<u32> {
     let ends = |part: &str| part.split('-').map(|end| end.parse().unwrap()).collect::<Vec<u32>>();
     let all = processors_of(&std::process::id().to_string());
     all.split(',').flat_map(|part| ends(part)[0]..=*ends(part).last().unwrap()).collect()
 }
 
-/// Starts a daemon with one core, which goes to the next client every 40 ms.
+/// Starts a daemon with one core to grant, which goes to the next client every 40 ms.
 fn with_one_core(name: &str) -> Daemon {
     let two = format!("{},{}", processors()[0], processors()[1]);
     Daemon::at(path_of(name), &["--cores", &two, "--turn", "40"])
@@ -143,7 +138,7 @@ fn with_one_core(name: &str) -> Daemon {
 #[test]
 fn a_core_goes_round_among_those_that_want_it_and_can_take_it() {
     let daemon = with_one_core("turns");
-    // The client `idle` has no thread, and the client `low` has another priority.
+    // The client `idle` has no thread, and the client `low` has a lower priority.
     let ((mut idle, _), (mut low, welcome)) = (daemon.hello(5, 0), daemon.hello(6, 0));
     let never = daemon.waiting(welcome[1], 0);
     let mut clients: Vec<_> = (0..3).map(|_| daemon.hello(5, 0)).collect();
@@ -163,8 +158,8 @@ fn a_core_goes_round_among_those_that_want_it_and_can_take_it() {
     assert!(is_silent(&never), "a lower priority gets nothing while a core goes round");
 }
 
-/// A core moves from the first client to the second, which then asks for none. A third client of that priority must get
-/// it, and not one of lower priority.
+/// Before the core has moved from the first client to the second, the second asks for no core any more. The core must
+/// then go to the third client, and not to a client of lower priority.
 #[test]
 fn a_turn_that_is_not_taken_is_no_lower_priority_s() {
     let daemon = with_one_core("not-taken");
@@ -193,7 +188,8 @@ fn a_reserved_core_does_not_go_round() {
     assert!(is_silent(&it.control) && is_silent(&thread));
 }
 
-/// The test's folder, used instead of the kernel's, says that every two processors are hyperthreads of one core.
+/// A folder in place of the kernel's says which processors are hyperthreads of one core. The daemon must grant these
+/// together, unless it is started with `--hyperthreads`.
 #[test]
 fn hyperthreads_of_one_core_are_granted_together() {
     let (cpus, folder) = (processors(), path_of("topology"));
@@ -221,7 +217,6 @@ fn hyperthreads_of_one_core_are_granted_together() {
             assert_eq!(cpu, cpus[2]);
             let text = status(&daemon);
             assert!(text.contains(&format!("processors {}: client {}", siblings(2), welcome[1])), "{text}");
-            // A client's thread without a core runs on no hyperthread of the granted core.
             let (number, _end) = begin();
             let _other = daemon.join(welcome[1], number, 3, false);
             let rest = || processors_of(&number.to_string());
@@ -241,7 +236,7 @@ fn what_is_out_of_place_is_refused() {
         send(&mut stream, words);
         assert!(is_refused(&mut stream), "{words:?}");
     }
-    // The daemon refuses a thread of another process, a thread that it knows already, and a number that is in use.
+    // The daemon refuses a thread of another process, a thread that is registered, and a number that is in use.
     let (mut control, welcome) = daemon.hello(0, 0);
     assert!(is_refused(&mut daemon.join(welcome[1], 1, 0, false)));
     let _known = daemon.join(welcome[1], number(), 3, false);
@@ -282,7 +277,7 @@ fn users_who_are_not_trusted_leave_connections_for_others() {
     others.into_iter().for_each(ends);
 }
 
-/// Starts a process that connects often, and has `left` connections then. It ends once nothing comes from its input.
+/// Starts a process that opens as many connections as it can, and checks that the number of open ones is `left`.
 fn connects_often(who: &mut Command, left: usize) -> (Child, impl Iterator) {
     let mut process = who.stdin(Stdio::piped()).spawn().unwrap();
     let mut lines = BufReader::new(process.stdout.take().unwrap()).lines();
@@ -296,14 +291,13 @@ fn ends((mut process, _lines): (Child, impl Iterator)) {
     assert!(process.wait().unwrap().success());
 }
 
-/// Returns true if the daemon takes in a client, whose connection ends at once.
 fn comes(socket: &Socket) -> bool {
     let mut stream = socket.connect();
     let _ = stream.write_all(&bytes_of([HELLO, VERSION, 0, 64]));
     receive(&mut stream).map_or(false, |answer| answer[0] == WELCOME)
 }
 
-/// Returns 200 connections, after the daemon has closed the last one.
+/// Opens 200 connections, which are too many, and returns them once the daemon has closed the last one.
 fn connect_often(socket: &Socket) -> Vec<UnixStream> {
     let mut many: Vec<_> = (0..200).map(|_| socket.connect()).collect();
     assert!(receive(many.last_mut().unwrap()).is_none());
@@ -317,14 +311,14 @@ fn open_of(many: &[UnixStream]) -> usize {
 #[test]
 #[ignore = "two tests above run it twice"]
 fn who_connects_often() {
-    // The first client belongs to another process.
+    // The client with the number 1 belongs to another process.
     assert_eq!(receive(&mut given().join(1, number(), 0, false)).unwrap()[0], REFUSED);
     let many = connect_often(&given());
     println!("{} are open", open_of(&many));
     let _ = std::io::stdin().read(&mut [0]);
 }
 
-/// A client can neither write its page nor change the page's length, which would make the daemon fail.
+/// A client must not write to its page, nor change its length, by which it could make the daemon fail.
 #[test]
 fn a_page_is_only_read() {
     let daemon = Daemon::new("page");
@@ -336,7 +330,7 @@ fn a_page_is_only_read() {
     assert_eq!(page.read_at(&mut [1], 0).unwrap(), 1);
 }
 
-/// Starts a process that gets all cores, for a test that kills it.
+/// Starts a process that has all cores, for a test that kills it.
 fn client_to_kill(daemon: &Daemon) -> Child {
     let mut client = other("a_client_to_kill", daemon).spawn().unwrap();
     let mut lines = BufReader::new(client.stdout.take().unwrap()).lines();
@@ -447,7 +441,7 @@ fn a_client_that_does_not_read_is_none_any_more() {
     let (number, _end) = begin();
     let floats = daemon.join(welcome[1], number, 0, true);
     let all = processors_of(&number.to_string());
-    // Each second request makes the client give its core back, and is answered because of that.
+    // Every second request makes the daemon send the client a message, which the client doesn't read.
     for nth in 0.. {
         let asks = nth % 2 == 0;
         if !is_silent(&floats) || control.write_all(&bytes_of([ASK, asks as u32, 0, 0])).is_err() {
@@ -493,7 +487,7 @@ fn the_status_says_who_has_which_core_and_what_was_moved() {
     becomes("nobody has it", || status(&daemon).contains(&format!("processor {cpu}: nobody, for ")));
 }
 
-/// Starts a thread. Returns its id in the kernel and a function that ends it.
+/// Returns the id in the kernel of a new thread, and a function that ends the thread.
 fn begin() -> (u32, impl FnOnce()) {
     let (ends, waits) = mpsc::channel::<()>();
     let (sender, numbers) = mpsc::channel();
@@ -518,7 +512,7 @@ fn a_thread_that_has_the_number_of_one_that_ended_is_not_moved() {
     // When this client is answered, the daemon has read all messages that were sent before.
     daemon.hello(5, 0);
     end();
-    // Longer than the hundredth of a second to which the kernel rounds a thread's start time.
+    // This is longer than the hundredth of a second to which the kernel rounds the time at which a thread began.
     thread::sleep(Duration::from_millis(50));
     let again = (0..100).find_map(|_| {
         fs::write("/proc/sys/kernel/ns_last_pid", (number - 1).to_string()).ok()?;
@@ -535,7 +529,7 @@ fn a_thread_that_has_the_number_of_one_that_ended_is_not_moved() {
     (again.1)();
 }
 
-/// There are more threads than the daemon checks before a decision.
+/// A thread with a core starts more threads than the daemon checks before a decision. All must be moved off the core.
 #[test]
 fn all_threads_that_one_with_a_core_begins_leave_it() {
     let daemon = Daemon::new("begins");
@@ -559,7 +553,8 @@ fn all_threads_that_one_with_a_core_begins_leave_it() {
     }
 }
 
-/// Once a thread has left, the daemon empties and removes its cpuset, in which the threads that it began stand too.
+/// A thread leaves its client after it has started another thread, which is in the same cpuset. The daemon must move
+/// both threads, and remove the cpuset.
 #[test]
 fn the_cpuset_of_a_thread_that_has_left_is_emptied_and_removed() {
     let folder = match env::var_os("ARBITER_CPUSET") {
@@ -578,7 +573,7 @@ fn the_cpuset_of_a_thread_that_has_left_is_emptied_and_removed() {
     let id = told.recv().unwrap();
     let set = folder.join(format!("arbiter/thread{id}"));
     send(&mut control, [ASK, 1, 0, 0]);
-    // The second time the set may be there still.
+    // When the thread joins for the second time, its cpuset may not be removed yet.
     for _ in 0..2 {
         let mut thread = daemon.join(client, id, 0, false);
         send(&mut thread, [WAIT, 0, 0, 0]);
@@ -603,7 +598,7 @@ fn a_thread_that_changes_its_affinity_leaves_its_core_only_by_affinity() {
     let daemon = Daemon::new("leaves");
     let client = granted(&daemon, 5, 0);
     let (id, cpu) = (thread_on(&daemon, client.cpu).to_string(), client.cpu.to_string());
-    // The processor that the daemon keeps: the first on which this process's first thread may run.
+    // The processor that is never granted is the first on which this process's first thread may run.
     let all = processors_of(&std::process::id().to_string());
     let kept = all.split(['-', ',']).next().unwrap();
     let leaves = Command::new("taskset").args(["-cp", kept, &id]).output().unwrap().status.success();
@@ -611,8 +606,7 @@ fn a_thread_that_changes_its_affinity_leaves_its_core_only_by_affinity() {
     assert_eq!(processors_of(&id), if leaves { kept } else { &cpu[..] });
 }
 
-/// The daemon takes this thread for one that a client's thread has started on its core, since both are on one
-/// processor.
+/// The daemon must let a thread that is no client's, and is kept on one processor, run on all processors again.
 #[test]
 fn a_thread_that_is_kept_on_one_processor_is_freed() {
     let daemon = Daemon::new("kept");
@@ -624,7 +618,7 @@ fn a_thread_that_is_kept_on_one_processor_is_freed() {
     becomes("it may run on all processors again", || processors_of(&id) == all());
 }
 
-/// This daemon has only two of the processors that this process may use.
+/// Once the daemon has ended, a thread that it kept on one processor must be allowed all processors.
 #[test]
 fn who_was_a_client_may_run_everywhere_once_the_daemon_has_ended() {
     let all = processors_of(&std::process::id().to_string());
@@ -657,11 +651,12 @@ fn a_container() {
     let it = granted(&socket, 5, 0);
     let threads = fs::read_dir("/proc/self/task").unwrap().flatten().map(|it| it.file_name().into_string().unwrap());
     assert_eq!(threads.filter(|thread| processors_of(thread) == it.cpu.to_string()).count(), 1);
-    // A number that no thread has in this namespace, though a thread of the daemon's namespace may have it.
+    // No thread has this id in the namespace, but a thread of the daemon's namespace may have it.
     assert!(is_refused(&mut socket.join(it.client, 1 << 21, 1, false)));
 }
 
-/// The host takes a fifth of one processor, which is at most a tenth of the machine.
+/// The host of the virtual machine steals 20 per cent of one processor's time, and at most 10 per cent of the
+/// machine's. The daemon's limit for both is 15 per cent. Meanwhile that processor's thread must run elsewhere.
 #[test]
 fn while_the_host_takes_a_processor_its_thread_runs_in_the_rest() {
     let host = Host::new("stat");
@@ -682,7 +677,8 @@ fn while_the_host_takes_a_processor_its_thread_runs_in_the_rest() {
     assert!(is_silent(&client.control), "the client is one all the time");
 }
 
-/// The client's thread goes on beginning others on its core, until it is no client's any more.
+/// While the host of the virtual machine takes the whole machine, the daemon must close all connections. Until then a
+/// client's thread starts other threads on its core. All these threads must then be moved off the core.
 #[test]
 fn while_the_host_takes_the_machine_there_are_no_clients() {
     let (host, begin) = (Host::new("machine"), Instant::now());
@@ -725,7 +721,7 @@ fn while_the_host_takes_the_machine_there_are_no_clients() {
     granted(&daemon, 5, 0);
 }
 
-/// The group's files are plain files here, so the test shows only what the daemon writes to them.
+/// The daemon must write the processors for threads without a core to a control group, here a folder with a plain file.
 #[test]
 fn groups_of_version_2_get_the_processors_of_the_rest() {
     let group = path_of("group");
@@ -735,7 +731,7 @@ fn groups_of_version_2_get_the_processors_of_the_rest() {
     let daemon = Daemon::at(path_of("rest"), &["--rest", group.to_str().unwrap()]);
     let has = |cpu: u32| processors().split(',').any(|it| it == cpu.to_string());
     let client = granted(&daemon, 5, 0);
-    // The client is notified first. The file is empty for a moment while it is being written.
+    // The daemon sends the grant first. The file is empty for a moment while it is written.
     becomes("it is kept from the group", || !processors().is_empty() && !has(client.cpu));
     drop(client.control);
     becomes("it is of the rest again", || has(client.cpu));
@@ -754,7 +750,8 @@ fn a_user_who_is_not_trusted_has_low_priorities_no_reserve_and_few_clients() {
     assert_eq!(daemon.hello(0, 1).1[0], WELCOME);
 }
 
-/// A process in a set beside the daemon's is refused. In a set above it, or in the daemon's own, it would be taken in.
+/// The daemon must refuse an untrusted process whose cpuset is beside the daemon's own, but not one whose cpuset
+/// contains the daemon's.
 #[test]
 fn a_user_who_is_not_trusted_leaves_no_cpuset() {
     let folder = match env::var_os("ARBITER_CPUSET") {
@@ -793,7 +790,6 @@ fn a_stranger() {
     assert_eq!(clients.iter().filter(|(_, answer)| answer[0] == WELCOME).count(), 16);
 }
 
-/// The address of a Unix socket: AF_UNIX, and the path.
 #[repr(C)]
 struct Address {
     family: u16,
@@ -824,7 +820,8 @@ fn connects(command: &mut Command, daemon: &Socket) -> (Child, [UnixStream; 2]) 
     (child, streams)
 }
 
-/// A stranger's process connects and ends, and a process of root's gets its number.
+/// The daemon must refuse messages on a connection of an untrusted process that has ended, even if a process of root
+/// has its id now.
 #[test]
 fn who_has_the_number_of_another_user_s_process_is_not_taken_for_it() {
     if fs::metadata("/proc/self").unwrap().uid() != 0 {
@@ -864,7 +861,6 @@ struct Piece<'a> {
     len: usize,
 }
 
-/// A control message that carries a descriptor: its length, SOL_SOCKET, SCM_RIGHTS, and the descriptor.
 #[repr(C)]
 struct Rights {
     len: usize,
@@ -888,7 +884,6 @@ extern "C" {
     fn recvmsg(fd: i32, header: &mut Header, flags: i32) -> isize;
 }
 
-/// Receives a message with a descriptor.
 fn receive_with(stream: &UnixStream) -> fs::File {
     let (mut bytes, mut rights) = ([0; SIZE], Rights { len: 0, level: 0, kind: 0, fd: -1 });
     let mut piece = Piece { bytes: &mut bytes, len: SIZE };

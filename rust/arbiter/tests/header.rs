@@ -1,4 +1,4 @@
-//! The declarations of `src/library.rs` are those that `scripts/declarations` makes of the library's source.
+//! The declarations in `src/library.rs` equal those that `scripts/declarations` makes from the library's source.
 use std::collections::BTreeMap;
 
 const MADE: &str = include_str!("../../../examples/rust/arachne_grants/declared.rs");
@@ -12,7 +12,7 @@ const NAMES: [(&str, &str); 4] = [
     ("ArachneShare", "Share"),
 ];
 
-/// Returns the lines of code in `text`, with one name for each type (see `NAMES`).
+/// Returns the lines of code in `text`, with the names of `library.rs` for the types.
 fn lines(text: &str) -> Vec<String> {
     let code = text.lines().map(|line| line.trim().trim_start_matches("pub ")).filter(|line| !line.starts_with("//"));
     code.map(|line| NAMES.iter().fold(line.to_string(), |line, (made, written)| line.replace(made, written))).collect()
@@ -26,7 +26,6 @@ fn codes(text: &str) -> Vec<String> {
     lines(text).into_iter().filter(|line| line.starts_with("const ") && line.contains(": u32 = ")).collect()
 }
 
-/// Returns the fields of each struct in `text` that has C's layout, in order.
 fn fields(text: &str) -> BTreeMap<String, Vec<String>> {
     let lines = lines(text);
     let begins =

@@ -1,5 +1,5 @@
-//! Runs runtimes of rust/arachne as clients of the daemon, by affinity, or by cpusets in the folder that ARBITER_CPUSET
-//! names. The tests need two processors.
+//! Runs runtimes of rust/arachne as clients of the daemon. The daemon keeps threads on cores by affinity or, if
+//! ARBITER_CPUSET names a folder, by cpusets. The tests need two processors.
 mod common;
 
 use arachne::{Builder, Policy, Runtime};
@@ -14,7 +14,7 @@ use std::sync::Arc;
 use std::thread;
 use std::time::{Duration, Instant};
 
-/// Work for a runtime, which goes on until `goes_on` is false.
+/// Tasks that run until `goes_on` is false.
 struct Load {
     polls: Arc<AtomicU64>,
     goes_on: Arc<AtomicBool>,
@@ -53,15 +53,13 @@ fn active(runtime: &Runtime) -> usize {
     runtime.stats().active
 }
 
-/// Returns the thread ids of the workers of this process.
 fn workers() -> Vec<String> {
     let threads = fs::read_dir("/proc/self/task").unwrap().flatten().map(|it| it.file_name().into_string().unwrap());
     let name = |it: &String| fs::read_to_string(format!("/proc/self/task/{it}/comm")).unwrap_or_default();
     threads.filter(|it| name(it).trim().strip_prefix("arachne-").map_or(false, |n| n.parse::<u32>().is_ok())).collect()
 }
 
-/// Returns how many processors the daemon grants: all but one of those that this thread may use before it belongs to a
-/// client.
+/// The calling thread must not belong to a client.
 fn cores() -> usize {
     arachne::available_cores() - 1
 }
@@ -106,7 +104,7 @@ fn a_runtime_goes_on_without_its_daemon_and_joins_the_next() {
             becomes("it goes on by itself", || !runtime.stats().arbiter && active(runtime) == cores);
             load.gets_on("it gets on without an arbiter");
         }
-        // With cpusets, the guardian must be alive to remove them.
+        // If the guardian is killed too, nobody removes the cpusets.
         if !with_guardian || std::env::var_os("ARBITER_CPUSET").is_none() {
             becomes("its workers may run everywhere", || workers().iter().all(|it| processors_of(it) == all));
         }
@@ -118,7 +116,7 @@ fn a_runtime_goes_on_without_its_daemon_and_joins_the_next() {
     }
     drop((low, high));
     drop(daemon);
-    // A runtime of the same size uses the same state again, and must not have anything of the last runtime's arbiter.
+    // This runtime reuses the state of an ended one, and must not be connected to the daemon.
     let alone = Builder::new(cores).build().unwrap();
     assert_eq!(alone.block_on(alone.spawn(async { 42 })).unwrap(), 42);
     assert_eq!((active(&alone), alone.stats().arbiter), (cores, false));
@@ -169,8 +167,7 @@ extern "C" {
     fn pause() -> i32;
 }
 
-/// A runtime that has all cores, and then forks. The child process has the connections and the page of the runtime, but
-/// none of its kernel threads.
+/// This process has all cores, and then forks. The child has the runtime's connections, but none of its kernel threads.
 #[test]
 #[ignore = "the test before runs it, and kills it once it has all cores"]
 fn a_runtime_to_kill() {
@@ -204,7 +201,7 @@ fn the_core_that_is_left_over_goes_round_within_a_priority() {
     }
 }
 
-/// The server's runtime asks for cores according to its load. The batch runtime gets the other cores.
+/// The server asks for cores by its load. The other runtime, of lower priority, must have the remaining ones.
 #[test]
 fn cores_follow_the_load_between_two_priorities() {
     let daemon = Daemon::new("policy");
@@ -216,8 +213,7 @@ fn cores_follow_the_load_between_two_priorities() {
         let left = cores - 1;
         becomes("the batch has what is left", || active(&server) == 1 && active(&batch) == left.max(1));
         of_batch.gets_on("the batch gets on");
-        // The policy judges by an average, so with this many tasks it asks for cores even if the runtime gets little
-        // time.
+        // The policy judges by an average, so with this many tasks the runtime asks for cores even on a busy machine.
         let load = Load::of(&server, 100 * cores);
         becomes("the server has all", || active(&server) == cores && active(&batch) == 1);
         load.gets_on("the server gets on");
@@ -275,8 +271,8 @@ fn what_a_worker_begins_does_not_stay_on_its_core() {
     arachne::block_on(task).unwrap();
 }
 
-/// The first runtime has all cores. The second begins while its process may use only the processors of the cpuset
-/// `rest`.
+/// The first runtime has all cores, so the second one begins on the processors for threads without a core. After the
+/// first runtime has ended, a blocking call of the second must be able to run on all processors.
 #[test]
 fn a_runtime_that_begins_in_the_rest_is_not_kept_there() {
     let (daemon, cores) = (Daemon::new("rest"), cores());
@@ -298,16 +294,15 @@ fn a_runtime_that_begins_in_the_rest_is_not_kept_there() {
     arachne::block_on(task).unwrap();
 }
 
-/// Returns true if this thread may run on all processors that the first thread of the process, which is no worker, may
-/// use.
+/// Returns true if this thread may run on the same processors as the first thread of the process, which is no worker.
 fn is_free() -> bool {
     let link = fs::read_link("/proc/thread-self").unwrap();
     let me = link.file_name().unwrap().to_str().unwrap();
     processors_of(me) == processors_of(&std::process::id().to_string())
 }
 
-/// The arbiter wants a worker's core back while the worker is in a poll, which blocks until a task that it has made
-/// ready has run. The other worker has nothing to do and waits for sockets: it must run that task.
+/// A task blocks its worker's kernel thread until another task has run. Meanwhile the daemon takes back this worker's
+/// core. The other worker, which waits for sockets, must run that other task.
 #[test]
 fn what_is_in_hand_is_run_though_the_core_was_asked_back() {
     let all = arachne::available_cores();
@@ -335,8 +330,8 @@ fn what_is_in_hand_is_run_though_the_core_was_asked_back() {
     }
 }
 
-/// The only worker with a core is in a poll that waits for another task. The other worker, which waits for a core, must
-/// run that task.
+/// The poll of a task, on the only active worker, waits until another task has run. The inactive worker, which waits
+/// for a core, must run that other task.
 #[test]
 fn what_is_behind_a_poll_is_run_by_who_waits_for_a_core() {
     let daemon = Daemon::new("covers");

@@ -1,4 +1,4 @@
-//! Reads commands of Redis's protocol, and makes their answers. This part of a server is the same for every executor.
+//! Reads commands of Redis's protocol, and makes the answers. The servers on all executors share this part.
 #![allow(clippy::result_unit_err, clippy::type_complexity)]
 
 use std::collections::hash_map::{DefaultHasher, HashMap};
@@ -15,15 +15,14 @@ impl Default for Store {
     }
 }
 
-/// Parses the number in the line that begins at `at`. Returns it with the index of the next line, or None if the line
-/// is incomplete.
+/// Returns the number and the next line's index; None if the line is incomplete.
 fn number(bytes: &[u8], at: usize) -> Option<Result<(i64, usize), ()>> {
     let end = at + bytes.get(at..)?.windows(2).position(|w| w == b"\r\n")?;
     let parsed = std::str::from_utf8(&bytes[at..end]).ok().and_then(|t| t.parse().ok());
     Some(parsed.map(|n| (n, end + 2)).ok_or(()))
 }
 
-/// Parses the first command. Returns its words and its length in bytes, or None if the command is incomplete.
+/// Returns the first command's words and its length in bytes, or None if it is incomplete.
 fn command(bytes: &[u8]) -> Option<Result<(Vec<&[u8]>, usize), ()>> {
     if bytes.is_empty() {
         return None;
@@ -103,8 +102,8 @@ impl Store {
         }
     }
 
-    /// Answers each complete command in `bytes`. Returns how many bytes these commands have, and how many commands they
-    /// are. Fails if the bytes are no commands.
+    /// Answers all complete commands. Returns the number of their bytes, and of the commands. Fails if the bytes are no
+    /// commands.
     pub fn serve(&self, bytes: &[u8], out: &mut Vec<u8>) -> Result<(usize, u64), ()> {
         let (mut at, mut count) = (0, 0);
         while let Some(command) = command(&bytes[at..]) {
@@ -125,7 +124,7 @@ fn bulk(text: &[u8], out: &mut Vec<u8>) {
     out.extend(b"\r\n");
 }
 
-/// The bytes that were read from a connection, and are not answered yet.
+/// The bytes that were read from a connection and not answered yet.
 pub struct Buffer {
     pub bytes: Vec<u8>,
     pub len: usize,
@@ -151,12 +150,13 @@ impl Default for Buffer {
     }
 }
 
-/// Waits until the standard input ends, which is the request to end a server.
+/// Waits until the standard input ends, which is how a server is asked to end.
 pub fn wait_for_end() {
     let _ = std::io::Read::read_to_end(&mut std::io::stdin(), &mut Vec::new());
 }
 
-/// A server's arguments, `CORES PORT [policy [SOCKET PRIORITY]]`; the last two are for an arbiter.
+/// A server's arguments: `CORES PORT [policy [SOCKET PRIORITY]]`, the last two for an arbiter (a daemon that grants
+/// cores).
 pub struct Arguments {
     pub cores: usize,
     pub port: u16,

@@ -7,8 +7,9 @@ use std::sync::Wait;
 use std::thread::Threads;
 use std::time::Clock;
 
-/// The expected exit status, output and error messages of a run. The word `usage` stands for any usage text of the
-/// command-line parser `clap`.
+/// The expected exit status, output and error messages of a run.
+///
+/// The word `usage` stands for any usage text of the command-line parser `clap`.
 #[derive(Clone, Copy)]
 pub(super) struct Told<'a> {
     pub(super) status: u8,
@@ -16,7 +17,6 @@ pub(super) struct Told<'a> {
     pub(super) faults: &'a [u8],
 }
 
-/// Returns the expected result of a run that fails with the error message `line`.
 pub(super) fn fault(line: &[u8]) -> Told<'_> {
     Told {
         status: 1,
@@ -25,7 +25,7 @@ pub(super) fn fault(line: &[u8]) -> Told<'_> {
     }
 }
 
-/// Parses the expected result of a run: the exit status, the output and, after a `!`, the error messages.
+/// Parses an expected result: the exit status, the output and, after a `!`, the error messages.
 pub(super) fn told_by(row: &str) -> Told<'_> {
     let (status, streams) = row.split_once(' ').unwrap_or((row, ""));
     let (output, faults) = streams.split_once('!').unwrap_or((streams, ""));
@@ -40,7 +40,6 @@ pub(super) fn told_by(row: &str) -> Told<'_> {
     }
 }
 
-/// Returns error messages in the form that the tests' tables use.
 pub(super) fn shown(status: u8, faults: &[u8]) -> &[u8] {
     if status == 2 && !faults.starts_with(b"fault") && !b"fault".starts_with(faults) {
         return b"usage";
@@ -48,9 +47,7 @@ pub(super) fn shown(status: u8, faults: &[u8]) -> &[u8] {
     faults
 }
 
-/// Runs the program, and returns the status with which it ends.
-///
-/// This function has no contract on the streams, so that the proofs of the tests are short.
+/// Has no contract on the streams, so that the proofs of the tests are short.
 pub(super) fn status_of<R: Threads + Wait + Clock + Sync>(
     rt: &R,
     alloc: Global,
@@ -62,7 +59,7 @@ pub(super) fn status_of<R: Threads + Wait + Clock + Sync>(
     drive(rt, alloc, words, input, output, faults)
 }
 
-/// Runs the program with these arguments and streams. Returns whether it ends as expected.
+/// Returns true if the program ends as expected with these arguments and streams.
 ///
 /// After a success, the output must have been flushed once, at its end. If the arguments are refused, the program must
 /// not read the input.
@@ -86,7 +83,6 @@ pub(super) fn ends<R: Threads + Wait + Clock + Sync>(
     )
 }
 
-/// Checks that the program ends as expected with these arguments and this input.
 pub(super) fn assert_ends<R: Abort + Threads + Wait + Clock + Sync>(
     rt: &R,
     alloc: Global,

@@ -2,17 +2,15 @@
 use std::alloc::{AllocError, Global};
 use std::io::{self, ErrorKind, Read, Write};
 
-/// The way in which a stream fails: the number of the first call that fails, counted from 1, and the error.
 #[derive(Clone, Copy, Debug)]
 pub(super) struct Failure {
     pub(super) at: u64,
-    /// The error that the failing call returns. If it is `None`, the failing call reads or writes no byte.
+    /// The error that the failing call returns, or `None` if it only reads or writes no byte.
     pub(super) error: Option<ErrorKind>,
     /// True if only that one call fails, and not the later ones.
     pub(super) once: bool,
 }
 
-/// Returns the result of call number `call` if that call must fail: an error, or a count of 0 bytes.
 fn failed(failure: Option<Failure>, call: u64) -> Option<io::Result<usize>> {
     let failure = failure?;
     if call < failure.at || failure.once && call != failure.at {
@@ -24,24 +22,18 @@ fn failed(failure: Option<Failure>, call: u64) -> Option<io::Result<usize>> {
     }
 }
 
-/// A reader for tests that gives at most `step` bytes at a time, and fails as `failure` says.
 #[derive(Drop)]
 pub(super) struct Script<'a> {
-    /// The bytes that the reader gives first.
     pub(super) bytes: &'a [u8],
-    /// The bytes that the reader gives after those in `bytes`, repeated without end; none if the slice is empty.
+    /// The bytes that follow those in `bytes`, repeated without end; none if the slice is empty.
     pub(super) again: &'a [u8],
-    /// The maximum number of bytes that the reader gives in one read.
     pub(super) step: usize,
     pub(super) failure: Option<Failure>,
-    /// The number of bytes that the reader has given so far.
     pub(super) given: u64,
-    /// The number of calls of `read` so far.
     pub(super) reads: u64,
 }
 
 impl<'a> Script<'a> {
-    /// Returns a reader that gives `bytes`, and never fails.
     pub(super) fn of(bytes: &'a [u8]) -> Script<'a> {
         Script {
             bytes,
@@ -72,25 +64,19 @@ impl Read for Script<'_> {
     }
 }
 
-/// A writer for tests that takes at most `step` bytes at a time, fails as its failures say, and keeps the bytes that it
-/// takes.
 #[derive(Drop)]
 pub(super) struct Tray {
     pub(super) kept: Vec<u8>,
-    /// The maximum number of bytes that the writer takes in one write.
     pub(super) step: usize,
     pub(super) failure: Option<Failure>,
     pub(super) flush_failure: Option<Failure>,
-    /// The number of calls of `write` so far.
     pub(super) writes: u64,
-    /// The number of calls of `flush` so far.
     pub(super) flushes: u64,
-    /// The number of bytes that the writer had taken at the last flush that did not fail.
+    /// The number of bytes that were taken before the last flush that did not fail.
     pub(super) flushed: usize,
 }
 
 impl Tray {
-    /// Returns a writer that takes all bytes, and never fails.
     pub(super) fn new(alloc: Global) -> Tray {
         Tray {
             kept: Vec::new(alloc),
@@ -110,7 +96,7 @@ impl Tray {
         Ok(tray)
     }
 
-    /// Returns whether the writer was flushed exactly once, after it had taken all the bytes that it keeps.
+    /// Returns true if the writer was flushed exactly once, after its last byte.
     pub(super) fn is_flushed_once(&self) -> bool {
         self.flushes == 1 && self.flushed == self.kept.len()
     }

@@ -9,17 +9,15 @@ use std::sync::Wait;
 use std::thread::Threads;
 use std::time::Clock;
 
-/// The maximum number of runs of a test case. Each run has `BYTES` bytes more memory than the run before.
 const RUNS: u64 = 5_000;
 
 const BYTES: usize = 100;
 
-/// The error messages of a run to which memory, or a kernel thread, was refused.
 const WANTS: &[&[u8]] = &[b"fault 30\n", b"fault 35\n"];
 
-/// Runs the program with these arguments and this input. Returns true if the run ends as expected.
+/// Returns true if the run ends as expected.
 ///
-/// Returns false if memory or a kernel thread was refused, and `None` if the run ends in any other way.
+/// Returns false if memory or a kernel thread was refused, and `None` if it ends in any other way.
 fn is_told<R: Threads + Wait + Clock + Sync>(
     rt: &R,
     alloc: Global,
@@ -53,15 +51,15 @@ const ROWS: &[&str] = &[
     "arachne help policy <  => 2 !usage",
 ];
 
-/// Test cases that run on several cores. Runs of these test cases need not end as they do with enough memory: after all
-/// memory was used up, the C library gives no memory to a new kernel thread, even if memory was freed again.
+/// Once memory was used up, the C library gives no memory to a new kernel thread, even after memory was freed, so that
+/// runs on several cores need not end as they do with enough memory.
 const ON_CORES: &[&str] = &[
     "arachne run --cores 4 --quantum 1 --names 0:release:1 1:release:2 2:grant:1 < arachne 1|ledgers 0|locks 0|(sweep add 2 (num 0) (num 8) (var 0))| => 0 value 28|threads 4|thread /|thread /1|thread /0|thread /0/0|!",
 ];
 
-/// Runs a test case with all memory, then with none, and then with a little more each time.
+/// Runs a test case with no memory, and then with a little more each time, until it ends as expected.
 ///
-/// Stops when the program ends as expected, or after `most` runs. Returns the number of runs after the first.
+/// Stops after `most` runs. Returns the number of runs.
 fn ends_at_last<R: Abort + Threads + Wait + Clock + Sync>(
     rt: &R,
     alloc: Global,
@@ -90,7 +88,7 @@ fn ends_at_last<R: Abort + Threads + Wait + Clock + Sync>(
     Ok(runs)
 }
 
-/// Tests that the first run of each test case, without any memory, is refused, and that the last run has enough memory.
+/// Each test case must need more than ten runs. On one core, it must at last end as with enough memory.
 #[test]
 fn each_growth_is_refused(rt: HostRuntime) -> Result<(), AllocError> {
     for &row in ROWS {

@@ -25,7 +25,6 @@ pub(super) fn spelled(alloc: Global, row: &str) -> Result<String, AllocError> {
     Ok(text)
 }
 
-/// Returns the words, the input and the end of a row.
 pub(super) fn parts_of(row: &str) -> (&str, &str, &str) {
     let (words, rest) = row.split_once(" < ").unwrap_or((row, ""));
     let (input, told) = rest.split_once(" => ").unwrap_or((rest, ""));

@@ -10,7 +10,6 @@ use std::sync::Wait;
 use std::thread::Threads;
 use std::time::Clock;
 
-/// Each of the commands, in a run without any fault.
 const COMMANDS: &[&str] = &[
     "arachne run --cores 2 --quantum 1 --names 0:release:1 3:grant:1 < arachne 1|ledgers 1|locks 1|(sweep add 1 (num 0) (num 2) (hold 0 (tally 0 (num 5) (num 1))))| => 0 value 2|ledger 0 10|threads 2|thread / 1|thread /0 1|!",
     "arachne eval --names < arachne 1|ledgers 0|locks 1|(fork n (hold 0 (num 2)) (num 3) (add (var 0) (var 1)))| => 0 value 5|threads 2|thread / 0|thread /0 1|!",
@@ -18,7 +17,7 @@ const COMMANDS: &[&str] = &[
     "arachne policy < 2 151 100 1900 1000|3 100 100 1809 1000| => 0 add|remove|!",
 ];
 
-/// Each of the program's commands, on an input that takes four reads, with a fifth that finds the end.
+/// Each of the commands, on an input that takes four reads, with a fifth that finds the end.
 const LONG: &[&str] = &[
     "arachne run --cores 2 < arachne 1|array[ 1*100000]|ledgers 0|locks 0|(len 0)| => 0 value 100000|threads 1|!",
     "arachne eval < arachne 1|array[ 1*100000]|ledgers 0|locks 0|(len 0)| => 0 value 100000|threads 1|!",
@@ -26,7 +25,6 @@ const LONG: &[&str] = &[
     "arachne policy < [2 151 100 1900 1000|3 100 100 1809 1000|*5000] => 0 [add|remove|*5000]!",
 ];
 
-/// Each of the commands on an input with a fault, and arguments that are refused.
 const REFUSED: &[&str] = &[
     "arachne run --cores 2 < arachne 1|ledgers 0|locks 0|(var 0)| => 1 !fault 8 node 0|",
     "arachne eval < arachne 1|ledgers 0|locks 0|(num 18446744073709551616)| => 1 !fault 3 at 52|",
@@ -35,11 +33,9 @@ const REFUSED: &[&str] = &[
     "arachne run 0:take:1 <  => 2 !fault 26 order 0|",
 ];
 
-/// The maximum numbers of bytes that a stream gives or takes in one call.
 const STEPS: &[usize] = &[1, 7, usize::MAX];
 
-/// Errors that a stream returns, and for each, whether it returns the error only once. Programs often try again after
-/// some of these errors.
+/// Errors that a stream returns, only once if the second field is true.
 const ERRORS: &[(ErrorKind, bool)] = &[
     (ErrorKind::Interrupted, true),
     (ErrorKind::Interrupted, false),
@@ -49,10 +45,9 @@ const ERRORS: &[(ErrorKind, bool)] = &[
     (ErrorKind::Other, false),
 ];
 
-/// Runs a test case, and makes each of its reads fail, one after another, in each way.
+/// Makes each read of a test case fail, one after another, and checks that the program reads no more.
 ///
-/// The input gives at most `step` bytes at a time. Checks that the program reads no more after a failed read. Returns
-/// the number of reads.
+/// The input gives at most `step` bytes at a time. Returns the number of reads.
 fn each_read_fails<R: Abort + Threads + Wait + Clock + Sync>(
     rt: &R,
     alloc: Global,
@@ -81,7 +76,6 @@ fn each_read_fails<R: Abort + Threads + Wait + Clock + Sync>(
     Ok(whole.reads)
 }
 
-/// Tests reads that fail at the start, in the middle and at the end of the input.
 #[test]
 fn a_failed_read_is_not_tried_again(rt: HostRuntime) -> Result<(), AllocError> {
     for &row in COMMANDS {
@@ -95,7 +89,7 @@ fn a_failed_read_is_not_tried_again(rt: HostRuntime) -> Result<(), AllocError> {
     Ok(())
 }
 
-/// Test cases without an end of the input: the arguments, and the text that the reader repeats without end.
+/// Inputs without an end: the arguments, and the text that is repeated.
 const ENDLESS: &[(&str, &str)] = &[
     ("arachne run", "a"),
     ("arachne eval", "arachne 1\nledgers 0\nlocks 0\n(num 7)\n"),
@@ -103,7 +97,7 @@ const ENDLESS: &[(&str, &str)] = &[
     ("arachne policy", "0 1 1 1 1 7\n"),
 ];
 
-/// Tests that an input above the limit is reported before any fault in its text.
+/// An input above the limit must be reported before any fault in its text.
 #[test]
 fn readers_that_never_end(rt: HostRuntime) -> Result<(), AllocError> {
     for &(words, text) in ENDLESS {
@@ -116,8 +110,7 @@ fn readers_that_never_end(rt: HostRuntime) -> Result<(), AllocError> {
     Ok(())
 }
 
-/// The ways in which a write fails: with an error (`Some`) or by taking no byte (`None`), and whether only once or also
-/// in every later call.
+/// The ways in which a write fails: with an error, or by taking no byte (`None`), and whether only once.
 const FAILS: &[(Option<ErrorKind>, bool)] = &[
     (None, true),
     (None, false),
@@ -129,7 +122,6 @@ const FAILS: &[(Option<ErrorKind>, bool)] = &[
     (Some(ErrorKind::Other), false),
 ];
 
-/// The kind of call that fails in a run: a write of the output, its flush, or a write of a fault's line.
 #[derive(Clone, Copy, Debug)]
 enum Stream {
     Output,
@@ -137,18 +129,14 @@ enum Stream {
     Faults,
 }
 
-/// A test case, and the number of bytes that each writer takes at a time.
 #[derive(Clone, Copy)]
 struct Case<'a> {
     words: &'a str,
     input: &'a [u8],
-    /// The expected end of the program, in the notation of the tests' tables.
     row: &'a str,
     step: usize,
 }
 
-/// Returns the streams for the output and for the faults. In the one that `stream` selects, calls of that kind fail as
-/// `failure` says.
 fn trays(alloc: Global, step: usize, stream: Stream, failure: Option<Failure>) -> (Tray, Tray) {
     let (mut output, mut faults) = (Tray::new(alloc), Tray::new(alloc));
     output.step = step;
@@ -161,13 +149,12 @@ fn trays(alloc: Global, step: usize, stream: Stream, failure: Option<Failure>) -
     (output, faults)
 }
 
-/// Returns those of `bytes` that all writes before write number `at` take, if each takes `step` bytes.
+/// Returns the bytes that were taken before write number `at`, if each earlier write took `step` bytes.
 fn taken(bytes: &[u8], at: u64, step: usize) -> &[u8] {
     let count = (at as usize).saturating_sub(1).saturating_mul(step);
     &bytes[..count.min(bytes.len())]
 }
 
-/// Returns the expected end of a case in which call number `at` on `stream` fails.
 fn told_of<'a>(case: &Case<'a>, stream: Stream, at: u64) -> Told<'a> {
     let told = told_by(case.row);
     match stream {
@@ -188,7 +175,7 @@ fn told_of<'a>(case: &Case<'a>, stream: Stream, at: u64) -> Told<'a> {
     }
 }
 
-/// Runs a case in which one call fails, or none. Checks how the run ends, and returns the number of calls on `stream`.
+/// Checks how a run in which one call fails, or none, ends, and returns the number of calls on `stream`.
 fn calls_of<R: Abort + Threads + Wait + Clock + Sync>(
     rt: &R,
     alloc: Global,
@@ -212,8 +199,7 @@ fn calls_of<R: Abort + Threads + Wait + Clock + Sync>(
     })
 }
 
-/// Makes each call on `stream` fail, one after another, in each way. Checks that no call on `stream` follows the failed
-/// call.
+/// Makes each call on `stream` fail, one after another, in each way. Checks that no later call on `stream` is made.
 fn each_call_fails<R: Abort + Threads + Wait + Clock + Sync>(
     rt: &R,
     alloc: Global,
@@ -231,8 +217,8 @@ fn each_call_fails<R: Abort + Threads + Wait + Clock + Sync>(
     Ok(())
 }
 
-/// Tests failures of writes of the output, of its flush, and of writes of a fault's line. If that line can't be
-/// written, nothing else changes.
+/// Tests that the program repeats no failed call: a write of the output, its flush, or a write of an error message. If
+/// the message can't be written, the output and the exit status must not change.
 #[test]
 fn a_failed_write_is_not_tried_again(rt: HostRuntime) -> Result<(), AllocError> {
     let alloc = rt.alloc();
@@ -290,7 +276,7 @@ fn a_usage_that_fails_changes_nothing(rt: HostRuntime) -> Result<(), AllocError>
     Ok(())
 }
 
-/// The longest line is written whole, also if the writer takes one byte at a time.
+/// Tests that the longest error message is written whole, even if the writer takes one byte at a time.
 #[test]
 fn the_longest_fault_line_is_written_whole(rt: HostRuntime) {
     for &step in STEPS {

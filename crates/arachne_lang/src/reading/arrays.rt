@@ -7,7 +7,7 @@ use super::stop::Stop;
 use super::words::word;
 use std::alloc::Global;
 
-/// Parses the array lines at the front of `text`. Returns the arrays, and the text after those lines.
+/// Parses the array lines at the front of `text`, and returns the text after them with the arrays.
 pub fn array_lines(alloc: Global, text: &[u8]) -> Result<(Vec<Vec<u64>>, &[u8]), Stop<'_>>
     ensures { Gives (λ read. (map (λ array. array.items) read.0.items, read.1.now)) result (arrays_at [] text.now) }
 {
@@ -22,8 +22,7 @@ pub fn array_lines(alloc: Global, text: &[u8]) -> Result<(Vec<Vec<u64>>, &[u8]),
     Ok((arrays, rest))
 }
 
-/// Parses the items of one array, each after a space, up to the end of the line. Returns the items, and the text after
-/// the line.
+/// Parses one array's items up to the end of the line, and returns the text after it with them.
 fn items(alloc: Global, text: &[u8]) -> Result<(Vec<u64>, &[u8]), Stop<'_>>
     ensures { Gives (λ read. (read.0.items, read.1.now)) result (items_at [] text.now) }
 {

@@ -27,8 +27,7 @@ pub fn expression(alloc: Global, levels: u8, text: &[u8]) -> Result<(Expr, &[u8]
     form(alloc, levels - 1, rest)
 }
 
-/// Parses the expression at the front of `text`, nested at most `levels` levels deep, and then the bytes `end`. Returns
-/// the expression, and the text after `end`.
+/// Parses the expression at the front of `text`, nested at most `levels` deep, and then the bytes `end`.
 #[cycle(expression)]
 #[tactic(auto, unfolding(crate::specs::Reading::part_at))]
 fn part<'t>(
@@ -45,8 +44,7 @@ fn part<'t>(
     Ok((part, rest))
 }
 
-/// Parses the rest of an expression whose opening bracket was just parsed, with parts nested at most `levels` levels
-/// deep. Returns the expression, and the text after its closing bracket.
+/// Parses the rest of an expression whose opening bracket was just parsed, with parts nested at most `levels` deep.
 #[cycle(expression)]
 #[tactic(auto, unfolding(crate::specs::Reading::form_at))]
 fn form(alloc: Global, levels: u8, text: &[u8]) -> Result<(Expr, &[u8]), Stop<'_>>

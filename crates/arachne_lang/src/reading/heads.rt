@@ -22,8 +22,7 @@ pub enum Head {
     Sweep(Reduction),
 }
 
-/// Parses the keyword at the front of `text`, and the space after it. Returns the kind of expression, and the text
-/// after the space.
+/// Parses the keyword at the front of `text`, and the space after it.
 ///
 /// If no keyword matches, the error is at the first byte that differs from the keyword that was tried last.
 #[tactic(auto, unfolding(crate::specs::Reading::form_words))]
@@ -46,7 +45,7 @@ pub fn head_word(text: &[u8]) -> Result<(Head, &[u8]), Stop<'_>>
     }
 }
 
-/// Parses `letters`, the remaining letters of the keyword of `head`. Returns `head`, and the text after those letters.
+/// Parses `letters`, the remaining letters of the keyword of `head`.
 fn ending<'t>(text: &'t [u8], letters: &[u8], head: Head) -> Result<(Head, &'t [u8]), Stop<'t>>
     ensures { Gives (λ read. (read.0, read.1.now)) result (words_at (Behind letters.now (End head)) text.now) }
 {

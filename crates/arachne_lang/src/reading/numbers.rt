@@ -1,6 +1,6 @@
 //! Parses a decimal number up to a limit.
-ghost use Rattle.std.specs.Prelude.{◌+◌, ◌*◌, ◌^◌, ◌<◌, ◌≤◌, length, IfOk};
-ghost use Rattle.arachne_lang.specs.Reading.{Gives, digits_at, figures_at, number_at};
+ghost use Rattle.std.specs.Prelude.{◌+◌, ◌*◌, ◌^◌, ◌<◌, ◌≤◌, length, IfErr, IfOk};
+ghost use Rattle.arachne_lang.specs.Reading.{Gives, IsAtByte, digits_at, figures_at, number_at};
 
 use super::stop::Stop;
 use super::words::word;
@@ -8,15 +8,15 @@ use super::words::word;
 /// Parses the number at the front of `text`, and then the bytes `end`. Returns the number, and the text after `end`.
 #[tactic(auto, unfolding(crate::specs::Reading::number_at))]
 pub fn number<'t>(text: &'t [u8], end: &[u8]) -> Result<(u64, &'t [u8]), Stop<'t>>
-    ensures { Gives (λ read. (read.0, read.1.now)) result (number_at (2 ^ 64) end.now text.now) }
+    ensures read { Gives (λ read. (read.0, read.1.now)) result (number_at (2 ^ 64) end.now text.now) }
+    ensures at_byte { IfErr result IsAtByte }
 {
     let (value, rest) = figures(u64::MAX, text)?;
     let rest = word(rest, end)?;
     Ok((value, rest))
 }
 
-/// Parses the number at the front of `text`, which must be at most 255, and then the bytes `end`. Returns the number,
-/// and the text after `end`.
+/// Parses the number at the front of `text`, which must be at most 255, and then the bytes `end`.
 #[tactic(auto, unfolding(crate::specs::Reading::number_at))]
 pub fn small_number<'t>(text: &'t [u8], end: &[u8]) -> Result<(u8, &'t [u8]), Stop<'t>>
     ensures { Gives (λ read. (read.0, read.1.now)) result (number_at 256 end.now text.now) }
@@ -33,6 +33,7 @@ pub fn figures(greatest: u64, text: &[u8]) -> Result<(u64, &[u8]), Stop<'_>>
     ensures read { Gives (λ read. (read.0, read.1.now)) result (figures_at (greatest + 1) text.now) }
     ensures in_range { IfOk result (λ read. read.0 ≤ greatest) }
     ensures shorter { IfOk result (λ read. length read.1.now < length text.now) }
+    ensures at_byte { IfErr result IsAtByte }
 {
     match text {
         [b'0', rest @ ..] => Ok((0, rest)),
@@ -41,13 +42,13 @@ pub fn figures(greatest: u64, text: &[u8]) -> Result<(u64, &[u8]), Stop<'_>>
     }
 }
 
-/// Parses the remaining digits of a number whose digits so far have the value `value`. Returns the number, which must
-/// be at most `greatest`, and the text after its digits.
+/// Parses the rest of a number of at most `greatest`, whose digits so far have the value `value`.
 fn digits(greatest: u64, value: u64, text: &[u8]) -> Result<(u64, &[u8]), Stop<'_>>
     requires { value ≤ greatest }
     ensures read { Gives (λ read. (read.0, read.1.now)) result (digits_at (greatest + 1) value text.now) }
     ensures in_range { IfOk result (λ read. read.0 ≤ greatest) }
     ensures shorter { IfOk result (λ read. length read.1.now ≤ length text.now) }
+    ensures at_byte { IfErr result IsAtByte }
 {
     let [byte @ b'0'..=b'9', rest @ ..] = text else {
         return Ok((value, text));

@@ -6,7 +6,7 @@ ghost use Rattle.arachne_lang.specs.declared.reading.stop.Stop.TheVariants.{Memo
 use crate::text_fault::TextFault;
 use std::alloc::AllocFailed;
 
-/// The error of a parsing function. An error in the text carries the text from that byte on.
+/// The error of a parsing function. An error in the text has the text from the faulty byte on.
 #[derive(Clone, Copy)]
 pub enum Stop<'t> {
     /// Memory was refused, which says nothing about the text.

@@ -5,18 +5,17 @@ use crate::choosers::{CORE_THREE, Draws, IN_TURN, ONE_EACH};
 use crate::gates::Watching;
 use std::test::Fail;
 
-/// A root thread that forks a child and adds the child's value to its own.
 pub(super) const FORK: &str = "(fork n (num 2) (num 3) (add (var 0) (var 1)))";
 
-/// The root thread forks an exclusive child, which gets a core to itself.
 pub(super) const EXCLUSIVE: &str = "(fork x (num 1) (num 2) (add (var 0) (var 1)))";
 
-/// The root thread counts to 1,000 while its child runs on another core, which the child has to itself.
 pub(super) const ALONE: &str =
     "(fork x (num 1) (fold (num 0) (num 1000) (num 0) (var 1)) (add (var 0) (var 1)))";
 
+pub(super) const SWEEP: &str = "(sweep add 2 (num 0) (num 8) (var 0))";
+
 const ROWS: &[Row] = &[
-    // Both random choices of the fork are core 3, so the child runs there.
+    // Both cores that the fork draws are core 3.
     Row {
         shows: "a fork goes where its choices say",
         expr: FORK,
@@ -26,7 +25,7 @@ const ROWS: &[Row] = &[
         facts: &[(Value, 5), (Cores, 0b1001)],
         ..ROW
     },
-    // Core k's chooser draws core k + 1, so that each thread of a chain is on the next core after its parent's.
+    // The chooser of core k returns k + 1, so each thread of a chain runs on the core after its parent's.
     Row {
         shows: "each core has its own chooser",
         forks: 3,
@@ -37,8 +36,7 @@ const ROWS: &[Row] = &[
         facts: &[(Value, 4), (Cores, 0b1111)],
         ..ROW
     },
-    // Core 0's chooser (random generator) returns cores 1, 2 and 3, one after another, for the three threads that the
-    // root forks before it joins any.
+    // Core 0's forks draw cores 1, 2 and 3 in turn, and the root forks three threads before it joins any.
     Row {
         shows: "each fork draws a word",
         expr: "(fork n (num 1) (fork n (num 2) (fork n (num 3) (num 4) (var 1)) (var 1)) (var 1))",
@@ -48,9 +46,9 @@ const ROWS: &[Row] = &[
         facts: &[(Value, 4), (Cores, 0b1111)],
         ..ROW
     },
-    // The root and three other threads have all places while 301 more are forked, and the queue has no room for 45 of
-    // these. All forks until then have drawn 304 words, each of which chooses the other core than the previous word
-    // did. So the next thread is forked to core 0, and core 1 is empty for an exclusive thread.
+    // The root and three other threads have all slots while 301 more are forked, for 45 of which the queue has no room.
+    // All these forks draw 304 words, which choose cores 0 and 1 in turn. So the next thread is forked to core 0, and
+    // core 1 is empty for an exclusive thread.
     Row {
         shows: "each fork draws a word, that of a thread that runs in place at once too",
         expr: "(let (fork n (fold (num 0) (num 20000) (num 0) (var 1)) (fork n (fold (num 0) (num 20000) (num 0) (var 1)) (fork n (fold (num 0) (num 20000) (num 0) (var 1)) (fold (num 0) (num 301) (num 0) (fork n (num 1) (num 1) (var 2))) (var 1)) (var 1)) (var 1)) (fork n (fold (num 0) (num 20000) (num 0) (var 2)) (fork x (num 1) (num 1) (add (var 1) (var 2))) (add (var 1) (var 2))))",
@@ -60,7 +58,7 @@ const ROWS: &[Row] = &[
         facts: &[(Value, 2), (Threads, 307), (LastTwoInSlots, 1)],
         ..ROW
     },
-    // The root has the only slot of the core that is drawn, so the other cores are tried in ascending order.
+    // The root has the only slot of the core that is drawn. The other cores are tried in ascending order.
     Row {
         shows: "where the core that is drawn is full, the lowest that is not gets the thread",
         expr: FORK,
@@ -70,7 +68,6 @@ const ROWS: &[Row] = &[
         facts: &[(Value, 5), (Slot, 2), (Cores, 0b0011)],
         ..ROW
     },
-    // The parent waits for its child, and doesn't run the child in its own slot.
     Row {
         shows: "a thread that has a core alone runs there",
         expr: EXCLUSIVE,
@@ -79,19 +76,12 @@ const ROWS: &[Row] = &[
         facts: &[(Value, 3), (Slot, 2), (Cores, 0b0011)],
         ..ROW
     },
-    // The child runs at the same time as the root.
     Row {
         shows: "a thread that has a core alone runs beside its parent",
         expr: ALONE,
         machines: (&[2], &[1]),
         watching: Watching::Meeting(500, 0),
-        facts: &[
-            (Value, 1),
-            (Threads, 2),
-            (Slot, 2),
-            (InPlace, 0),
-            (IsOver, 1),
-        ],
+        facts: &[(Value, 1), (Slot, 2), (InPlace, 0), (IsOver, 1)],
         ..ROW
     },
 ];

@@ -1,6 +1,5 @@
-//! The numbers that a test case expects in a run's report, or from the observer (`Gate`) that watched the run.
+//! The numbers that a test case expects in a run's report, or from the observer (`Gate`) of the run.
 use super::locks::{events_of, grants, grants_are_holds};
-use super::programs::threads_of;
 use crate::gates::Watch;
 use arachne_machine::Ran;
 use arachne_run::{Report, RunFault};
@@ -8,49 +7,34 @@ use std::alloc::Global;
 use std::sync::atomic::Ordering;
 use std::test::Fail;
 
-/// A number that a test case can expect of a run. A condition counts as 1 if it is true, and as 0 otherwise.
+/// A number that a test case can expect of a run. A condition counts as 1 if it holds, and as 0 otherwise.
 #[derive(Clone, Copy)]
 pub(super) enum Fact {
     Value,
-    /// The number of threads in the report.
     Threads,
     /// The number of threads that got a slot at once when they were forked.
     Slot,
-    /// 1 if the last two threads of the report got a slot at once when they were forked.
     LastTwoInSlots,
-    /// The number of threads that waited for a slot after their fork and then got one.
+    /// The number of threads that waited in the queue for a slot, and then got one.
     Spill,
     /// The number of threads that ran inside the slots of their parents.
     InPlace,
-    /// 1 if at most this number of threads ran inside the slots of their parents.
     InPlaceUpTo(u64),
-    /// The sum in the report for the first ledger (counter).
-    Total,
     /// The number of orders to open or close a core that the run has carried out.
     Applied,
-    /// 1 if the run has carried out at most this number of orders to open or close cores.
-    AppliesUpTo(u64),
-    /// The cores that the observer has recorded, a bit for each: those that have entered a slice.
+    /// The cores that have entered a slice or, for `Watching::Moving`, to which threads were moved: one bit each.
     Cores,
-    /// The observer has counted at least this number: of slices entered or, if it counts these, of tickets.
     Counts(u64),
-    /// The observer has counted at most this number.
     CountsUpTo(u64),
-    /// 1 if at most this number of sleeps timed out before their worker found something to run.
     OversleepsUpTo(u64),
-    /// 1 if all events for which a core waited (see `Watching`) have occurred, and none of the events that must not
-    /// occur.
     IsOver,
     /// The number of events (requests, grants and releases) in the first lock's history.
     Events,
-    /// The number of grants in the first lock's history.
+    /// The number of grants in the first lock's history (its list of events).
     Grants,
-    /// 1 if the first lock was granted once to each thread whose line in the report says that it held the lock once,
-    /// and to no other thread.
     GrantsAreHolds,
 }
 
-/// Returns the number that a run has for `fact`.
 pub(super) fn number(report: &Report, watch: &Watch, fact: Fact) -> u64 {
     match fact {
         Fact::Value => report.value,
@@ -60,9 +44,7 @@ pub(super) fn number(report: &Report, watch: &Watch, fact: Fact) -> u64 {
         Fact::Spill => count_of(report, Ran::Spill),
         Fact::InPlace => count_of(report, Ran::InPlace),
         Fact::InPlaceUpTo(most) => u64::from(count_of(report, Ran::InPlace) <= most),
-        Fact::Total => report.totals.as_slice().first().copied().unwrap_or(0),
         Fact::Applied => report.applied as u64,
-        Fact::AppliesUpTo(most) => u64::from(report.applied as u64 <= most),
         Fact::Cores => watch.entered.load(Ordering::SeqCst),
         Fact::Counts(least) => u64::from(watch.slices.load(Ordering::SeqCst) >= least),
         Fact::CountsUpTo(most) => u64::from(watch.slices.load(Ordering::SeqCst) <= most),
@@ -77,8 +59,6 @@ pub(super) fn number(report: &Report, watch: &Watch, fact: Fact) -> u64 {
     }
 }
 
-/// Returns whether there are at least two threads, and the last two in the report got a slot at once when they were
-/// forked.
 fn are_last_two_in_slots(report: &Report) -> bool {
     let mut in_slots = 0u64;
     for line in report.threads.iter() {
@@ -91,7 +71,6 @@ fn are_last_two_in_slots(report: &Report) -> bool {
     in_slots >= 2
 }
 
-/// Returns the number of threads in the report that ran in the way `ran`.
 fn count_of(report: &Report, ran: Ran) -> u64 {
     let mut count = 0u64;
     for line in report.threads.iter() {
@@ -100,20 +79,15 @@ fn count_of(report: &Report, ran: Ran) -> u64 {
     count
 }
 
-/// The part of a report that a test writes as text, to compare it with the expected text.
+/// The part of a report that a test compares as text.
 #[derive(Clone, Copy)]
 pub(super) enum Telling {
     Nothing,
-    /// The program's value, the ledgers' sums, and for each thread its name and how often it held locks.
-    Threads,
-    /// The events (requests, grants and releases) of each lock.
     Events,
-    /// For each thread, how it ran: in a slot from its fork on, in a slot after it had waited, or inside its parent's
-    /// slot.
+    /// For each thread: in a slot at once, in a slot after it had waited, or inside its parent's slot.
     Ran,
 }
 
-/// Returns the part of a report that `telling` selects as a text, or the fault if there is no report.
 pub(super) fn told(
     alloc: Global,
     answer: &Result<Report, RunFault>,
@@ -122,13 +96,11 @@ pub(super) fn told(
     match (answer, telling) {
         (Err(fault), _) => Ok(format!(in alloc; "{fault:?}")?),
         (Ok(_), Telling::Nothing) => Ok(String::new(alloc)),
-        (Ok(report), Telling::Threads) => threads_of(alloc, report),
         (Ok(report), Telling::Events) => events_of(alloc, report),
         (Ok(report), Telling::Ran) => ran_of(alloc, report),
     }
 }
 
-/// Returns one word for each thread, beginning with the root, that says how the thread ran (`Ran`).
 fn ran_of(alloc: Global, report: &Report) -> Result<String, Fail> {
     let mut text = String::new(alloc);
     for line in report.threads.iter() {

@@ -1,10 +1,10 @@
-//! Runs programs on machines of many sizes, and checks their logs against the rules of a run.
+//! Runs programs on many machines, and checks each run's log of events against the rules that every run must keep.
 ghost use Rattle.arachne_lang.specs.Checked.{IsChecked};
 ghost use Rattle.arachne_lang.specs.Program.{source_of};
 
 use super::Form;
 use super::facts::Fact;
-use super::facts::Fact::{Applied, GrantsAreHolds, InPlace, IsOver, Total, Value};
+use super::facts::Fact::{Applied, GrantsAreHolds, InPlace, IsOver, Value};
 use super::rows::{FORMS, Machine, ROW, Row, judge, orders_of, program_of, run_row};
 use crate::choosers::{CORE_ONE, SPREAD, ZEROS};
 use crate::gates::{Watch, Watching};
@@ -22,32 +22,41 @@ use std::test::Fail;
 use std::thread::Threads;
 use std::time::Clock;
 
-/// The number of entries for which each log has room.
 const ROOM: usize = 120_000;
 
-/// A test case whose program is run with several numbers of slots, and the logs of whose runs are checked.
 #[derive(Clone, Copy)]
 struct Judged {
     row: Row,
     slots: &'static [u8],
-    /// The number of runs on each machine, each with another number of slots or another type of table.
     turns: usize,
-    /// The only exclusive one of the root's forks, counted from 0; `None` if none is.
     exclusive: Option<u64>,
-    /// The smallest sum of the steps of all slices that a run must have.
     steps: u64,
-    /// The rules that must be checked at least once over all runs of the test case, besides the rules `ALWAYS`.
+    /// The rules that must be checked at least once over all runs of the test case, besides `ALWAYS`.
     rules: &'static [Rule],
 }
 
-/// The rules that must be checked at least once over all runs of each test case.
 const ALWAYS: &[Rule] = &[InHand, Numbers, Quantum];
 
-/// Checks the log of a run. Returns the number of times that each rule was checked.
-///
-/// Fails if a rule is broken, if the log had no room for an entry, or if there are too few steps.
-fn counts_of(alloc: Global, judged: &Judged, machine: Machine, log: &Log) -> Result<Counts, Fail> {
+/// Runs a test case's program once, and returns how often each rule was checked in the run's log. Fails if the report
+/// is wrong, a rule is broken, the log had no room for an entry, or there are too few steps.
+fn run_is_lawful<R: Threads + Wait + Clock + Sync>(
+    rt: &R,
+    alloc: Global,
+    judged: &Judged,
+    program: &Program,
+    machine: Machine,
+) -> Result<Counts, Fail>
+    requires { IsChecked (source_of program.now) }
+{
     let (row, (_, cores, quantum)) = (&judged.row, machine);
+    let mut watch = Watch::new(row.watching);
+    watch.log = Some(Log::new(alloc, ROOM)?);
+    watch.exclusive = judged.exclusive;
+    let answer = run_row(rt, alloc, row, program, machine, &watch);
+    judge(alloc, row, machine, &answer, &watch)?;
+    let Some(log) = &watch.log else {
+        return Err("no log".into());
+    };
     let orders = orders_of(alloc, row, cores)?;
     let run = Run {
         cores: u8::try_from(cores).unwrap_or(0),
@@ -68,33 +77,10 @@ fn counts_of(alloc: Global, judged: &Judged, machine: Machine, log: &Log) -> Res
     Ok(verdict.counts)
 }
 
-/// Runs a test case's program once, and checks the report and the log of the run. Returns how often each rule was
-/// checked.
-fn run_is_lawful<R: Threads + Wait + Clock + Sync>(
-    rt: &R,
-    alloc: Global,
-    judged: &Judged,
-    program: &Program,
-    machine: Machine,
-) -> Result<Counts, Fail>
-    requires { IsChecked (source_of program.now) }
-{
-    let mut watch = Watch::new(judged.row.watching);
-    watch.log = Some(Log::new(alloc, ROOM)?);
-    watch.exclusive = judged.exclusive;
-    let answer = run_row(rt, alloc, &judged.row, program, machine, &watch);
-    judge(alloc, &judged.row, machine, &answer, &watch)?;
-    match &watch.log {
-        Some(log) => counts_of(alloc, judged, machine, log),
-        None => Err("no log".into()),
-    }
-}
-
-/// Returns the number of places and the form of table for a machine in this turn, by the numbers of its quantum and of
-/// its number of cores in the row's lists.
+/// Returns the number of thread slots of each core, and the kind of context table, with which a run is repeated for the
+/// time `turn`.
 ///
-/// If there are as many turns as combinations of a number of slots and a form, each machine has every combination. In
-/// one turn, machines that follow each other get different numbers of places and different forms of table.
+/// With enough repetitions, each machine has every combination.
 fn kind_of(judged: &Judged, line: usize, nth: usize, turn: usize) -> (u8, Form) {
     let count = judged.slots.len().max(1);
     let at = line.wrapping_mul(2).wrapping_add(nth).wrapping_add(turn) % count;
@@ -103,49 +89,38 @@ fn kind_of(judged: &Judged, line: usize, nth: usize, turn: usize) -> (u8, Form) 
     (slots, FORMS[at])
 }
 
-/// Runs a test case `turns` times on each of its machines. Each of its rules must be checked at least once.
-fn is_lawful<R: Threads + Wait + Clock + Sync>(
-    rt: &R,
-    alloc: Global,
-    judged: &Judged,
-) -> Result<(), Fail> {
-    let program = program_of(alloc, &judged.row)?;
-    let mut counts = Counts::new();
-    for turn in 0..judged.turns {
-        for (line, &quantum) in judged.row.machines.1.iter().enumerate() {
-            for (nth, &cores) in judged.row.machines.0.iter().enumerate() {
-                let (slots, form) = kind_of(judged, line, nth, turn);
-                let row = Row {
-                    slots,
-                    ..judged.row
-                };
-                let judged = Judged { row, ..*judged };
-                let machine = (form, cores, quantum);
-                counts.add_all(&run_is_lawful(rt, alloc, &judged, &program, machine)?);
-            }
-        }
-    }
-    let shows = judged.row.shows;
-    for &rule in ALWAYS.iter().chain(judged.rules) {
-        if counts.of(rule) == 0 {
-            return Err(Fail::new(format_args!("{shows}: {rule:?} never comes up")));
-        }
-    }
-    Ok(())
-}
-
 fn are_lawful<R: Threads + Wait + Clock + Sync>(
     rt: &R,
     alloc: Global,
     rows: &[Judged],
 ) -> Result<(), Fail> {
     for judged in rows {
-        is_lawful(rt, alloc, judged)?;
+        let program = program_of(alloc, &judged.row)?;
+        let mut counts = Counts::new();
+        for turn in 0..judged.turns {
+            for (line, &quantum) in judged.row.machines.1.iter().enumerate() {
+                for (nth, &cores) in judged.row.machines.0.iter().enumerate() {
+                    let (slots, form) = kind_of(judged, line, nth, turn);
+                    let row = Row {
+                        slots,
+                        ..judged.row
+                    };
+                    let judged = Judged { row, ..*judged };
+                    let machine = (form, cores, quantum);
+                    counts.add_all(&run_is_lawful(rt, alloc, &judged, &program, machine)?);
+                }
+            }
+        }
+        let shows = judged.row.shows;
+        for &rule in ALWAYS.iter().chain(judged.rules) {
+            if counts.of(rule) == 0 {
+                return Err(Fail::new(format_args!("{shows}: {rule:?} never comes up")));
+            }
+        }
     }
     Ok(())
 }
 
-/// A program of 40 threads that count.
 const COUNTING: Row = Row {
     shows: "threads that count keep the rules",
     expr: "(sweep add 1 (num 0) (num 40) (fold (num 0) (num 30) (num 0) (var 1)))",
@@ -175,8 +150,7 @@ const COUNT: &[Judged] = &[
         rules: &[OwnCore, Waits, Due, CoreZero],
         ..COUNTS
     },
-    // Core 1 is closed at first, and its kernel thread parks. Once core 1 is granted it gets a thread, and is closed
-    // again.
+    // Core 1 is closed at first, and its kernel thread parks. Once opened, the core gets a thread, and is closed again.
     Judged {
         row: Row {
             shows: "a core that is closed parks, and one that is granted goes on",
@@ -200,18 +174,12 @@ fn threads_that_count_keep_the_rules(rt: HostRuntime) -> Result<(), Fail> {
     are_lawful(&rt, rt.alloc(), COUNT)
 }
 
-/// 24 threads, each of which holds a lock and adds to a ledger (counter) while it does.
 const HOLDING: Row = Row {
     shows: "threads that hold a lock keep the rules",
     ledgers: 1,
     locks: 1,
     expr: "(sweep add 1 (num 0) (num 24) (hold 0 (tally 0 (num 5) (fold (num 0) (num 9) (num 0) (var 1)))))",
-    facts: &[
-        (Value, 192),
-        (Fact::Threads, 24),
-        (Total, 120),
-        (GrantsAreHolds, 1),
-    ],
+    facts: &[(Value, 192), (Fact::Threads, 24), (GrantsAreHolds, 1)],
     ..COUNTING
 };
 
@@ -233,9 +201,8 @@ const HOLD: &[Judged] = &[
         rules: &[OwnCore, Waits, Due, CoreZero],
         ..HOLDS
     },
-    // Six threads of core 0 hold a lock for longer than a holder may run at once, so that the others come to wait for
-    // the lock. Once one of the six has the lock, it runs before other threads. Meanwhile an order is due in each
-    // slice.
+    // Six threads of core 0 each hold a lock for longer than a holder may run at once, so the others come to wait for
+    // the lock. Each next holder runs before other threads, while an order is due in each slice.
     Judged {
         row: Row {
             shows: "orders are applied before the slice of a thread that goes next",
@@ -258,8 +225,6 @@ fn threads_that_hold_a_lock_keep_the_rules(rt: HostRuntime) -> Result<(), Fail> 
     are_lawful(&rt, rt.alloc(), HOLD)
 }
 
-/// A root thread whose second fork is exclusive: its child has a core to itself. The child counts, forks and counts
-/// again, beside 20 threads that hold a lock.
 const EXCLUSIVE: Row = Row {
     shows: "a thread that has its core alone, and the others, keep the rules",
     locks: 1,
@@ -294,7 +259,6 @@ fn a_thread_alone_keeps_the_rules(rt: HostRuntime) -> Result<(), Fail> {
     are_lawful(&rt, rt.alloc(), HAVE_A_CORE)
 }
 
-/// A program of one thread of 1,004 steps, on a machine of two cores.
 const CHARGED: Judged = Judged {
     row: Row {
         shows: "each step is charged to a slice",
@@ -309,7 +273,7 @@ const CHARGED: Judged = Judged {
     ..COUNTS
 };
 
-/// A thread that counts to 5,000 in its parent's place, after it was taken back from the queue of children that wait.
+/// The slices must include the 5,000 steps of a child that runs inside the root's slot.
 const IN_PLACE: Row = Row {
     shows: "the steps of a thread in place are charged to the slices",
     expr: "(fork n (fold (num 0) (num 5000) (num 0) (var 1)) (num 2) (add (var 0) (var 1)))",
@@ -332,14 +296,14 @@ const CHARGE: &[Judged] = &[
             shows: "the steps up to a tally are charged to the slice",
             ledgers: 1,
             expr: "(fold (num 0) (num 100) (num 0) (tally 0 (num 1) (var 1)))",
-            facts: &[(Value, 0), (Total, 100)],
+            facts: &[(Value, 0)],
             ..IN_PLACE
         },
         steps: 300,
         ..CHARGED
     },
     PLACED,
-    // After 299 other children the queue has no room for the child, which begins in its parent's place at once.
+    // After 299 other children, the queue has no room for the child, which begins in its parent's slot at once.
     Judged {
         row: Row {
             expr: "(let (sweep add 1 (num 0) (num 300) (var 0)) (fork n (fold (num 0) (num 5000) (num 0) (var 2)) (num 2) (add (var 1) (var 2))))",
@@ -359,7 +323,7 @@ const CHARGE: &[Judged] = &[
         steps: 777,
         ..CHARGED
     },
-    // No place is kept on the core, since the program has an exclusive fork, which is never made.
+    // The program has an exclusive fork, which is never made. So no slot is kept for later children.
     Judged {
         row: Row {
             shows: "no child waits while a place is free",

@@ -8,8 +8,6 @@ use arachne_sleep::LockEvent;
 use std::alloc::Global;
 use std::test::Fail;
 
-/// Returns how often the program's first lock was granted. If `tag` is given, counts only the grants to the thread with
-/// that tag (number in the run).
 pub(super) fn grants(report: &Report, tag: Option<u64>) -> u64 {
     let mut count = 0u64;
     let Some(history) = report.histories.first() else {
@@ -24,8 +22,7 @@ pub(super) fn grants(report: &Report, tag: Option<u64>) -> u64 {
     count
 }
 
-/// Returns whether the first lock was granted once to each thread whose line in the report says that it held the lock
-/// once, and to no other thread.
+/// Returns true if the first lock was granted once to each thread that held it once, and to no other thread.
 pub(super) fn grants_are_holds(report: &Report) -> bool {
     let mut counted = 0u64;
     for line in report.threads.iter() {
@@ -38,8 +35,6 @@ pub(super) fn grants_are_holds(report: &Report) -> bool {
     counted == grants(report, None)
 }
 
-/// Returns the events of each lock, a line for each with the thread's tag, its context and the context's generation,
-/// and an empty line behind each lock.
 pub(super) fn events_of(alloc: Global, report: &Report) -> Result<String, Fail> {
     let mut text = String::new(alloc);
     for history in report.histories.iter() {
@@ -57,8 +52,7 @@ pub(super) fn events_of(alloc: Global, report: &Report) -> Result<String, Fail> 
     Ok(text)
 }
 
-/// The root holds the lock for 10,000 iterations, and its child on the same core asks for the lock after 100. A thread
-/// that waits for a lock gets it once it is freed.
+/// A thread that asks for the lock while the root holds it must get it next.
 const NEXT: Row = Row {
     shows: "a thread that waits is next",
     locks: 1,
@@ -73,14 +67,13 @@ const NEXT: Row = Row {
 };
 
 const ROWS: &[Row] = &[
-    // Each of eight threads holds the lock once.
     Row {
         shows: "each hold is asked for and granted and freed",
         ledgers: 1,
         locks: 1,
         expr: "(sweep add 1 (num 0) (num 8) (hold 0 (tally 0 (num 5) (num 1))))",
         draws: SPREAD,
-        facts: &[(Events, 24), (Grants, 8), (GrantsAreHolds, 1)],
+        facts: &[(Value, 8), (Events, 24), (Grants, 8), (GrantsAreHolds, 1)],
         ..ROW
     },
     // The innermost of 61 threads runs inside its parent's slot, and holds the lock under its own tag (number).
@@ -90,7 +83,7 @@ const ROWS: &[Row] = &[
         forks: 60,
         expr: "(hold 0 (num 1))",
         machines: (&[1], &[1, 100]),
-        facts: &[(Value, 61), (Grants, 1), (GrantsAreHolds, 1)],
+        facts: &[(Value, 61), (Events, 3), (Grants, 1), (GrantsAreHolds, 1)],
         ..ROW
     },
     NEXT,

@@ -1,16 +1,14 @@
 //! Tests of runs in which orders close and open cores.
-use super::cores::{ALONE, FORK};
-use super::facts::Fact::{Applied, AppliesUpTo, Cores, InPlace, IsOver, Slot, Threads, Value};
+use super::cores::{ALONE, FORK, SWEEP};
+use super::facts::Fact::{Applied, Cores, InPlace, IsOver, Slot, Threads, Value};
 use super::places::MANY;
-use super::programs::SWEEP;
 use super::rows::{QUANTA, ROW, Row, rows_hold};
 use crate::choosers::{CORE_ONE, CORE_THREE, SPREAD};
 use crate::gates::Watching;
 use arachne_policy::OrderKind::{Grant, Release};
 use std::test::Fail;
 
-/// Core 1 is closed at first, and its kernel thread parks. Then core 1 is opened again, and gets a thread. If core 1
-/// did not run that thread, the thread would be moved away when core 1 is closed again.
+/// Core 1 is closed, and then opened by an order, after which it must run a thread.
 pub(super) const GRANTED: Row = Row {
     shows: "a grant has a kernel thread that is parked go on",
     expr: "(let (fold (num 0) (num 5) (num 0) (var 1)) (fork n (num 2) (fold (num 0) (num 60) (num 0) (var 2)) (add (var 1) (var 2))))",
@@ -22,8 +20,7 @@ pub(super) const GRANTED: Row = Row {
     ..ROW
 };
 
-/// The root waits for its child on core 1 while core 0's kernel thread sleeps, so the root continues on core 1 and core
-/// 0 is empty. A slice of core 1 waits until the order that is due at that time is carried out.
+/// The order falls due while core 0 has nothing to run. Core 1 waits until core 0 has carried it out.
 const IDLE: Row = Row {
     shows: "orders are applied while core 0 has nothing to run",
     expr: "(let (fork n (fold (num 0) (num 20000) (num 0) (var 1)) (num 2) (add (var 0) (var 1))) (fold (num 0) (num 20000) (var 0) (var 2)))",
@@ -38,33 +35,11 @@ const IDLE: Row = Row {
 const GRANTS: &[Row] = &[
     GRANTED,
     Row {
-        expr: "(let (fold (num 0) (num 35) (num 0) (var 1)) (fork n (num 2) (fold (num 0) (num 420) (num 0) (var 2)) (add (var 1) (var 2))))",
-        machines: (&[2], &[7]),
-        ..GRANTED
-    },
-    Row {
-        expr: "(let (fold (num 0) (num 500) (num 0) (var 1)) (fork n (num 2) (fold (num 0) (num 6000) (num 0) (var 2)) (add (var 1) (var 2))))",
-        machines: (&[2], &[100]),
-        ..GRANTED
-    },
-    Row {
         expr: "(let (fold (num 0) (num 50000) (num 0) (var 1)) (fork n (num 2) (fold (num 0) (num 400000) (num 0) (var 2)) (add (var 1) (var 2))))",
         machines: (&[2], &[10_000]),
         ..GRANTED
     },
     IDLE,
-    Row {
-        machines: (&[2], &[7]),
-        orders: &[(3_500, Grant, 1)],
-        watching: Watching::Applying(4_000),
-        ..IDLE
-    },
-    Row {
-        machines: (&[2], &[100]),
-        orders: &[(250, Grant, 1)],
-        watching: Watching::Applying(300),
-        ..IDLE
-    },
     Row {
         expr: "(let (fork n (fold (num 0) (num 100000) (num 0) (var 1)) (num 2) (add (var 0) (var 1))) (fold (num 0) (num 100000) (var 0) (var 2)))",
         machines: (&[2], &[10_000]),
@@ -79,17 +54,7 @@ fn grants_have_cores_go_on(rt: HostRuntime) -> Result<(), Fail> {
     rows_hold(&rt, rt.alloc(), GRANTS)
 }
 
-/// Three orders. The report counts only applied orders.
-const COUNTED: Row = Row {
-    shows: "orders are counted",
-    machines: (&[4], &[1]),
-    orders: &[(0, Release, 1), (1, Release, 2), (2, Grant, 1)],
-    facts: &[(Applied, 3)],
-    ..SWEEP
-};
-
-/// Both of the root's children are on core 1. Core 1 waits in its first slice until core 0 has entered more slices than
-/// the root needs. So core 0 must have run the other child, which was moved there when core 1 was closed.
+/// Core 0 must run a child that was moved there when core 1 was closed.
 const DRAINED: Row = Row {
     shows: "a closed core is drained",
     expr: "(fork n (fold (num 0) (num 3000) (num 0) (var 0)) (fork n (fold (num 0) (num 3000) (num 0) (var 0)) (fold (num 0) (num 1000) (num 0) (var 0)) (add (var 0) (var 1))) (add (var 0) (var 1)))",
@@ -109,7 +74,7 @@ const ROWS: &[Row] = &[
         machines: (&[4, 64], &[1]),
         draws: SPREAD,
         in_turn: 1000,
-        facts: &[(Value, 405_450), (Threads, 901), (AppliesUpTo(1000), 1)],
+        facts: &[(Value, 405_450), (Threads, 901)],
         ..ROW
     },
     // An exclusive thread is forked while only core 0, which has the root, and the cores from 41 on are open.
@@ -119,17 +84,12 @@ const ROWS: &[Row] = &[
         machines: (&[64], &[100]),
         released: 40,
         watching: Watching::Cores,
-        facts: &[
-            (Value, 1),
-            (InPlace, 0),
-            (Cores, 1 << 41 | 1),
-            (Applied, 40),
-        ],
+        facts: &[(InPlace, 0), (Cores, 1 << 41 | 1), (Applied, 40)],
         ..ROW
     },
-    // 300 threads. The root forks nine of them while core 0 is full and the other cores are closed, so that its
-    // children wait. Once the other cores are open the root forks an exclusive child, which gets a core at once, and
-    // then another child while the exclusive one lives.
+    // The root forks nine of 300 threads while core 0 is full and the other cores are closed, so that these children
+    // wait. Once the other cores are open, the root forks an exclusive child, which gets a core at once, and another
+    // child beside it.
     Row {
         shows: "an exclusive child among those that wait is joined in turn",
         expr: "(sweep add 1 (num 0) (num 300) (if (eq (var 0) (num 299)) (let (fold (num 0) (num 3000) (num 0) (num 0)) (fork x (num 1) (fork n (num 2) (num 3) (add (var 2) (var 3))) (add (var 2) (var 3)))) (num 0)))",
@@ -144,19 +104,23 @@ const ROWS: &[Row] = &[
         facts: &[(Value, 6), (Threads, 302), (Applied, 4)],
         ..ROW
     },
-    COUNTED,
     // The fourth order is never due.
     Row {
+        shows: "orders are counted",
+        expr: SWEEP,
+        machines: (&[4], &[1]),
+        draws: SPREAD,
         orders: &[
             (0, Release, 1),
             (1, Release, 2),
             (2, Grant, 1),
             (u64::MAX, Grant, 2),
         ],
-        ..COUNTED
+        facts: &[(Value, 28), (Applied, 3)],
+        ..ROW
     },
-    // Both random choices of the fork are core 3, which is closed. If only open cores are counted, both choices are
-    // core 0.
+    // Core 3 is closed. If all cores were open, both cores that the fork draws would be core 3. Among the open cores,
+    // both are core 0.
     Row {
         shows: "a closed core gets no thread",
         expr: FORK,

@@ -1,91 +1,74 @@
-//! Tests of a child that waits for a slot and whose job is refused memory. The child stays in its cell until there is
-//! enough memory for its job.
+//! A child that waits for a slot, and whose job is refused memory, must go on waiting until there is enough memory.
 ghost use Rattle.arachne_lang.specs.Checked.{IsChecked};
 ghost use Rattle.arachne_lang.specs.Program.{source_of};
 
+use super::cores::FORK;
 use super::rows::{ROW, Row, program_of};
 use arachne_core::ThreadId;
-use arachne_jobs::{Job, JobOf, JobSpares, Openings, Room, RunJob, RunSpares, Slice, Ticket};
+use arachne_jobs::{Job, JobOf, JobSpares, Openings, Room, RunJob, RunSpares, Slice};
 use arachne_lang::Program;
 use arachne_shortage::Hoard;
 use std::alloc::Global;
 use std::test::Fail;
 
-/// A root thread that makes one fork.
-const FORK: Row = Row {
-    expr: "(fork n (num 2) (num 3) (sub (var 0) (var 1)))",
-    ..ROW
-};
-
-/// A number of steps, and of slices, that is greater than each of the two threads needs.
 const STEPS: u32 = 100;
 
 const SLICES: usize = 10;
 
-/// The numbers of bytes of free memory with which the test tries to create the child's job. The first is too small, and
-/// the last is enough.
-const LEFT: &[usize] = &[0, 40, 80, 120, 160, 200, 240, 320, 400, 800, 1_600, 100_000];
+/// Numbers of bytes of free memory for the child's job: the first is too small, and the last is enough.
+const LEFT: &[usize] = &[
+    0, 40, 80, 120, 160, 200, 240, 320, 400, 480, 560, 640, 720, 800, 1_600, 100_000,
+];
 
-/// The data of a worker that the test needs to run slices of a thread and its child.
-#[derive(Drop)]
-struct Means<'p> {
-    room: Room,
-    spares: JobSpares<'p>,
-    openings: Openings,
-}
-
-impl<'p> Means<'p> {
-    /// Runs a thread until it ends. Returns false if the thread waits for a child, since nobody else runs that child.
-    fn ends(&mut self, job: &mut Job<'p>) -> bool {
-        for _ in 0..SLICES {
-            let mut left = STEPS;
-            match job.slice(&mut left, &mut self.spares, &self.room, &mut self.openings) {
-                Ok(Slice::Goes) => {}
-                Ok(Slice::Ends) => return true,
-                _ => return false,
-            }
-        }
-        false
-    }
-
-    /// Runs the root until it has forked a child, and then makes the child wait for a slot. Returns the child's ticket
-    /// (its entry for the queue).
-    fn ticket_of(&mut self, alloc: Global, root: &mut Job<'p>) -> Option<Ticket<'p>> {
-        let me = ThreadId {
-            context: 0,
-            generation: 0,
-        };
+fn ends<'p>(
+    job: &mut Job<'p>,
+    spares: &mut JobSpares<'p>,
+    room: &Room,
+    openings: &mut Openings,
+) -> bool {
+    for _ in 0..SLICES {
         let mut left = STEPS;
-        match root.slice(&mut left, &mut self.spares, &self.room, &mut self.openings) {
-            Ok(Slice::Forks(_, child)) => root.put_aside(alloc, me, child, 1, true).ok()?,
-            _ => None,
+        match job.slice(&mut left, spares, room, openings) {
+            Ok(Slice::Goes) => {}
+            Ok(Slice::Ends) => return true,
+            _ => return false,
         }
     }
+    false
 }
 
-/// Runs the root until its child waits for a slot, and then tries to create the child's job with only `bytes` bytes of
-/// free memory. Returns whether memory for the job was refused, if both threads end after that.
+/// Runs the root until its child waits for a slot, and tries to create the child's job with `bytes` bytes of free
+/// memory.
+///
+/// Returns true if memory was refused, or `None` if the two threads don't end after that.
 fn is_refused(alloc: Global, program: &Program, bytes: usize) -> Option<bool>
     requires { IsChecked (source_of program.now) }
 {
-    let mut means = Means {
-        room: Room::new(1, 1, 1),
-        spares: JobSpares::none(alloc),
-        openings: Openings::new(),
+    let (room, mut openings) = (Room::new(1, 1, 1), Openings::new());
+    let mut spares = JobSpares::none(alloc);
+    let (mut root, _receiver) = Job::begin(alloc, program, &mut spares).ok()?;
+    let me = ThreadId {
+        context: 0,
+        generation: 0,
     };
-    let (mut root, _receiver) = Job::begin(alloc, program, &mut means.spares).ok()?;
-    let ticket = means.ticket_of(alloc, &mut root)?;
+    let mut left = STEPS;
+    let ticket = match root.slice(&mut left, &mut spares, &room, &mut openings) {
+        Ok(Slice::Forks(_, child)) => root.put_aside(alloc, me, child, 1, true).ok()??,
+        _ => return None,
+    };
     let mut hoard = Hoard::take(alloc).ok()?;
     hoard.give_back(bytes);
-    let job = Job::of_ticket(alloc, ticket, &mut means.spares);
+    let job = Job::of_ticket(alloc, ticket, &mut spares);
     drop(hoard);
     let is_refused = job.is_none();
     if let Some(mut child) = job {
-        if !means.ends(&mut child) || child.leave(&mut means.spares).is_err() {
+        if !ends(&mut child, &mut spares, &room, &mut openings)
+            || child.leave(&mut spares).is_err()
+        {
             return None;
         }
     }
-    if means.ends(&mut root) {
+    if ends(&mut root, &mut spares, &room, &mut openings) {
         Some(is_refused)
     } else {
         None
@@ -95,7 +78,8 @@ fn is_refused(alloc: Global, program: &Program, bytes: usize) -> Option<bool>
 #[test]
 fn a_child_waits_on_if_its_job_is_refused_memory(rt: HostRuntime) -> Result<(), Fail> {
     let alloc = rt.alloc();
-    let program = program_of(alloc, &FORK)?;
+    let row = Row { expr: FORK, ..ROW };
+    let program = program_of(alloc, &row)?;
     for (nth, &bytes) in LEFT.iter().enumerate() {
         let refused = is_refused(alloc, &program, bytes);
         let (is_first, is_last) = (nth == 0, nth + 1 == LEFT.len());

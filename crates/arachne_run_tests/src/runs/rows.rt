@@ -4,7 +4,7 @@ ghost use Rattle.arachne_lang.specs.Checked.{IsChecked};
 ghost use Rattle.arachne_lang.specs.Program.{source_of};
 
 use super::facts::{Fact, Telling, number, told};
-use super::{Form, run_hastily, run_on_lock, run_on_words};
+use super::{Form, run_on_lock, run_on_words};
 use crate::choosers::{Draws, Progression, ZEROS};
 use crate::gates::{Watch, Watching};
 use arachne_core::SLOTS;
@@ -17,47 +17,34 @@ use std::test::Fail;
 use std::thread::Threads;
 use std::time::Clock;
 
-/// Both forms of table.
 pub(super) const FORMS: &[Form] = &[Form::Locked, Form::Words];
 
-/// Only the table behind a lock.
 pub(super) const LOCKED: &[Form] = &[Form::Locked];
 
-/// The form of table of a run, and the numbers of cores and of steps per slice (the quantum).
 pub(super) type Machine = (Form, u64, u64);
 
-/// A test case: a program, which is run over each of its types of table on each of its machines, and the expected
-/// result.
 #[derive(Clone, Copy)]
 pub(super) struct Row {
-    /// The property that the test case shows, for the message if the test fails.
     pub(super) shows: &'static str,
     pub(super) ledgers: u8,
     pub(super) locks: u8,
-    /// The number of nested forks around `expr`, which is the child of the innermost.
     pub(super) forks: usize,
     pub(super) expr: &'static str,
     pub(super) forms: &'static [Form],
-    /// The numbers of cores and the quanta of the machines, one for each pair of these.
+    /// The numbers of cores, and the quanta (steps per slice).
     pub(super) machines: (&'static [u64], &'static [u64]),
-    /// The number of slots of each core.
     pub(super) slots: u8,
     pub(super) draws: Draws,
-    /// The orders to open or close cores, each with the number of slices after which it is due, and its core.
+    /// Orders to open or close cores: the number of slices after which each is due, its kind and its core.
     pub(super) orders: &'static [(u64, OrderKind, u64)],
-    /// The number of further orders, which release the cores from 1 on, one each, at once.
+    /// The number of further orders, all due at once, which close core 1, core 2 and so on.
     pub(super) released: u64,
-    /// The number of further orders on several cores, each due one slice after the previous one: releases and grants of
-    /// each core but 0 in turn.
     pub(super) in_turn: u64,
     pub(super) watching: Watching,
-    /// The facts that the run's report must show, each with its value.
     pub(super) facts: &'static [(Fact, u64)],
-    /// The kind of text that is made of a report, and that text; or the text of the fault, if there is no report.
     pub(super) told: (Telling, &'static str),
 }
 
-/// A row on machines on which every program must mean the same. Other rows say in what they differ from this one.
 pub(super) const ROW: Row = Row {
     shows: "every machine tells the same",
     ledgers: 0,
@@ -76,28 +63,22 @@ pub(super) const ROW: Row = Row {
     told: (Telling::Nothing, ""),
 };
 
-/// Quanta from the least to the greatest.
 pub(super) const QUANTA: &[u64] = &[1, 7, 100, 10_000];
 
-/// Returns the text of a row's program.
-fn text_of(alloc: Global, row: &Row) -> Result<String, Fail> {
-    let (ledgers, locks, expr) = (row.ledgers, row.locks, row.expr);
-    let fronts = "(fork n ".repeat(alloc, row.forks)?;
-    let ends = " (num 1) (add (var 0) (var 1)))".repeat(alloc, row.forks)?;
-    Ok(format!(in alloc; "arachne 1\nledgers {ledgers}\nlocks {locks}\n{fronts}{expr}{ends}\n")?)
-}
-
-/// Parses and checks the text of a row's program.
 pub(super) fn program_of(alloc: Global, row: &Row) -> Result<Program, Fail>
     ensures { IfOk result (λ program. IsChecked (source_of program)) }
 {
-    let text = text_of(alloc, row)?;
+    let (ledgers, locks, expr) = (row.ledgers, row.locks, row.expr);
+    let fronts = "(fork n ".repeat(alloc, row.forks)?;
+    let ends = " (num 1) (add (var 0) (var 1)))".repeat(alloc, row.forks)?;
+    let text = format!(in alloc;
+        "arachne 1\nledgers {ledgers}\nlocks {locks}\n{fronts}{expr}{ends}\n"
+    )?;
     let program = parse(alloc, text.as_bytes())?;
     check(&program)?;
     Ok(program)
 }
 
-/// Returns a row's orders on this number of cores.
 pub(super) fn orders_of(
     alloc: Global,
     row: &Row,
@@ -126,7 +107,6 @@ pub(super) fn orders_of(
     Ok(orders)
 }
 
-/// Returns the setup of a row's run on a machine, and its choosers, one for each core.
 fn setup_of(
     alloc: Global,
     row: &Row,
@@ -146,7 +126,6 @@ fn setup_of(
     Ok((setup, choosers))
 }
 
-/// Runs a test case's program once. All tests in this folder run their programs by this function.
 pub(super) fn run_row<R: Threads + Wait + Clock + Sync>(
     rt: &R,
     alloc: Global,
@@ -161,12 +140,11 @@ pub(super) fn run_row<R: Threads + Wait + Clock + Sync>(
     match machine.0 {
         Form::Locked => run_on_lock(rt, alloc, program, setup, choosers, watch),
         Form::Words => run_on_words(rt, alloc, program, setup, choosers, watch),
-        Form::Hasty => run_hastily(rt, alloc, program, setup, choosers, watch),
     }
 }
 
-/// Returns the index of the first fact of a test case that is wrong, and the value that the run has instead.
-pub(super) fn wrong_fact(row: &Row, report: &Report, watch: &Watch) -> Option<(usize, u64)> {
+/// Returns the index of the first wrong fact of a test case, and the value that the run has instead.
+fn wrong_fact(row: &Row, report: &Report, watch: &Watch) -> Option<(usize, u64)> {
     for (nth, &(fact, expected)) in row.facts.iter().enumerate() {
         let found = number(report, watch, fact);
         if found != expected {
@@ -176,9 +154,7 @@ pub(super) fn wrong_fact(row: &Row, report: &Report, watch: &Watch) -> Option<(u
     None
 }
 
-/// Checks that the text of a run is the test case's text, and that the run has all facts of the test case.
-///
-/// If there is no report, checks that all events for which a core waited have occurred, and that no more slices begin.
+/// After a fault, each event for which a core waited must have occurred, and no more slices may begin.
 pub(super) fn judge(
     alloc: Global,
     row: &Row,
@@ -200,33 +176,22 @@ pub(super) fn judge(
     Err(Fail::new(format_args!("{shows}: {machine:?}: {wrong:?} {told}")))
 }
 
-/// Runs a row over each of its forms on each of its machines.
-fn row_holds<R: Threads + Wait + Clock + Sync>(
-    rt: &R,
-    alloc: Global,
-    row: &Row,
-) -> Result<(), Fail> {
-    let program = program_of(alloc, row)?;
-    for &form in row.forms {
-        for &cores in row.machines.0 {
-            for &quantum in row.machines.1 {
-                let (machine, watch) = ((form, cores, quantum), Watch::new(row.watching));
-                let answer = run_row(rt, alloc, row, &program, machine, &watch);
-                judge(alloc, row, machine, &answer, &watch)?;
-            }
-        }
-    }
-    Ok(())
-}
-
-/// Runs each row over each of its forms on each of its machines.
 pub(super) fn rows_hold<R: Threads + Wait + Clock + Sync>(
     rt: &R,
     alloc: Global,
     rows: &[Row],
 ) -> Result<(), Fail> {
     for row in rows {
-        row_holds(rt, alloc, row)?;
+        let program = program_of(alloc, row)?;
+        for &form in row.forms {
+            for &cores in row.machines.0 {
+                for &quantum in row.machines.1 {
+                    let (machine, watch) = ((form, cores, quantum), Watch::new(row.watching));
+                    let answer = run_row(rt, alloc, row, &program, machine, &watch);
+                    judge(alloc, row, machine, &answer, &watch)?;
+                }
+            }
+        }
     }
     Ok(())
 }

@@ -1,13 +1,11 @@
 //! Tests of runs in a process whose memory is used up. Each run has a little more memory than the one before, and ends
-//! with the fault that memory was refused, until one run has a report.
+//! with the fault that memory was refused, until a run has a report.
 ghost use Rattle.arachne_lang.specs.Checked.{IsChecked};
 ghost use Rattle.arachne_lang.specs.Program.{source_of};
 
 use super::Form;
-use super::facts::Fact;
-use super::facts::Fact::Value;
 use super::places::CHAIN;
-use super::rows::{Machine, ROW, Row, program_of, run_row, wrong_fact};
+use super::rows::{Machine, ROW, Row, program_of, run_row};
 use crate::choosers::SPREAD;
 use crate::gates::Watch;
 use arachne_lang::Program;
@@ -20,43 +18,33 @@ use std::test::Fail;
 use std::thread::Threads;
 use std::time::Clock;
 
-/// The greatest number of runs of a test case on one core. The last of them has a report.
 const RUNS: u64 = 2_000;
 
-/// The greatest number of runs of a test case on several cores.
-///
-/// No run needs to have a report: after all memory was used up, the C library gives no memory to a new kernel thread,
-/// even if memory was freed again.
+/// The most runs of a test case on several cores. Once memory was used up, the C library gives no memory to a new
+/// kernel thread, even after memory was freed, so that no run needs to have a report.
 const RUNS_ON_CORES: u64 = 200;
 
-/// The number of bytes by which each run has more memory than the run before.
 const BYTES: usize = 400;
 
-/// The number of times that the test repeats a run on one core with just enough memory for a report, and `SLACK` bytes
-/// more. If each run left memory behind, the last ones would have none.
+/// If each run of this number left memory behind, the last ones would have none.
 const REPEATED: usize = 2_000;
 
 const SLACK: usize = 200_000;
 
-/// One fork on four cores.
 const FORK: Row = Row {
     expr: "(fork n (num 2) (num 3) (sub (var 0) (var 1)))",
     machines: (&[4], &[100]),
     draws: SPREAD,
-    facts: &[(Value, u64::MAX), (Fact::Threads, 2)],
     ..ROW
 };
 
-/// Eight threads, each of which holds a lock and adds to a ledger (counter).
 const HOLDS: Row = Row {
     ledgers: 1,
     locks: 1,
     expr: "(sweep add 1 (num 0) (num 8) (hold 0 (tally 0 (num 5) (num 1))))",
-    facts: &[(Value, 8), (Fact::Threads, 8)],
     ..FORK
 };
 
-/// Rows on four cores.
 const ON_FOUR: &[Row] = &[
     FORK,
     HOLDS,
@@ -64,18 +52,15 @@ const ON_FOUR: &[Row] = &[
         expr: "(sweep add 2 (num 0) (num 8) (var 0))",
         machines: (&[4], &[1]),
         orders: &[(0, Release, 1), (1, Release, 2), (2, Grant, 1)],
-        facts: &[(Value, 28), (Fact::Threads, 4)],
         ..FORK
     },
     Row {
         forks: 60,
         expr: "(num 1)",
-        facts: &[(Value, 61), (Fact::Threads, 61)],
         ..FORK
     },
 ];
 
-/// Rows on one core.
 const ON_ONE: &[Row] = &[
     Row {
         machines: (&[1], &[100]),
@@ -91,32 +76,24 @@ const ON_ONE: &[Row] = &[
         expr: "(sweep add 1 (num 0) (num 50) (hold 0 (num 1)))",
         machines: (&[1], &[1]),
         draws: SPREAD,
-        facts: &[(Value, 50), (Fact::Threads, 50)],
         ..ROW
     },
-    // More threads than places. Some of the threads wait for a place.
+    // Some of the threads wait for a slot.
     Row {
         expr: "(sweep add 1 (num 0) (num 200) (var 0))",
         machines: (&[1], &[100]),
         draws: SPREAD,
-        facts: &[(Value, 19_900), (Fact::Threads, 200)],
         ..ROW
     },
     Row {
         machines: (&[1], &[100]),
         draws: SPREAD,
-        facts: &[(Value, 61), (Fact::Threads, 61)],
         ..CHAIN
     },
 ];
 
-/// The result of a run: its fault, or whether its report shows the test case's facts.
-type Tried = Result<bool, RunFault>;
+type Tried = Result<(), RunFault>;
 
-/// The result of a run that has a report with the test case's facts.
-const WELL: Tried = Ok(true);
-
-/// Runs a row's program once, and makes no text.
 fn tried<R: Threads + Wait + Clock + Sync>(
     rt: &R,
     alloc: Global,
@@ -127,12 +104,10 @@ fn tried<R: Threads + Wait + Clock + Sync>(
     requires { IsChecked (source_of program.now) }
 {
     let watch = Watch::new(row.watching);
-    let report = run_row(rt, alloc, row, program, machine, &watch)?;
-    Ok(wrong_fact(row, &report, &watch).is_none())
+    run_row(rt, alloc, row, program, machine, &watch)?;
+    Ok(())
 }
 
-/// Returns whether a run has ended because memory was refused. On several cores, it may have been refused to a new
-/// kernel thread.
 fn is_want(tried: Tried, cores: u64) -> bool {
     match tried {
         Err(RunFault::Worker(WorkerFault::Memory)) => true,
@@ -141,58 +116,10 @@ fn is_want(tried: Tried, cores: u64) -> bool {
     }
 }
 
-/// Runs a test case's program first with no memory, and then with `BYTES` bytes more each time.
+/// Runs a test case's program with no free memory, and then again and again, each time with `BYTES` bytes more.
 ///
-/// Stops when the result is `last`, or anything but a lack of memory. Returns the number of runs before the last run,
-/// and the result of the last run.
-fn refused<R: Threads + Wait + Clock + Sync>(
-    rt: &R,
-    alloc: Global,
-    row: &Row,
-    program: &Program,
-    machine: Machine,
-    hoard: &mut Hoard,
-    last: Tried,
-) -> (u64, Tried)
-    requires { IsChecked (source_of program.now) }
-{
-    let (_, cores, _) = machine;
-    let most = if cores > 1 { RUNS_ON_CORES } else { RUNS };
-    let mut came = Err(RunFault::Worker(WorkerFault::Memory));
-    for runs in 0..most {
-        came = tried(rt, alloc, row, program, machine);
-        if came == last || !is_want(came, cores) {
-            return (runs, came);
-        }
-        hoard.give_back(BYTES);
-    }
-    (most, came)
-}
-
-/// Runs a test case's program `times` times.
-fn goes_well<R: Threads + Wait + Clock + Sync>(
-    rt: &R,
-    alloc: Global,
-    row: &Row,
-    program: &Program,
-    machine: Machine,
-    times: usize,
-) -> bool
-    requires { IsChecked (source_of program.now) }
-{
-    for _ in 0..times {
-        if tried(rt, alloc, row, program, machine) != WELL {
-            return false;
-        }
-    }
-    true
-}
-
-/// Runs a test case's program with all memory, then with memory used up until the result is `last`, and then with all
-/// memory again.
-///
-/// If `last` is a fault, the first part is left out, so that the first run of the process has no memory. On one core
-/// the program must have its report again and again once there is memory for it.
+/// Stops at the result `last`, or at any other than the fault that memory was refused. A run with all memory must still
+/// have a report.
 fn row_ends<R: Threads + Wait + Clock + Sync>(
     rt: &R,
     alloc: Global,
@@ -202,21 +129,33 @@ fn row_ends<R: Threads + Wait + Clock + Sync>(
 ) -> Result<(), Fail> {
     let program = program_of(alloc, row)?;
     let (_, cores, _) = machine;
-    let before = last != WELL || goes_well(rt, alloc, row, &program, machine, 1);
+    let before = last.is_err() || tried(rt, alloc, row, &program, machine).is_ok();
     let mut hoard = Hoard::take(alloc)?;
-    let (runs, came) = refused(rt, alloc, row, &program, machine, &mut hoard, last);
+    let most = if cores > 1 { RUNS_ON_CORES } else { RUNS };
+    let (mut runs, mut came) = (0, Ok(()));
+    for nth in 0..most {
+        runs = nth;
+        came = tried(rt, alloc, row, &program, machine);
+        if came == last || !is_want(came, cores) {
+            break;
+        }
+        hoard.give_back(BYTES);
+    }
     hoard.give_back(SLACK);
-    let again = cores > 1 || goes_well(rt, alloc, row, &program, machine, REPEATED);
+    let mut again = true;
+    let repeated = if cores > 1 { 0 } else { REPEATED };
+    for _ in 0..repeated {
+        again = again && tried(rt, alloc, row, &program, machine).is_ok();
+    }
     drop(hoard);
-    let behind = goes_well(rt, alloc, row, &program, machine, 1);
-    let is_over = came == last || last == WELL && cores > 1 && is_want(came, cores);
+    let behind = tried(rt, alloc, row, &program, machine).is_ok();
+    let is_over = came == last || last.is_ok() && cores > 1 && is_want(came, cores);
     if before && is_over && runs > 10 && again && behind {
         return Ok(());
     }
     Err(Fail::new(format_args!("{machine:?}: {before} {runs} {came:?} {again} {behind}")))
 }
 
-/// Runs each row's program over a form of table on each of its machines, with and without memory.
 fn rows_end<R: Threads + Wait + Clock + Sync>(
     rt: &R,
     alloc: Global,
@@ -226,7 +165,7 @@ fn rows_end<R: Threads + Wait + Clock + Sync>(
     for row in rows {
         for &cores in row.machines.0 {
             for &quantum in row.machines.1 {
-                row_ends(rt, alloc, row, (form, cores, quantum), WELL)?;
+                row_ends(rt, alloc, row, (form, cores, quantum), Ok(()))?;
             }
         }
     }
@@ -248,7 +187,6 @@ fn each_growth_is_refused_behind_a_lock(rt: HostRuntime) -> Result<(), Fail> {
     rows_end(&rt, rt.alloc(), ON_ONE, Form::Locked)
 }
 
-/// In the first run of the process, memory for the stack of a kernel thread is refused; in the next run it is not.
 #[test]
 fn kernel_threads_are_refused(rt: HostRuntime) -> Result<(), Fail> {
     let last = Err(RunFault::Worker(WorkerFault::KernelThread));

@@ -1,4 +1,4 @@
-//! Slices: when a slice counts, that it has its whole quantum, and that none begins once the run is stopped.
+//! Tests of slices: when a slice counts, that it has all of its steps, and that none begins once the run is stopped.
 use super::cores::FORK;
 use super::facts::Fact::{Applied, Counts, CountsUpTo, IsOver, Value};
 use super::facts::Telling;
@@ -9,7 +9,7 @@ use crate::gates::Watching;
 use arachne_policy::OrderKind::{Grant, Release};
 use std::test::Fail;
 
-/// Core 1's first slice doesn't end before core 0 has entered its slice 400. So when it ends, 400 slices have ended.
+/// The order to close core 1 is due after 401 slices, and must not be carried out before then.
 const HELD_BACK: Row = Row {
     shows: "a slice counts once it has ended",
     expr: BESIDE,
@@ -25,18 +25,12 @@ const ENDS: &[Row] = &[
     HELD_BACK,
     Row {
         expr: BESIDE_LONG,
-        machines: (&[2], &[100]),
-        ..HELD_BACK
-    },
-    Row {
-        expr: BESIDE_LONG,
         machines: (&[2], &[10_000]),
         orders: &[(4, Release, 1)],
         watching: Watching::Holding(3),
         ..HELD_BACK
     },
-    // The root's first step forks a child to core 1. If the run's observer (`Gate`) were called only after the fork's
-    // step, core 1 could begin its slice before the observer knew of core 0's.
+    // The root's first step forks a child to core 1, which must not begin before the observer knows of core 0's slice.
     Row {
         shows: "the gate is told of a slice before its steps",
         expr: FORK,
@@ -46,8 +40,7 @@ const ENDS: &[Row] = &[
         facts: &[(Value, 5), (IsOver, 1)],
         ..ROW
     },
-    // All threads are on core 0. The root makes 504 steps and each of its 100 children makes one, each in a slice of
-    // its own.
+    // All threads are on core 0. The root makes 504 steps, its 100 children one each, each in a slice of its own.
     Row {
         shows: "a slice that ends its thread counts",
         expr: "(fold (num 0) (num 100) (num 0) (fork n (num 1) (num 0) (add (var 1) (var 2))))",
@@ -64,7 +57,6 @@ fn a_slice_counts_once_it_has_ended(rt: HostRuntime) -> Result<(), Fail> {
     rows_hold(&rt, rt.alloc(), ENDS)
 }
 
-/// A program of one thread of about 29,000 steps.
 const WHOLE: Row = Row {
     shows: "a slice of a thread that goes on has its whole quantum",
     expr: "(fold (num 0) (num 29000) (num 0) (var 1))",
@@ -74,10 +66,7 @@ const WHOLE: Row = Row {
     ..ROW
 };
 
-/// Core 3 is closed, so that its kernel thread parks. Two threads are on core 1, and another thread has core 2 for
-/// itself.
-///
-/// When the thread on core 2 ends, the table returns it as an error, which stops the run during core 1's first slice.
+/// A thread that the table refuses to end stops the run while core 1 is in its first slice. Core 1 must begin no other.
 const STOPPED: Row = Row {
     shows: "no slice begins once the run is stopped",
     expr: "(fork n (fold (num 0) (num 50000) (num 0) (var 1)) (fork n (fold (num 0) (num 50000) (num 0) (var 1)) (fork x (num 1) (num 2) (num 3)) (num 4)) (num 5))",
@@ -92,19 +81,13 @@ const STOPPED: Row = Row {
 
 const ROWS: &[Row] = &[
     WHOLE,
-    Row {
-        machines: (&[1], &[100]),
-        facts: &[(Value, 0), (Counts(290), 1), (CountsUpTo(292), 1)],
-        ..WHOLE
-    },
     STOPPED,
     // The only thread of core 1 would get its next slice at once.
     Row {
         expr: "(fork n (fold (num 0) (num 50000) (num 0) (var 1)) (fork x (num 1) (num 2) (num 3)) (num 4))",
         ..STOPPED
     },
-    // The first thread on core 1 holds the lock for which the second waits. It frees the lock in core 1's fifth slice,
-    // and then continues to count.
+    // The first thread on core 1 holds the lock for which the second waits, and frees it in core 1's fifth slice.
     Row {
         locks: 1,
         expr: "(fork n (let (hold 0 (fold (num 0) (num 25000) (num 0) (var 1))) (fold (num 0) (num 50000) (num 0) (var 2))) (fork n (hold 0 (num 1)) (fork x (num 1) (num 2) (num 3)) (num 4)) (num 5))",

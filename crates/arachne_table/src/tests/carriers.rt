@@ -1,4 +1,4 @@
-//! Tests with four seats (rights to use a table), none of which may use a claim that another has made.
+//! Tests with four seats (rights to use a table). None of them may use a claim that another seat has made.
 ghost use Rattle.std.specs.Prelude.{◌<◌, IfSome, [], ◌∷◌};
 ghost use Rattle.arachne_contexts.specs.Out.{Claim as a_claim};
 ghost use Rattle.arachne_locked.specs.Seats.{HasCounted};
@@ -23,8 +23,7 @@ fn claimed<C: Contexts<TagOnly>, R: Wait>(rt: &R, table: &C, seat: &mut C::Seat)
     }
 }
 
-/// Tries to give back `claim`, which another seat has made, by a seat that has a claim of its own. Returns `claim` if
-/// the table refuses that.
+/// Tries to give back another seat's `claim` through `seat`, which has its own. Returns `claim` if the table refuses.
 fn refused<R: Wait>(
     rt: &R,
     table: &Locked,
@@ -37,7 +36,7 @@ fn refused<R: Wait>(
 }
 
 /// Splits a seat in two, then splits the second of these seats, and then the first once more. Returns two of these four
-/// seats: each of the six pairs for a number below 6.
+/// seats: a different pair for each `pair` from 0 to 5.
 fn parted<R: Wait>(rt: &R, table: &Locked, seat: LockedSeat, pair: u8) -> (LockedSeat, LockedSeat)
     requires { HasCounted seat 0 }
     ensures one { HasCounted result.0 0 }
@@ -56,8 +55,8 @@ fn parted<R: Wait>(rt: &R, table: &Locked, seat: LockedSeat, pair: u8) -> (Locke
     }
 }
 
-/// Claims a slot by each of two seats, and tries to give back the claim of one by the other. Returns whether the table
-/// refuses that.
+/// Claims a slot through each of two seats, and tries to give back one seat's claim through the other. Returns true if
+/// the table refuses it.
 fn is_refused<R: Wait>(rt: &R, alloc: Global, pair: u8) -> Result<bool, Fail> {
     let (table, seat) = Locked::new(alloc, 1, 2, 0)?;
     let (mut one, mut other) = parted(rt, &table, seat, pair);

@@ -2,7 +2,7 @@
 ghost use Rattle.std.specs.Prelude.{◌≡◌, ◌<◌, ◌≤◌, IfSome};
 ghost use Rattle.arachne_words.specs.Seats.{HasNothingOut};
 
-use super::TagOnly;
+use super::{Bench, TagOnly};
 use crate::{Claimed, Contexts, Moved, Taken, WordContexts, WordSeat};
 use arachne_core::{CORES, Place, SLOTS, ThreadId};
 use std::alloc::Global;
@@ -31,121 +31,104 @@ type Words = WordContexts<TagOnly>;
 
 type WordWork = Work<WordSeat<TagOnly>>;
 
-/// Claims a slot on a core, and puts a thread there if the claim succeeds. Returns `None` if memory or the claim is
-/// refused.
-fn post<C: Contexts<TagOnly>, R: Wait>(
-    rt: &R,
-    table: &C,
-    work: &mut Work<C::Seat>,
-    core: u8,
-    tag: u64,
-) -> Option<()>
-    requires seat { C.sits table.now work.old.seat × C.idle table.now work.old.seat }
-    requires core { core < C.core_count table.now }
-    ensures { IfSome result (λ _. C.sits table.now work.new.seat × C.idle table.now work.new.seat) }
-{
-    match table.claim(rt, &mut work.seat, core).ok()? {
-        Claimed::Place(claim) => {
-            table.post(rt, &mut work.seat, claim, TagOnly(tag)).ok()?;
-            work.posted = work.posted.wrapping_add(1);
-            work.log.push(tag.wrapping_mul(2)).ok()
-        }
-        Claimed::Full(_) | Claimed::Closed(_) | Claimed::Lost(_) => Some(()),
-    }
-}
-
 /// Returns the number that the log has for the end of this thread: twice its tag plus 1.
 fn ended(job: &TagOnly) -> u64 {
     job.0.wrapping_mul(2).wrapping_add(1)
 }
 
-/// Takes the thread in a slot, if it is ready, and ends it. Returns `None` if memory is refused.
-fn end<C: Contexts<TagOnly>, R: Wait>(
-    rt: &R,
-    table: &C,
-    work: &mut Work<C::Seat>,
-    core: u8,
-    index: u8,
-) -> Option<()>
-    requires seat { C.sits table.now work.old.seat × C.idle table.now work.old.seat }
-    requires core { core < C.core_count table.now }
-    requires index { index < C.slot_count table.now }
-    ensures { IfSome result (λ _. C.sits table.now work.new.seat × C.idle table.now work.new.seat) }
-{
-    match table.take(rt, &mut work.seat, core, index) {
-        Taken::Run(held) => {
-            let job = table.finish(rt, &mut work.seat, held).ok()?;
-            work.log.push(ended(&job)).ok()
+impl<'a, C: Contexts<TagOnly>, R: Wait> Bench<'a, C, R> {
+    /// Claims a slot on a core, and puts a thread there if the claim succeeds. Returns `None` if memory or the
+    /// claim is refused.
+    fn begin_one(&self, work: &mut Work<C::Seat>, core: u8, tag: u64) -> Option<()>
+        requires seat { C.sits self.now.table.now work.old.seat × C.idle self.now.table.now work.old.seat }
+        requires core { core < self.now.cores }
+        ensures { IfSome result (λ _. C.sits self.now.table.now work.new.seat × C.idle self.now.table.now work.new.seat) }
+    {
+        match self.table.claim(self.rt, &mut work.seat, core).ok()? {
+            Claimed::Place(claim) => {
+                self.table
+                    .post(self.rt, &mut work.seat, claim, TagOnly(tag))
+                    .ok()?;
+                work.posted = work.posted.wrapping_add(1);
+                work.log.push(tag.wrapping_mul(2)).ok()
+            }
+            Claimed::Full(_) | Claimed::Closed(_) | Claimed::Lost(_) => Some(()),
         }
-        Taken::NotReady(_) | Taken::Lost(_) => Some(()),
+    }
+
+    /// Takes the thread in a slot, if it is ready, and ends it. Returns `None` if memory is refused.
+    fn end_one(&self, work: &mut Work<C::Seat>, core: u8, index: u8) -> Option<()>
+        requires seat { C.sits self.now.table.now work.old.seat × C.idle self.now.table.now work.old.seat }
+        requires core { core < self.now.cores }
+        requires index { index < self.now.slots }
+        ensures { IfSome result (λ _. C.sits self.now.table.now work.new.seat × C.idle self.now.table.now work.new.seat) }
+    {
+        match self.table.take(self.rt, &mut work.seat, core, index) {
+            Taken::Run(held) => {
+                let job = self.table.finish(self.rt, &mut work.seat, held).ok()?;
+                work.log.push(ended(&job)).ok()
+            }
+            Taken::NotReady(_) | Taken::Lost(_) => Some(()),
+        }
+    }
+
+    /// Takes and ends each thread that is ready on a core. Returns `None` if memory is refused.
+    fn end_all(&self, work: &mut Work<C::Seat>, core: u8) -> Option<()>
+        requires seat { C.sits self.now.table.now work.old.seat × C.idle self.now.table.now work.old.seat }
+        requires core { core < self.now.cores }
+        ensures { IfSome result (λ _. C.sits self.now.table.now work.new.seat × C.idle self.now.table.now work.new.seat) }
+    {
+        for index in 0..self.slots {
+            self.end_one(work, core, index)?;
+        }
+        Some(())
+    }
+
+    /// Closes core 1, moves those of its threads that no seat holds to core 0, and opens core 1 again. Returns the
+    /// number of moved threads.
+    fn move_away(&self, work: &mut Work<C::Seat>) -> u64
+        requires seat { C.sits self.now.table.now work.old.seat × C.idle self.now.table.now work.old.seat }
+        requires cores { 1 < self.now.cores }
+        ensures { C.sits self.now.table.now work.new.seat × C.idle self.now.table.now work.new.seat }
+    {
+        let mut moved: u64 = 0;
+        self.table.close_core(self.rt, &mut work.seat, 1);
+        for index in 0..self.slots {
+            let place = Place { core: 1, index };
+            if let Moved::Moved = self.table.move_one(self.rt, &mut work.seat, place, 0) {
+                moved = moved.wrapping_add(1);
+            }
+        }
+        self.table.open_core(self.rt, &mut work.seat, 1);
+        moved
     }
 }
 
-/// Takes and ends each thread that is ready on a core. Returns `None` if memory is refused.
-fn end_all<C: Contexts<TagOnly>, R: Wait>(
-    rt: &R,
-    table: &C,
-    work: &mut Work<C::Seat>,
-    core: u8,
-) -> Option<()>
-    requires seat { C.sits table.now work.old.seat × C.idle table.now work.old.seat }
-    requires core { core < C.core_count table.now }
-    requires slots { SLOTS ≡ C.slot_count table.now }
-    ensures { IfSome result (λ _. C.sits table.now work.new.seat × C.idle table.now work.new.seat) }
-{
-    for index in 0..SLOTS {
-        end(rt, table, work, core, index)?;
-    }
-    Some(())
-}
-
-/// The calls that a kernel thread makes in each round, on a table of `cores` cores.
+/// Makes rounds until the kernel thread has put all of its threads, the first with the tag `first_tag`, into the table.
+/// Returns `None` if memory is refused.
 ///
-/// The kernel thread puts one thread on the last core. If it moves threads, it then closes core 1, moves the threads of
-/// core 1 to core 0, and opens core 1 again. After that it ends the threads that are ready on the cores from number
-/// `from` on.
-#[derive(Clone, Copy)]
-struct RoundPlan {
-    cores: u8,
-    moves: bool,
-    from: u8,
-    first_tag: u64,
-}
-
-/// Closes core 1, moves those of its threads that no seat holds to core 0, and opens core 1 again. Returns the number
-/// of moved threads.
-fn move_away<C: Contexts<TagOnly>, R: Wait>(rt: &R, table: &C, work: &mut Work<C::Seat>) -> u64
-    requires seat { C.sits table.now work.old.seat × C.idle table.now work.old.seat }
-    requires cores { 1 < C.core_count table.now }
-    requires slots { SLOTS ≡ C.slot_count table.now }
-    ensures { C.sits table.now work.new.seat × C.idle table.now work.new.seat }
-{
-    let mut moved: u64 = 0;
-    table.close_core(rt, &mut work.seat, 1);
-    for index in 0..SLOTS {
-        let place = Place { core: 1, index };
-        if let Moved::Moved = table.move_one(rt, &mut work.seat, place, 0) {
-            moved = moved.wrapping_add(1);
-        }
-    }
-    table.open_core(rt, &mut work.seat, 1);
-    moved
-}
-
-/// Makes rounds of puts, moves and ends until the kernel thread has put all of its threads into the table. Returns
-/// `None` if memory is refused.
+/// In each round the kernel thread puts one thread on the last core, and ends the threads that are ready on each core.
+/// If `moves` is true, it moves threads away from core 1 in between, and ends none on core 0.
 fn all_rounds<C: Contexts<TagOnly>, R: Wait>(
     rt: &R,
     table: &C,
     alloc: Global,
     seat: C::Seat,
-    part: RoundPlan,
+    cores: u8,
+    moves: bool,
+    first_tag: u64,
 ) -> Option<Work<C::Seat>>
     requires seat { C.sits table.now seat × C.idle table.now seat }
-    requires cores { (1 ≤ part.cores) × (part.cores ≡ C.core_count table.now) }
+    requires cores { (1 ≤ cores) × (cores ≡ C.core_count table.now) }
     requires slots { SLOTS ≡ C.slot_count table.now }
     ensures { IfSome result (λ w. C.sits table.now w.seat × C.idle table.now w.seat) }
 {
+    let bench = Bench {
+        rt,
+        table,
+        cores,
+        slots: SLOTS,
+    };
     let mut work = Work {
         seat,
         log: Vec::new(alloc),
@@ -156,31 +139,31 @@ fn all_rounds<C: Contexts<TagOnly>, R: Wait>(
         if work.posted == THREADS {
             return Some(work);
         }
-        let tag = part.first_tag.wrapping_add(work.posted);
-        post(rt, table, &mut work, part.cores - 1, tag)?;
-        if part.moves && part.cores > 1 {
-            work.moved = work.moved.wrapping_add(move_away(rt, table, &mut work));
+        let tag = first_tag.wrapping_add(work.posted);
+        bench.begin_one(&mut work, cores - 1, tag)?;
+        if moves && cores > 1 {
+            work.moved = work.moved.wrapping_add(bench.move_away(&mut work));
         }
-        for core in part.from..part.cores {
-            end_all(rt, table, &mut work, core)?;
+        for core in u8::from(moves)..cores {
+            bench.end_all(&mut work, core)?;
         }
     }
     unreachable!()
 }
 
-/// Runs two kernel threads, each with its own seat (right to use the table), and returns their data afterwards.
+/// Runs two kernel threads, each with its own seat (right to use the table), and returns their data afterwards. If
+/// `moves` is true, the second of them moves threads away from core 1.
 fn work_side_by_side<R: Threads + Wait + Sync>(
     rt: &R,
     table: &Words,
     alloc: Global,
     seat: WordSeat<TagOnly>,
-    own: RoundPlan,
-    their: RoundPlan,
+    cores: u8,
+    moves: bool,
 ) -> Option<(WordWork, WordWork)>
     requires seat { (seat.table ≡ table.now.table) × HasNothingOut seat.known }
     requires slots { SLOTS ≡ table.now.shape.places_per_core }
-    requires own { (1 ≤ own.cores) × (own.cores ≡ table.now.shape.cores) }
-    requires their { (1 ≤ their.cores) × (their.cores ≡ table.now.shape.cores) }
+    requires cores { (1 ≤ cores) × (cores ≡ table.now.shape.cores) }
     ensures first { IfSome result (λ w. (w.0.seat.table ≡ table.now.table) × HasNothingOut w.0.seat.known) }
     ensures second { IfSome result (λ w. (w.1.seat.table ≡ table.now.table) × HasNothingOut w.1.seat.known) }
 {
@@ -188,18 +171,18 @@ fn work_side_by_side<R: Threads + Wait + Sync>(
     let (first, second) = thread::join(
         rt,
         move || -> Option<WordWork>
-            requires { (first.table ≡ table.now.table) × HasNothingOut first.known × (1 ≤ own.cores) × (own.cores ≡ table.now.shape.cores) × (SLOTS ≡ table.now.shape.places_per_core) }
+            requires { (first.table ≡ table.now.table) × HasNothingOut first.known × (1 ≤ cores) × (cores ≡ table.now.shape.cores) × (SLOTS ≡ table.now.shape.places_per_core) }
             ensures { IfSome result (λ w. (w.seat.table ≡ table.entry.now.table) × HasNothingOut w.seat.known) }
-        { all_rounds::<Words, R>(rt, table, alloc, first, own) },
+        { all_rounds::<Words, R>(rt, table, alloc, first, cores, false, 0) },
         move || -> Option<WordWork>
-            requires { (second.table ≡ table.now.table) × HasNothingOut second.known × (1 ≤ their.cores) × (their.cores ≡ table.now.shape.cores) × (SLOTS ≡ table.now.shape.places_per_core) }
+            requires { (second.table ≡ table.now.table) × HasNothingOut second.known × (1 ≤ cores) × (cores ≡ table.now.shape.cores) × (SLOTS ≡ table.now.shape.places_per_core) }
             ensures { IfSome result (λ w. (w.seat.table ≡ table.entry.now.table) × HasNothingOut w.seat.known) }
-        { all_rounds::<Words, R>(rt, table, alloc, second, their) },
+        { all_rounds::<Words, R>(rt, table, alloc, second, cores, moves, THREADS) },
     );
     Some((first?, second?))
 }
 
-/// Returns whether each thread of both kernel threads was put into the table exactly once, and then either has ended or
+/// Returns true if each thread of both kernel threads was put into the table exactly once, and then either has ended or
 /// is left in the table, exactly once.
 ///
 /// The function joins the logs of both kernel threads, and counts the threads that are left in the table as ended.
@@ -216,7 +199,7 @@ fn are_settled(
     Ok(log.len() == 4 * THREADS as usize && log.chunks(2).all(|pair| is_pair(pair)))
 }
 
-/// Returns whether two adjacent entries of a sorted log show that one thread was put into the table and ended.
+/// Returns true if two entries of a sorted log are one thread's: twice its tag for its start, that plus 1 for its end.
 fn is_pair(pair: &[u64]) -> bool {
     match pair {
         [posted, ended] => *posted % 2 == 0 && *ended == posted.wrapping_add(1),
@@ -224,8 +207,8 @@ fn is_pair(pair: &[u64]) -> bool {
     }
 }
 
-/// Joins the seats (rights to use the table) of both kernel threads, and closes the table. Returns the threads that are
-/// left in it.
+/// Joins the seats (rights to use the table) of both kernel threads, and closes the table. Returns the threads left in
+/// the table.
 fn left(
     alloc: Global,
     table: Words,
@@ -243,7 +226,8 @@ fn left(
 }
 
 /// Runs two kernel threads on one table of `cores` cores. If `moves` is true, the second of them moves threads away
-/// from core 1. Returns whether each thread is settled, and how many were moved.
+/// from core 1. Returns true if each thread has ended or is left in the table, exactly once, and the number of moved
+/// threads.
 fn contend<R: Threads + Wait + Sync>(
     rt: &R,
     alloc: Global,
@@ -253,20 +237,8 @@ fn contend<R: Threads + Wait + Sync>(
     requires some { 1 ≤ cores }
     requires most { cores ≤ CORES }
 {
-    let own = RoundPlan {
-        cores,
-        moves: false,
-        from: 0,
-        first_tag: 0,
-    };
-    let their = RoundPlan {
-        cores,
-        moves,
-        from: u8::from(moves),
-        first_tag: THREADS,
-    };
     let (table, seat) = Words::new(alloc, cores, SLOTS, 0)?;
-    let works = work_side_by_side(rt, &table, alloc, seat, own, their);
+    let works = work_side_by_side(rt, &table, alloc, seat, cores, moves);
     let (first, second) = works.ok_or("no memory")?;
     let moved = first.moved.wrapping_add(second.moved);
     let left = left(alloc, table, first.seat, second.seat).ok_or("not closed")?;

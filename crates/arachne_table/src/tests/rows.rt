@@ -1,35 +1,32 @@
 //! Test cases for both types of table: sequences of calls, each with its expected result.
-ghost use Rattle.std.specs.Prelude.{◌≡◌, List, IfOk, IfSome, [], ◌∷◌};
+ghost use Rattle.std.specs.Prelude.{[], ◌∷◌, IfOk, IfSome, List};
 ghost use Rattle.arachne_contexts.specs.Out.{Out, KeepsOut, Claim as a_claim, Thread as a_thread};
 
-use super::TagOnly;
-use super::steps::Step::{
-    Back, Block, Claim, Close, Drained, End, Fill, Look, Mark, Move, Open, Post, Put, Ready,
-    Second, Take, Wake, Whole,
-};
-use super::steps::{Answer, Size, Step, answered, told_id};
+use super::steps::{Told, told, told_id};
+use super::{Bench, TagOnly};
 use crate::{Claimed, Contexts, Held, Placed, Rested, Taken};
 use arachne_core::{CORES, LAST_GENERATION, Rest, SLOTS, ThreadId};
 use std::alloc::Global;
 use std::sync::Wait;
 use std::test::Fail;
 
-/// A sequence of calls, each with its expected result.
-type Rows = &'static [(Step, Answer)];
+/// The calls that must still be made, each with its expected result, for example `look 0 = word 0x0 | out = out 0`.
+#[derive(Drop)]
+struct Calls<'r>(&'r str);
 
-/// A run: the size of its table, the generation with which its contexts begin, its steps, and the threads that must be
-/// left at the end. Each such thread is given by its context, its generation and its tag (number); the list is `None`
-/// if the threads are not compared.
-struct TableRun {
-    cores: u8,
-    slots: u8,
-    first_generation: u64,
-    rows: Rows,
-    left: Option<&'static [(u32, u64, u64)]>,
+impl<'r> Calls<'r> {
+    fn next(&mut self) -> Option<(Told<'r>, Told<'r>)> {
+        if self.0.is_empty() {
+            return None;
+        }
+        let (call, rest) = self.0.split_once('|').unwrap_or((self.0, ""));
+        self.0 = rest;
+        let (call, answer) = call.split_once('=').unwrap_or((call, ""));
+        Some((told(call), told(answer)))
+    }
 }
 
-/// Fails if the result `shown` is not the expected one.
-fn same(expected: Answer, shown: Answer) -> Result<(), Fail> {
+fn same(expected: Told<'_>, shown: Told<'_>) -> Result<(), Fail> {
     let ((told, one, other), (word, first, second)) = (expected, shown);
     if told == word && one == first && other == second {
         return Ok(());
@@ -39,232 +36,161 @@ fn same(expected: Answer, shown: Answer) -> Result<(), Fail> {
     )))
 }
 
-/// Makes the steps from number `from` up to the first that changes which claims and threads the seat has. Returns the
-/// number of that step.
-fn go_on<C: Contexts<TagOnly>, R: Wait>(
-    rt: &R,
-    table: &C,
-    seat: &mut C::Seat,
-    size: Size,
-    rows: Rows,
-    from: usize,
-) -> Result<usize, Fail>
-    requires seat { C.sits table.now seat.old }
-    requires out { (outs : List (Out C.Claim C.Hold)) × C.has table.now seat.old outs }
-    requires size { (size.cores ≡ C.core_count table.now) × (size.slots ≡ C.slot_count table.now) }
-    ensures { IfOk result (λ _. C.sits table.now seat.new × KeepsOut (C.has table.now) seat.old seat.new) }
-{
-    for nth in from..rows.len() {
-        let (step, answer) = rows[nth];
-        if step.is_use() {
-            return Ok(nth);
+impl<'a, C: Contexts<TagOnly>, R: Wait> Bench<'a, C, R> {
+    /// Makes the next calls, and returns the first one that changes which claims and threads the seat has.
+    ///
+    /// That call is not made, and is returned with its expected result.
+    fn go_on<'r>(
+        &self,
+        seat: &mut C::Seat,
+        calls: &mut Calls<'r>,
+    ) -> Result<Option<(Told<'r>, Told<'r>)>, Fail>
+        requires seat { C.sits self.now.table.now seat.old }
+        requires out { (outs : List (Out C.Claim C.Hold)) × C.has self.now.table.now seat.old outs }
+        ensures { IfOk result (λ _. C.sits self.now.table.now seat.new × KeepsOut (C.has self.now.table.now) seat.old seat.new) }
+    {
+        for _ in 0..calls.0.len() {
+            let Some((call, answer)) = calls.next() else {
+                return Ok(None);
+            };
+            if let "claim"
+            | "whole"
+            | "take"
+            | "back"
+            | "put"
+            | "end"
+            | "block"
+            | "ready" = call.0
+            {
+                return Ok(Some((call, answer)));
+            }
+            let shown = self.answered(seat, call).ok_or("no such call")?;
+            same(answer, shown)?;
         }
-        let shown = answered(rt, table, seat, size, step).ok_or("no such step")?;
-        same(answer, shown)?;
+        Ok(None)
     }
-    Ok(rows.len())
-}
 
-/// Puts a thread into the claimed slot, or gives the claim back. Returns the table's answer.
-fn spend_claim<C: Contexts<TagOnly>, R: Wait>(
-    rt: &R,
-    table: &C,
-    seat: &mut C::Seat,
-    claim: C::Claim,
-    step: Step,
-) -> Option<Answer>
-    requires seat { C.sits table.now seat.old }
-    requires out { C.has table.now seat.old (a_claim claim ∷ []) }
-    ensures { IfSome result (λ _. C.sits table.now seat.new × C.idle table.now seat.new) }
-{
-    let Step::Put(tag) = step else {
-        table.give_back(rt, seat, claim).ok()?;
-        return Some(("back", 0, 0));
-    };
-    Some(told_id(table.post(rt, seat, claim, TagOnly(tag)).ok()?))
-}
-
-/// Makes the steps from number `from` on while the seat has the claim, and spends the claim. Returns the number of the
-/// next step.
-fn use_claim<C: Contexts<TagOnly>, R: Wait>(
-    rt: &R,
-    table: &C,
-    seat: &mut C::Seat,
-    size: Size,
-    claim: C::Claim,
-    rows: Rows,
-    from: usize,
-) -> Result<usize, Fail>
-    requires seat { C.sits table.now seat.old }
-    requires out { C.has table.now seat.old (a_claim claim ∷ []) }
-    requires size { (size.cores ≡ C.core_count table.now) × (size.slots ≡ C.slot_count table.now) }
-    ensures { IfOk result (λ _. C.sits table.now seat.new × C.idle table.now seat.new) }
-{
-    let at = go_on(rt, table, seat, size, rows, from)?;
-    let &(step, answer) = rows.get(at).ok_or("not spent")?;
-    let spent = spend_claim(rt, table, seat, claim, step).ok_or("not spent")?;
-    same(answer, spent)?;
-    Ok(at.wrapping_add(1))
-}
-
-/// Claims a place or a whole core, as step `nth` says, and spends the claim if there is one. Returns the number of the
-/// next step.
-fn with_claim<C: Contexts<TagOnly>, R: Wait>(
-    rt: &R,
-    table: &C,
-    seat: &mut C::Seat,
-    size: Size,
-    core: u8,
-    alone: bool,
-    rows: Rows,
-    nth: usize,
-) -> Result<usize, Fail>
-    requires seat { C.sits table.now seat.old × C.idle table.now seat.old }
-    requires size { (size.cores ≡ C.core_count table.now) × (size.slots ≡ C.slot_count table.now) }
-    ensures { IfOk result (λ _. C.sits table.now seat.new × C.idle table.now seat.new) }
-{
-    if core >= size.cores {
-        return Err("no such core".into());
+    /// Puts a thread into the claimed slot if `call` is `put`, else gives it back.
+    fn spend_claim(
+        &self,
+        seat: &mut C::Seat,
+        claim: C::Claim,
+        call: Told<'_>,
+    ) -> Option<Told<'static>>
+        requires seat { C.sits self.now.table.now seat.old }
+        requires out { C.has self.now.table.now seat.old (a_claim claim ∷ []) }
+        ensures { IfSome result (λ _. C.sits self.now.table.now seat.new × C.idle self.now.table.now seat.new) }
+    {
+        let ("put", tag, _) = call else {
+            self.table.give_back(self.rt, seat, claim).ok()?;
+            return Some(("back", 0, 0));
+        };
+        let id = self.table.post(self.rt, seat, claim, TagOnly(tag)).ok()?;
+        Some(told_id(id))
     }
-    let (&(_, answer), next) = (rows.get(nth).ok_or("no such step")?, nth.wrapping_add(1));
-    let claimed = if alone {
-        table.claim_alone(rt, seat, core)?
-    } else {
-        table.claim(rt, seat, core)?
-    };
-    match claimed {
-        Claimed::Place(claim) => {
-            let place = claim.place();
-            same(answer, ("place", place.core.into(), place.index.into()))?;
-            return use_claim(rt, table, seat, size, claim, rows, next);
+
+    /// Claims a slot of a core, or the whole core if the call is `whole`, and makes the calls up to the one that uses
+    /// the claim.
+    fn with_claim(
+        &self,
+        seat: &mut C::Seat,
+        call: Told<'_>,
+        answer: Told<'_>,
+        calls: &mut Calls<'_>,
+    ) -> Result<(), Fail>
+        requires seat { C.sits self.now.table.now seat.old × C.idle self.now.table.now seat.old }
+        ensures { IfOk result (λ _. C.sits self.now.table.now seat.new × C.idle self.now.table.now seat.new) }
+    {
+        let core = u8::try_from(call.1).ok().ok_or("no such core")?;
+        if core >= self.cores {
+            return Err("no such core".into());
         }
-        Claimed::Full(word) => same(answer, ("full", word, 0))?,
-        Claimed::Closed(word) => same(answer, ("closed", word, 0))?,
-        Claimed::Lost(word) => same(answer, ("lost", word, 0))?,
+        let claimed = match call.0 {
+            "whole" => self.table.claim_alone(self.rt, seat, core)?,
+            _ => self.table.claim(self.rt, seat, core)?,
+        };
+        let claim = match claimed {
+            Claimed::Place(claim) => claim,
+            Claimed::Full(word) => return same(answer, ("full", word, 0)),
+            Claimed::Closed(word) => return same(answer, ("closed", word, 0)),
+            Claimed::Lost(word) => return same(answer, ("lost", word, 0)),
+        };
+        let place = claim.place();
+        same(answer, ("place", place.core.into(), place.index.into()))?;
+        let (call, answer) = self.go_on(seat, calls)?.ok_or("not spent")?;
+        let spent = self.spend_claim(seat, claim, call).ok_or("not spent")?;
+        same(answer, spent)
     }
-    Ok(next)
-}
 
-/// Ends the thread, or puts it back as blocked or as ready. Returns the table's answer.
-fn spend_thread<C: Contexts<TagOnly>, R: Wait>(
-    rt: &R,
-    table: &C,
-    seat: &mut C::Seat,
-    held: Held<TagOnly, C::Hold>,
-    step: Step,
-) -> Option<Answer>
-    requires seat { C.sits table.now seat.old }
-    requires out { C.has table.now seat.old (a_thread held.hold held.value.0 ∷ []) }
-    ensures { IfSome result (λ _. C.sits table.now seat.new × C.idle table.now seat.new) }
-{
-    if let Step::End = step {
-        let job = table.finish(rt, seat, held).ok()?;
-        return Some(("tag", job.0, 0));
-    }
-    let rest = match step {
-        Step::Ready => Rest::Ready,
-        _ => Rest::Blocked,
-    };
-    match table.put_back(rt, seat, held, rest).ok()? {
-        Rested::AsAsked => Some(("as asked", 0, 0)),
-        Rested::WokenMeanwhile => Some(("woken meanwhile", 0, 0)),
-    }
-}
-
-/// Takes the thread at a place, as step `nth` says, makes steps, and then ends the thread or puts it back. Returns the
-/// number of the next step.
-fn with_thread<C: Contexts<TagOnly>, R: Wait>(
-    rt: &R,
-    table: &C,
-    seat: &mut C::Seat,
-    size: Size,
-    core: u8,
-    index: u8,
-    rows: Rows,
-    nth: usize,
-) -> Result<usize, Fail>
-    requires seat { C.sits table.now seat.old × C.idle table.now seat.old }
-    requires size { (size.cores ≡ C.core_count table.now) × (size.slots ≡ C.slot_count table.now) }
-    ensures { IfOk result (λ _. C.sits table.now seat.new × C.idle table.now seat.new) }
-{
-    if core >= size.cores || index >= size.slots {
-        return Err("no such place".into());
-    }
-    let Taken::Run(held) = table.take(rt, seat, core, index) else {
-        return Err("not ready".into());
-    };
-    let &(_, answer) = rows.get(nth).ok_or("no such step")?;
-    same(answer, told_id(held.id()))?;
-    let at = go_on(rt, table, seat, size, rows, nth.wrapping_add(1))?;
-    let &(step, answer) = rows.get(at).ok_or("not spent")?;
-    let spent = spend_thread(rt, table, seat, held, step).ok_or("not spent")?;
-    same(answer, spent)?;
-    Ok(at.wrapping_add(1))
-}
-
-/// Makes the steps from number `from` on up to the next use of a claim or a thread, and that use. Returns the number of
-/// the next step.
-fn next_use<C: Contexts<TagOnly>, R: Wait>(
-    rt: &R,
-    table: &C,
-    seat: &mut C::Seat,
-    size: Size,
-    rows: Rows,
-    from: usize,
-) -> Result<usize, Fail>
-    requires seat { C.sits table.now seat.old × C.idle table.now seat.old }
-    requires size { (size.cores ≡ C.core_count table.now) × (size.slots ≡ C.slot_count table.now) }
-    ensures { IfOk result (λ _. C.sits table.now seat.new × C.idle table.now seat.new) }
-{
-    let at = go_on(rt, table, seat, size, rows, from)?;
-    let Some(&(step, _)) = rows.get(at) else {
-        return Ok(at);
-    };
-    match step {
-        Step::Claim(core) => with_claim(rt, table, seat, size, core, false, rows, at),
-        Step::Whole(core) => with_claim(rt, table, seat, size, core, true, rows, at),
-        Step::Take(core, index) => with_thread(rt, table, seat, size, core, index, rows, at),
-        _ => Err("nothing to spend".into()),
-    }
-}
-
-/// Makes all steps of a run.
-fn follow<C: Contexts<TagOnly>, R: Wait>(
-    rt: &R,
-    table: &C,
-    seat: &mut C::Seat,
-    size: Size,
-    rows: Rows,
-) -> Result<(), Fail>
-    requires seat { C.sits table.now seat.old × C.idle table.now seat.old }
-    requires size { (size.cores ≡ C.core_count table.now) × (size.slots ≡ C.slot_count table.now) }
-    ensures { IfOk result (λ _. C.sits table.now seat.new × C.idle table.now seat.new) }
-{
-    let mut at = 0;
-    for _ in 0..rows.len() {
-        at = next_use(rt, table, seat, size, rows, at)?;
-    }
-    Ok(())
-}
-
-/// Returns whether the threads in `left` are exactly those in `expected`, each given by its context, its generation and
-/// its tag (number).
-fn are_left(left: &[(ThreadId, TagOnly)], expected: &[(u32, u64, u64)]) -> bool {
-    if left.len() != expected.len() {
-        return false;
-    }
-    for k in 0..left.len() {
-        let (id, job) = &left[k];
-        if (id.context, id.generation, job.0) != expected[k] {
-            return false;
+    /// Puts the thread back if `call` is `ready` or `block`, else ends it.
+    fn spend_thread(
+        &self,
+        seat: &mut C::Seat,
+        held: Held<TagOnly, C::Hold>,
+        call: Told<'_>,
+    ) -> Option<Told<'static>>
+        requires seat { C.sits self.now.table.now seat.old }
+        requires out { C.has self.now.table.now seat.old (a_thread held.hold held.value.0 ∷ []) }
+        ensures { IfSome result (λ _. C.sits self.now.table.now seat.new × C.idle self.now.table.now seat.new) }
+    {
+        let rest = match call.0 {
+            "ready" => Rest::Ready,
+            "block" => Rest::Blocked,
+            _ => {
+                let job = self.table.finish(self.rt, seat, held).ok()?;
+                return Some(("tag", job.0, 0));
+            }
+        };
+        match self.table.put_back(self.rt, seat, held, rest).ok()? {
+            Rested::AsAsked => Some(("as-asked", 0, 0)),
+            Rested::WokenMeanwhile => Some(("woken-meanwhile", 0, 0)),
         }
     }
-    true
+
+    fn with_thread(
+        &self,
+        seat: &mut C::Seat,
+        call: Told<'_>,
+        answer: Told<'_>,
+        calls: &mut Calls<'_>,
+    ) -> Result<(), Fail>
+        requires seat { C.sits self.now.table.now seat.old × C.idle self.now.table.now seat.old }
+        ensures { IfOk result (λ _. C.sits self.now.table.now seat.new × C.idle self.now.table.now seat.new) }
+    {
+        let core = u8::try_from(call.1).ok().ok_or("no such core")?;
+        let index = u8::try_from(call.2).ok().ok_or("no such place")?;
+        if core >= self.cores || index >= self.slots {
+            return Err("no such place".into());
+        }
+        let Taken::Run(held) = self.table.take(self.rt, seat, core, index) else {
+            return Err("not ready".into());
+        };
+        same(answer, told_id(held.id()))?;
+        let (call, answer) = self.go_on(seat, calls)?.ok_or("not spent")?;
+        let spent = self.spend_thread(seat, held, call).ok_or("not spent")?;
+        same(answer, spent)
+    }
+
+    fn go_through(&self, seat: &mut C::Seat, calls: &mut Calls<'_>) -> Result<(), Fail>
+        requires seat { C.sits self.now.table.now seat.old × C.idle self.now.table.now seat.old }
+        ensures { IfOk result (λ _. C.sits self.now.table.now seat.new × C.idle self.now.table.now seat.new) }
+    {
+        for _ in 0..calls.0.len() {
+            let Some((call, answer)) = self.go_on(seat, calls)? else {
+                break;
+            };
+            match call.0 {
+                "claim" | "whole" => self.with_claim(seat, call, answer, calls)?,
+                "take" => self.with_thread(seat, call, answer, calls)?,
+                _ => return Err("nothing to spend".into()),
+            }
+        }
+        Ok(())
+    }
 }
 
-/// Splits the seat (the right to use the table), joins both halves, and closes the table. Returns the threads that are
-/// left in it.
-pub(super) fn close<C: Contexts<TagOnly> + Drop, R: Wait>(
+/// Splits the seat, joins both halves, and closes the table.
+fn close<C: Contexts<TagOnly> + Drop, R: Wait>(
     rt: &R,
     alloc: Global,
     table: C,
@@ -283,259 +209,99 @@ pub(super) fn close<C: Contexts<TagOnly> + Drop, R: Wait>(
     table.close(rt, alloc, seat).ok()
 }
 
-/// Runs a test case on a new table, and closes the table.
-fn take<C: Contexts<TagOnly> + Drop, R: Wait>(
+/// Runs a test case on a new table, and returns the threads that are left when the table is closed.
+///
+/// The first call of the case is `new`, with the numbers of cores and of slots per core. The result after it is the
+/// generation (count of ended threads) with which each context begins.
+pub(super) fn follow<C: Contexts<TagOnly> + Drop, R: Wait>(
     rt: &R,
     alloc: Global,
-    run: &TableRun,
-) -> Result<(), Fail> {
-    let TableRun { cores, slots, .. } = *run;
-    if cores == 0 || cores > CORES || slots == 0 || slots > SLOTS {
+    row: &str,
+) -> Result<Vec<(ThreadId, TagOnly)>, Fail> {
+    let mut calls = Calls(row);
+    let ((_, cores, slots), (_, first_generation, _)) = calls.next().ok_or("no table")?;
+    let cores = u8::try_from(cores).unwrap_or(0);
+    let slots = u8::try_from(slots).unwrap_or(0);
+    let are_sizes = cores > 0 && cores <= CORES && slots > 0 && slots <= SLOTS;
+    if !are_sizes || first_generation > LAST_GENERATION {
         return Err("no such table".into());
     }
-    if run.first_generation > LAST_GENERATION {
-        return Err("no such table".into());
-    }
-    let (table, mut seat) = C::new(alloc, cores, slots, run.first_generation)?;
-    follow(rt, &table, &mut seat, Size { cores, slots }, run.rows)?;
-    let Some(expected) = run.left else {
-        return Ok(());
+    let (table, mut seat) = C::new(alloc, cores, slots, first_generation)?;
+    let bench = Bench {
+        rt,
+        table: &table,
+        cores,
+        slots,
     };
-    let left = close(rt, alloc, table, seat).ok_or("not closed")?;
-    if !are_left(left.as_slice(), expected) {
-        return Err("other threads are left".into());
-    }
-    Ok(())
+    bench.go_through(&mut seat, &mut calls)?;
+    Ok(close(rt, alloc, table, seat).ok_or("not closed")?)
 }
 
-/// A run on one core. Others say in what they differ.
-const RUN: TableRun = TableRun {
-    cores: 1,
-    slots: SLOTS,
-    first_generation: 0,
-    rows: &[],
-    left: None,
-};
-
-const RUNS: &[TableRun] = &[
+const ROWS: &[&str] = &[
     // A core of three slots is full with three threads.
-    TableRun {
-        slots: 3,
-        rows: &[
-            (Fill(0), ("id", 2, 0)),
-            (Look(0), ("word", 0x300000000000007, 0)),
-            (Claim(0), ("full", 0x300000000000007, 0)),
-        ],
-        ..RUN
-    },
+    "new 1 3 | fill 0 = id 2 0 | look 0 = word 0x300000000000007 | claim 0 = full 0x300000000000007",
     // A claim takes the lowest free slot.
-    TableRun {
-        rows: &[
-            (Claim(0), ("place", 0, 0)),
-            (Look(0), ("word", 0x100000000000001, 0)),
-            (Put(5), ("id", 0, 0)),
-            (Post(0, 6), ("id", 1, 0)),
-            (Post(0, 7), ("id", 2, 0)),
-            (Take(0, 1), ("id", 1, 0)),
-            (End, ("tag", 0x6, 0)),
-            (Look(0), ("word", 0x200000000000005, 0)),
-            (Claim(0), ("place", 0, 1)),
-            (Look(0), ("word", 0x300000000000007, 0)),
-            (Step::Out, ("out", 0x1, 0)),
-            (Back, ("back", 0, 0)),
-        ],
-        ..RUN
-    },
+    "new 1 56 | claim 0 = place 0 0 | look 0 = word 0x100000000000001 | put 5 = id 0 0 | post 0 6 = id 1 0 \
+    | post 0 7 = id 2 0 | take 0 1 = id 1 0 | end = tag 6 | look 0 = word 0x200000000000005 | claim 0 = place 0 1 \
+    | look 0 = word 0x300000000000007 | out = out 1 | back = back",
     // A slot whose claim was given back is free.
-    TableRun {
-        rows: &[
-            (Claim(0), ("place", 0, 0)),
-            (Second(0, 3), ("id", 2, 0)),
-            (Look(0), ("word", 0x200000000000005, 0)),
-            (Put(5), ("id", 0, 0)),
-            (Claim(0), ("place", 0, 1)),
-            (Look(0), ("word", 0x300000000000007, 0)),
-            (Back, ("back", 0, 0)),
-        ],
-        ..RUN
-    },
+    "new 1 56 | claim 0 = place 0 0 | second 0 3 = id 2 0 | look 0 = word 0x200000000000005 | put 5 = id 0 0 \
+    | claim 0 = place 0 1 | look 0 = word 0x300000000000007 | back = back",
     // One core is closed, another is full.
-    TableRun {
-        cores: 2,
-        rows: &[
-            (Close(0), ("word", 0x0, 0)),
-            (Drained(0), ("drained", 1, 0)),
-            (Claim(0), ("closed", 0x4000000000000000, 0)),
-            (Open(0), ("word", 0x4000000000000000, 0)),
-            (Drained(0), ("drained", 0, 0)),
-            (Claim(0), ("place", 0, 0)),
-            (Back, ("back", 0, 0)),
-            (Look(0), ("word", 0x0, 0)),
-            (Fill(0), ("id", 55, 0)),
-            (Claim(0), ("full", 0x38ffffffffffffff, 0)),
-        ],
-        ..RUN
-    },
+    "new 2 56 | close 0 = word 0x0 | drained 0 = drained 1 | claim 0 = closed 0x4000000000000000 \
+    | open 0 = word 0x4000000000000000 | drained 0 = drained 0 | claim 0 = place 0 0 | back = back \
+    | look 0 = word 0x0 | fill 0 = id 55 0 | claim 0 = full 0x38ffffffffffffff",
     // A core is claimed for one thread.
-    TableRun {
-        cores: 2,
-        rows: &[
-            (Whole(0), ("place", 0, 0)),
-            (Put(3), ("id", 0, 0)),
-            (Look(0), ("word", 0x8100000000000001, 0)),
-            (Mark(0), ("word", 0x9, 0)),
-            (Claim(0), ("full", 0x8100000000000001, 0)),
-            (Post(1, 4), ("id", 56, 0)),
-            (Whole(1), ("full", 0x100000000000001, 0)),
-            (Look(1), ("word", 0x100000000000001, 0)),
-        ],
-        ..RUN
-    },
+    "new 2 56 | whole 0 = place 0 0 | put 3 = id 0 0 | look 0 = word 0x8100000000000001 | mark 0 = word 0x9 \
+    | claim 0 = full 0x8100000000000001 | post 1 4 = id 56 0 | whole 1 = full 0x100000000000001 \
+    | look 1 = word 0x100000000000001",
     // A thread is woken while the seat holds it. After the thread has ended, a call with its id finds no thread.
-    TableRun {
-        rows: &[
-            (Post(0, 3), ("id", 0, 0)),
-            (Mark(0), ("word", 0x1, 0)),
-            (Take(0, 0), ("id", 0, 0)),
-            (Mark(0), ("word", 0x3, 0)),
-            (Wake(0, 0), ("woken", 0, 0)),
-            (Mark(0), ("word", 0x4, 0)),
-            (Block, ("woken meanwhile", 0, 0)),
-            (Mark(0), ("word", 0x1, 0)),
-            (Wake(0, 0), ("already", 0x1, 0)),
-            (Mark(0), ("word", 0x1, 0)),
-            (Take(0, 0), ("id", 0, 0)),
-            (End, ("tag", 0x3, 0)),
-            (Mark(0), ("word", 0x10000, 0)),
-            (Look(0), ("word", 0x0, 0)),
-            (Wake(0, 0), ("gone", 0, 0)),
-            (Mark(0), ("word", 0x10000, 0)),
-            (Look(0), ("word", 0x0, 0)),
-            (Post(0, 4), ("id", 0, 1)),
-            (Mark(0), ("word", 0x10001, 0)),
-            (Wake(0, 0), ("gone", 0, 0)),
-            (Mark(0), ("word", 0x10001, 0)),
-        ],
-        ..RUN
-    },
+    "new 1 56 | post 0 3 = id 0 0 | mark 0 = word 0x1 | take 0 0 = id 0 0 | mark 0 = word 0x3 | wake 0 0 = woken \
+    | mark 0 = word 0x4 | block = woken-meanwhile | mark 0 = word 0x1 | wake 0 0 = already 0x1 | mark 0 = word 0x1 \
+    | take 0 0 = id 0 0 | end = tag 3 | mark 0 = word 0x10000 | look 0 = word 0x0 | wake 0 0 = gone \
+    | mark 0 = word 0x10000 | look 0 = word 0x0 | post 0 4 = id 0 1 | mark 0 = word 0x10001 | wake 0 0 = gone \
+    | mark 0 = word 0x10001",
     // A context whose last generation is used up takes no more threads.
-    TableRun {
-        first_generation: LAST_GENERATION,
-        rows: &[
-            (Post(0, 3), ("id", 0, LAST_GENERATION)),
-            (Mark(0), ("word", 0xffffffffffff0001, 0)),
-            (Take(0, 0), ("id", 0, LAST_GENERATION)),
-            (End, ("tag", 0x3, 0)),
-            (Mark(0), ("word", 0xffffffffffff0005, 0)),
-            (Look(0), ("word", 0x100000000000001, 0)),
-            (Wake(0, LAST_GENERATION), ("gone", 0, 0)),
-            (Claim(0), ("place", 0, 1)),
-            (Back, ("back", 0, 0)),
-        ],
-        ..RUN
-    },
+    "new 1 56 = from 281474976710655 | post 0 3 = id 0 281474976710655 | mark 0 = word 0xffffffffffff0001 \
+    | take 0 0 = id 0 281474976710655 | end = tag 3 | mark 0 = word 0xffffffffffff0005 \
+    | look 0 = word 0x100000000000001 | wake 0 281474976710655 = gone | claim 0 = place 0 1 | back = back",
     // A thread that the seat holds is not moved, nor is a thread that has its core for itself. A thread is put back as
     // ready.
-    TableRun {
-        cores: 2,
-        rows: &[
-            (Post(0, 3), ("id", 0, 0)),
-            (Take(0, 0), ("id", 0, 0)),
-            (Step::Out, ("out", 1, 0)),
-            (Move(0, 0, 1), ("running", 0, 0)),
-            (Mark(0), ("word", 0x3, 0)),
-            (Ready, ("as asked", 0, 0)),
-            (Mark(0), ("word", 0x1, 0)),
-            (Whole(1), ("place", 1, 0)),
-            (Put(4), ("id", 56, 0)),
-            (Move(1, 0, 0), ("alone", 0, 0)),
-            (Move(0, 0, 1), ("no room", 0x8100000000000001, 0)),
-            (Mark(56), ("word", 0x409, 0)),
-            (Look(1), ("word", 0x8100000000000001, 0)),
-        ],
-        ..RUN
-    },
+    "new 2 56 | post 0 3 = id 0 0 | take 0 0 = id 0 0 | out = out 1 | move 0 0 = running | mark 0 = word 0x3 \
+    | ready = as-asked | mark 0 = word 0x1 | whole 1 = place 1 0 | put 4 = id 56 0 | move 1 0 = alone \
+    | move 0 0 = no-room 0x8100000000000001 | mark 56 = word 0x409 | look 1 = word 0x8100000000000001",
     // A core is drained if it is closed and empty.
-    TableRun {
-        cores: 2,
-        rows: &[
-            (Post(1, 5), ("id", 56, 0)),
-            (Post(1, 6), ("id", 57, 0)),
-            (Take(1, 1), ("id", 57, 0)),
-            (Block, ("as asked", 0, 0)),
-            (Claim(1), ("place", 1, 2)),
-            (Close(1), ("word", 0x300000000000007, 0)),
-            (Look(1), ("word", 0x4300000000000007, 0)),
-            (Move(1, 0, 0), ("moved", 0, 0)),
-            (Move(1, 1, 0), ("moved", 0, 0)),
-            (Move(1, 2, 0), ("unposted", 0, 0)),
-            (Look(1), ("word", 0x4100000000000004, 0)),
-            (Look(0), ("word", 0x200000000000003, 0)),
-            (Mark(56), ("word", 0x1, 0)),
-            (Mark(57), ("word", 0x12, 0)),
-            (Mark(0), ("word", 0x400, 0)),
-            (Mark(1), ("word", 0x410, 0)),
-            (Wake(57, 0), ("woken", 0, 0)),
-            (Put(7), ("id", 58, 0)),
-            (Mark(56), ("word", 0x1, 0)),
-            (Mark(57), ("word", 0x11, 0)),
-            (Mark(0), ("word", 0x400, 0)),
-            (Mark(1), ("word", 0x410, 0)),
-            (Mark(58), ("word", 0x421, 0)),
-            (Move(1, 2, 0), ("moved", 0, 0)),
-            (Look(0), ("word", 0x300000000000007, 0)),
-            (Look(1), ("word", 0x4000000000000000, 0)),
-            (Drained(1), ("drained", 1, 0)),
-        ],
-        ..RUN
-    },
+    "new 2 56 | post 1 5 = id 56 0 | post 1 6 = id 57 0 | take 1 1 = id 57 0 | block = as-asked \
+    | claim 1 = place 1 2 | close 1 = word 0x300000000000007 | look 1 = word 0x4300000000000007 | move 1 0 = moved \
+    | move 1 1 = moved | move 1 2 = unposted | look 1 = word 0x4100000000000004 | look 0 = word 0x200000000000003 \
+    | mark 56 = word 0x1 | mark 57 = word 0x12 | mark 0 = word 0x400 | mark 1 = word 0x410 | wake 57 0 = woken \
+    | put 7 = id 58 0 | mark 56 = word 0x1 | mark 57 = word 0x11 | mark 0 = word 0x400 | mark 1 = word 0x410 \
+    | mark 58 = word 0x421 | move 1 2 = moved | look 0 = word 0x300000000000007 | look 1 = word 0x4000000000000000 \
+    | drained 1 = drained 1",
     // A thread is moved to another core and back.
-    TableRun {
-        cores: 2,
-        rows: &[
-            (Post(1, 5), ("id", 56, 0)),
-            (Move(1, 0, 0), ("moved", 0, 0)),
-            (Mark(56), ("word", 0x1, 0)),
-            (Mark(0), ("word", 0x400, 0)),
-            (Move(0, 0, 1), ("moved", 0, 0)),
-            (Mark(56), ("word", 0x401, 0)),
-            (Mark(0), ("word", 0x0, 0)),
-            (Look(0), ("word", 0x0, 0)),
-            (Look(1), ("word", 0x100000000000001, 0)),
-            (Close(0), ("word", 0x0, 0)),
-            (Move(1, 0, 0), ("no room", 0x4000000000000000, 0)),
-            (Take(1, 0), ("id", 56, 0)),
-            (End, ("tag", 0x5, 0)),
-        ],
-        ..RUN
-    },
-    // The closed table returns the threads that are left in the order of their contexts.
-    TableRun {
-        cores: 2,
-        rows: &[
-            (Post(1, 5), ("id", 56, 0)),
-            (Post(0, 6), ("id", 0, 0)),
-            (Post(1, 7), ("id", 57, 0)),
-            (Take(1, 0), ("id", 56, 0)),
-            (End, ("tag", 0x5, 0)),
-        ],
-        left: Some(&[(0, 0, 6), (57, 0, 7)]),
-        ..RUN
-    },
+    "new 2 56 | post 1 5 = id 56 0 | move 1 0 = moved | mark 56 = word 0x1 | mark 0 = word 0x400 | move 0 0 = moved \
+    | mark 56 = word 0x401 | mark 0 = word 0x0 | look 0 = word 0x0 | look 1 = word 0x100000000000001 \
+    | close 0 = word 0x0 | move 1 0 = no-room 0x4000000000000000 | take 1 0 = id 56 0 | end = tag 5",
     // A thread whose context doesn't exist is reported as gone.
-    TableRun {
-        rows: &[(Wake(56, 0), ("gone", 0, 0))],
-        ..RUN
-    },
+    "new 1 56 | wake 56 0 = gone",
 ];
 
-/// Makes each run on a table of this form.
+/// `close` must return the thread in context 0 first.
+const LEFT: &str =
+    "new 2 56 | post 1 5 = id 56 0 | post 0 6 = id 0 0 | post 1 7 = id 57 0 | take 1 0 = id 56 0 | end = tag 5";
+
 pub(super) fn give<C: Contexts<TagOnly> + Drop, R: Wait>(
     rt: &R,
     alloc: Global,
 ) -> Result<(), Fail> {
-    for run in RUNS {
-        take::<C, R>(rt, alloc, run)?;
+    for row in ROWS {
+        follow::<C, R>(rt, alloc, row)?;
     }
-    Ok(())
+    let left = follow::<C, R>(rt, alloc, LEFT)?;
+    let [(first, six), (second, seven)] = left.as_slice() else {
+        return Err("not two threads are left".into());
+    };
+    same(("tag", six.0, seven.0), ("tag", 6, 7))?;
+    same(told_id(*first), ("id", 0, 0))?;
+    same(told_id(*second), ("id", 57, 0))
 }

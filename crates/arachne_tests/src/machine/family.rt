@@ -11,20 +11,18 @@ use arachne_machine::{
 };
 use std::alloc::Global;
 
-/// The greatest number of attempts of one call, and of calls in one run.
 const MOST: u64 = 100_000;
 
-/// The way in which a test runs children: inside their parent's slot from some time on, or as threads of their own.
 #[derive(Clone, Copy, Debug, PartialEq, Eq)]
 pub(super) enum Way {
-    /// Each child runs inside its parent's slot, into which the test puts it when it is forked.
+    /// Each child runs inside its parent's slot as soon as it is forked.
     AtFork,
-    /// Each child runs inside the slot of the thread that awaits it, into which the test puts it when it is joined.
+    /// Each child runs inside the slot of the thread that awaits it, from the time of the join.
     AtJoin,
     /// Each child runs as a thread of its own, and is joined after it has ended.
     Alone,
-    /// Like `Alone`, but only for exclusive children (which want a core for themselves). Others begin inside their
-    /// parent's slot at once.
+    /// An exclusive child (one that wants a core for itself) runs as a thread of its own, and any other as for
+    /// `AtFork`.
     AloneIfExclusive,
 }
 
@@ -40,8 +38,7 @@ impl Placing for Way {
     }
 }
 
-/// A run: the way of its children, the budget of each call, and its memory. Records the number of used budgets, the sum
-/// of the tags that asked for a lock, and the tag of the next child that is handed back at its fork.
+/// One run of a program: how its children run, the number of steps of each call, and its memory.
 #[derive(Drop)]
 pub(super) struct Round {
     way: Way,
@@ -53,18 +50,18 @@ pub(super) struct Round {
 }
 
 impl Round {
-    pub(super) fn new(way: Way, budget: u32) -> Round {
+    /// `first` is the first tag of a child that begins inside its parent's slot.
+    pub(super) fn new(way: Way, budget: u32, first: u64) -> Round {
         Round {
             way,
             budget,
             memory: Memory::ample(),
             budgets: 0,
             asked: 0,
-            next: 10,
+            next: first,
         }
     }
 
-    /// Records that the thread with this tag (number in the run) has paused, and why.
     fn hear(&mut self, pause: &Pause, tag: u64) {
         match pause {
             Pause::Budget => self.budgets = self.budgets.wrapping_add(1),
@@ -73,7 +70,6 @@ impl Round {
         }
     }
 
-    /// Returns the tag (number) for the next child, and increments it.
     fn next_tag(&mut self) -> u64 {
         let next = self.next;
         self.next = next.wrapping_add(1);
@@ -84,7 +80,7 @@ impl Round {
 /// The threads, children and outcomes (results) of a run, in lists that have room for all of them.
 ///
 /// Each of `threads` but the last waits for a child, and the last runs. The threads in `children` were forked and have
-/// not begun. `outcomes` has the outcome that must be joined next.
+/// not begun.
 #[derive(Drop)]
 struct Family<'p> {
     threads: Vec<Thread<'p>>,
@@ -100,15 +96,14 @@ fn make_family<'p>(alloc: Global) -> Option<Family<'p>> {
     })
 }
 
-/// Returns whether two programs are the same.
 fn are_same(some: &Program, other: &Program) -> bool
     ensures { IsTrue result → source_of some.now ≡ source_of other.now }
 {
     *some == *other
 }
 
-/// Puts a child inside its parent's slot, with the next tag (number). Tries once more if memory is refused. Returns
-/// true if one of the attempts has succeeded.
+/// Puts a child inside its parent's slot, with the next tag (number). Returns true if this succeeds, at the second
+/// attempt if memory is refused.
 fn place<'p>(thread: &mut Thread<'p>, child: Thread<'p>, round: &mut Round) -> bool
     requires forks { pending_in thread.old ≡ Some pause.Forks }
     requires child { IsChildOf thread.old child }
@@ -128,10 +123,10 @@ fn place<'p>(thread: &mut Thread<'p>, child: Thread<'p>, round: &mut Round) -> b
     }
 }
 
-/// Runs a thread to its next pause. If the thread forks a child, puts the child inside the thread's slot at once.
+/// Runs a thread to its next pause, and puts the child inside its slot if it has forked one.
 ///
-/// Returns false if `round.budget` is 0, if the thread is at a pause that was not answered, or if the child can't be
-/// put there.
+/// Returns false if `round.budget` is 0, if the test has not answered the last pause, or if the child can't be put
+/// there.
 fn go_on_in_place(thread: &mut Thread, round: &mut Round) -> bool {
     if round.budget == 0 || thread.pending().is_some() {
         return false;
@@ -147,10 +142,10 @@ fn go_on_in_place(thread: &mut Thread, round: &mut Round) -> bool {
     }
 }
 
-/// Runs a thread to its next pause. If the thread forks a child, adds the child to `children`.
+/// Runs a thread to its next pause, and adds the child to `children` if it has forked one.
 ///
-/// Returns false if `round.budget` is 0, if the thread is at a pause that was not answered, or if there is no memory
-/// for the child.
+/// Returns false if `round.budget` is 0, if the test has not answered the last pause, or if there is no memory for the
+/// child.
 fn go_on_apart<'p>(
     alloc: Global,
     thread: &mut Thread<'p>,
@@ -172,7 +167,7 @@ fn go_on_apart<'p>(
     }
 }
 
-/// Answers a pause that concerns no other thread, so that the thread can continue.
+/// Answers a thread's request, such as for a lock, if the request concerns no other thread.
 fn answer(thread: &mut Thread) {
     match thread.pending() {
         Some(Pending::Asks(_)) => thread.granted(),
@@ -214,8 +209,8 @@ fn begin<'p>(thread: &mut Thread<'p>, children: &mut Vec<Thread<'p>>, round: &mu
     }
 }
 
-/// Gives the outcome (result) of a child to the thread that awaits it. Returns false if the thread awaits no outcome,
-/// or the outcome is of another program.
+/// Gives a child's outcome (result) to the thread that awaits it. Returns false if the thread awaits no outcome, or the
+/// outcome is of another program.
 ///
 /// If memory is refused, puts the outcome back among `outcomes`.
 fn join<'p>(
@@ -240,8 +235,7 @@ fn join<'p>(
     }
 }
 
-/// Makes the newest child a thread of its own, instead of running it inside its parent's slot. Returns false if there
-/// is no child or memory is refused.
+/// Returns false if there is no child or memory is refused.
 fn begin_apart(family: &mut Family) -> bool {
     match family.children.pop() {
         Some(child) => family.threads.push(child).is_ok(),
@@ -249,8 +243,7 @@ fn begin_apart(family: &mut Family) -> bool {
     }
 }
 
-/// Starts the child that is awaited, as a thread of its own or inside the slot of the thread that awaits it, as
-/// `round.way` says. Returns false if there is no child, or it can't begin.
+/// Returns false if there is no child, or it can't begin.
 fn await_child(family: &mut Family, round: &mut Round) -> bool {
     if round.way == Way::Alone || round.way == Way::AloneIfExclusive {
         return begin_apart(family);
@@ -266,8 +259,7 @@ fn await_child(family: &mut Family, round: &mut Round) -> bool {
     }
 }
 
-/// Takes the outcome (result) of the last thread of `family`. Returns false if the thread has not ended, or memory is
-/// refused.
+/// Returns false if the last thread has not ended, or memory is refused.
 fn end(family: &mut Family) -> bool {
     let Some(thread) = family.threads.pop() else {
         return false;
@@ -303,7 +295,7 @@ fn step(alloc: Global, family: &mut Family, round: &mut Round) -> bool {
     }
 }
 
-/// Starts the root thread of a program. While memory is refused, tries again with a little more memory each time.
+/// While memory is refused, tries again with a little more memory each time.
 fn start<'p>(alloc: Global, program: &'p Program, round: &mut Round) -> Option<Thread<'p>> {
     for _ in 0..MOST {
         match Thread::start(alloc, program, 9) {
@@ -314,8 +306,7 @@ fn start<'p>(alloc: Global, program: &'p Program, round: &mut Round) -> Option<T
     None
 }
 
-/// Takes an outcome (the result of a thread) apart. While memory is refused, tries again with a little more memory each
-/// time.
+/// While memory is refused, tries again with a little more memory each time.
 fn parts(outcome: Outcome, round: &mut Round) -> Option<OutcomeParts> {
     let mut outcome = outcome;
     for _ in 0..MOST {
@@ -328,8 +319,6 @@ fn parts(outcome: Outcome, round: &mut Round) -> Option<OutcomeParts> {
     None
 }
 
-/// Makes calls on the threads of `family` until the root has ended. Returns the parts of the root's outcome (its
-/// result).
 fn run(alloc: Global, family: &mut Family, round: &mut Round) -> Option<OutcomeParts> {
     for _ in 0..MOST {
         round.memory.begin_call()?;
@@ -343,7 +332,7 @@ fn run(alloc: Global, family: &mut Family, round: &mut Round) -> Option<OutcomeP
     None
 }
 
-/// Runs a program, whose root has the tag (number) 9, and returns the parts of the root's outcome (its result).
+/// Runs a program, and returns the parts of the root's outcome.
 ///
 /// If `is_short` is true, no memory is free when each call begins.
 pub(super) fn parts_of(

@@ -4,14 +4,12 @@ use super::first_wrong;
 use arachne_shortage::Hoard;
 use std::alloc::Global;
 
-/// The number of bytes that the test frees after the growth of a list was refused: so few that the next growth in the
-/// same call is refused too.
+/// The number of bytes that the test frees after a list could not grow: so few that the next growth is refused too.
 const FEW: usize = 40;
 
 /// A number of bytes that is enough for any one growth of a list.
 const MANY: usize = 20_000;
 
-/// The memory of a test's run: how often memory was refused, and whether it was in the last call.
 #[derive(Drop)]
 pub(super) struct Memory {
     hoard: Option<Hoard>,
@@ -20,7 +18,6 @@ pub(super) struct Memory {
 }
 
 impl Memory {
-    /// Returns the memory of a test that has taken no memory from the process.
     pub(super) fn ample() -> Memory {
         Memory {
             hoard: None,
@@ -29,14 +26,14 @@ impl Memory {
         }
     }
 
-    /// Takes all memory that the process can get, until the test frees it. Returns `None` if even that needs more
-    /// memory.
+    /// Takes all memory that the process can get.
+    ///
+    /// Returns `None` if even that needs more memory.
     pub(super) fn use_up(&mut self, alloc: Global) -> Option<()> {
         self.hoard = Some(Hoard::take(alloc).ok()?);
         Some(())
     }
 
-    /// Frees all memory that the test has taken from the process.
     pub(super) fn give_all_back(&mut self) {
         self.hoard = None;
     }
@@ -49,12 +46,12 @@ impl Memory {
         }
     }
 
-    /// Frees a little memory, after a list could not grow for lack of memory.
+    /// Frees a little memory after a refusal.
     pub(super) fn spare(&mut self) {
         self.give_back(FEW);
     }
 
-    /// Frees enough memory for one list to grow, after a list could not grow for lack of memory.
+    /// Frees enough memory for one list to grow.
     pub(super) fn spare_much(&mut self) {
         self.give_back(MANY);
     }
@@ -68,7 +65,6 @@ impl Memory {
         self.take_again()
     }
 
-    /// Takes again the memory that was freed.
     pub(super) fn take_again(&mut self) -> Option<()> {
         if let Some(hoard) = &mut self.hoard {
             hoard.take_again().ok()?;
@@ -76,7 +72,6 @@ impl Memory {
         Some(())
     }
 
-    /// Returns how often a list could not grow for lack of memory.
     pub(super) fn refused(&self) -> u64 {
         self.refused
     }

@@ -4,7 +4,6 @@ use arachne_lang::Name;
 use arachne_machine::{LineView, OutcomeParts, Ran};
 use std::alloc::Global;
 
-/// Returns the numbers of which a thread's name consists.
 fn numbers(alloc: Global, name: &Name) -> Option<Vec<u64>> {
     let mut numbers = Vec::new(alloc);
     for k in 0..name.len() {
@@ -13,8 +12,6 @@ fn numbers(alloc: Global, name: &Name) -> Option<Vec<u64>> {
     Some(numbers)
 }
 
-/// Returns a text of a thread: its name, its tag (number), a letter for the way in which it ran, and how often it held
-/// each lock.
 fn told_line(alloc: Global, line: LineView<'_>) -> Option<String> {
     let mark = match line.ran() {
         Ran::Slot => "-",
@@ -26,7 +23,6 @@ fn told_line(alloc: Global, line: LineView<'_>) -> Option<String> {
     format!(in alloc; " {name:?}{tag}{mark}{holds:?}").ok()
 }
 
-/// Returns an outcome as a text: its value, its sums, and each thread.
 pub(super) fn told(alloc: Global, parts: &OutcomeParts) -> Option<String> {
     let (value, sums) = (parts.value, parts.sums.as_slice());
     let mut text = format!(in alloc; "{value} {sums:?}").ok()?;

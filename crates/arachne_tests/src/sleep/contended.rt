@@ -11,24 +11,21 @@ use std::alloc::Global;
 use std::thread;
 use std::thread::Threads;
 
-/// The number of times that each kernel thread holds each lock.
 const ROUNDS: usize = 10_000;
 
-/// The greatest number of polls that a thread makes.
 const MOST_POLLS: u64 = 100_000_000;
 
-/// Lets other kernel threads run, and counts a poll. Returns `None` if the thread has made too many polls.
+/// Counts a poll, and returns `None` after too many.
 fn poll(polls_left: &mut u64) -> Option<()> {
     *polls_left = polls_left.checked_sub(1)?;
     thread::yield_now();
     Some(())
 }
 
-/// The indexes of a thread's grants, alternately in the history of the first lock and in that of the second.
+/// The indexes of a thread's grants in the histories of the first and of the second lock, alternately.
 type Places = Option<Vec<usize>>;
 
-/// Returns whether the first, third, fifth and so on of `places` are indexes of grants to `who` in `history`, in
-/// ascending order.
+/// Returns true if every other one of `places`, from the first, is the index of a grant to `who`, in ascending order.
 fn are_grants_in_order(history: &[LockEvent], who: Who, places: &[usize]) -> bool {
     let mut least = 0usize;
     for &at in places.iter().step_by(2) {
@@ -40,7 +37,6 @@ fn are_grants_in_order(history: &[LockEvent], who: Who, places: &[usize]) -> boo
     true
 }
 
-/// Asks for a lock, and polls until this thread holds it. Returns the index of the grant in the lock's history.
 fn enter_one(
     locks: &SleepLocks,
     seats: &mut LockSeats,
@@ -68,7 +64,6 @@ fn enter_one(
     None
 }
 
-/// Frees a lock. Returns `None` if this thread didn't hold the lock, or after too many polls.
 fn leave_one(
     locks: &SleepLocks,
     seats: &mut LockSeats,
@@ -89,7 +84,6 @@ fn leave_one(
     None
 }
 
-/// Holds each of two locks `ROUNDS` times, alternately. Returns the indexes of the grants in the locks' histories.
 fn hold_each(alloc: Global, locks: &SleepLocks, seats: &mut LockSeats, who: Who) -> Places
     requires own { AreSeatsOf locks.now seats.old }
     requires two { 1 < length locks.now }
@@ -121,8 +115,6 @@ fn work_on_each(
     (seats, places)
 }
 
-/// Runs two kernel threads, A and B, that contend for two locks. Returns the joined seats (rights to use the locks),
-/// and the indexes of A's grants and of B's.
 fn contend_for_each<R: Threads + Sync>(
     rt: &R,
     alloc: Global,
@@ -142,16 +134,14 @@ fn contend_for_each<R: Threads + Sync>(
     Some((locks.join_seats(own, theirs), of_a, of_b))
 }
 
-/// Returns whether each of the histories of two locks has `ROUNDS` grants to the thread `who`, at the indexes in
-/// `places`.
+/// Returns true if each history has `ROUNDS` grants to `who`, at the indexes in `places`.
 fn tell_of(first: &[LockEvent], second: &[LockEvent], who: Who, places: &[usize]) -> bool {
     places.len() == 2 * ROUNDS
         && are_grants_in_order(first, who, places)
         && are_grants_in_order(second, who, &places[1..])
 }
 
-/// Returns whether the histories of two locks have all the grants that A and B saw, and no other events than requests
-/// and releases.
+/// Returns true if the histories have exactly the grants that A and B saw, and their requests and releases.
 fn tell_all(first: &[LockEvent], second: &[LockEvent], of_a: &[usize], of_b: &[usize]) -> bool {
     tell_of(first, second, A, of_a)
         && tell_of(first, second, B, of_b)
@@ -159,7 +149,6 @@ fn tell_all(first: &[LockEvent], second: &[LockEvent], of_a: &[usize], of_b: &[u
         && second.len() == 6 * ROUNDS
 }
 
-/// Returns whether, according to the histories, A and B have each held each lock `ROUNDS` times.
 fn each_had_its_turns<R: Threads + Sync>(rt: &R, alloc: Global) -> Option<bool> {
     let (locks, seats) = SleepLocks::new(alloc, 2).ok()?;
     let (seats, of_a, of_b) = contend_for_each(rt, alloc, &locks, seats)?;

@@ -1,4 +1,4 @@
-//! Tests of a set of several locks: each call once, and the order of the locks' histories.
+//! Tests of a set of several locks: each call once, and that closing the set returns the locks' histories in order.
 ghost use Rattle.std.specs.Prelude.{◌<◌, length};
 ghost use Rattle.arachne_sleep.specs.SleepLocks.{AreSeatsOf};
 
@@ -8,7 +8,6 @@ use arachne_sleep::{
 };
 use std::alloc::Global;
 
-/// An act of a thread at a lock in a test: it asks, checks or frees.
 #[derive(Clone, Copy)]
 enum Call {
     Ask,
@@ -16,13 +15,11 @@ enum Call {
     Free,
 }
 
-/// The result of a call: its name, the index in the history, and the next thread.
+/// The name of a call's result, the index of the event in the lock's history (or 0), and the next holder, if any.
 type Answer = (&'static str, usize, Option<Who>);
 
-/// Calls, each with its thread and its result.
 type Rows = &'static [(Call, Who, Answer)];
 
-/// Three threads ask for the lock: one gets it, and two wait. Each thread frees the lock once it has it.
 const ROWS: Rows = &[
     (Call::Ask, A, ("granted", 1, None)),
     (Call::Ask, B, ("queued", 2, None)),
@@ -39,7 +36,6 @@ const ROWS: Rows = &[
     (Call::Check, C, ("no pass", 0, None)),
 ];
 
-/// The history after the calls of `ROWS`.
 const WHOLE: &[LockEvent] = &[
     LockEvent::Ask(A),
     LockEvent::Grant(A),
@@ -52,8 +48,8 @@ const WHOLE: &[LockEvent] = &[
     LockEvent::Free(C),
 ];
 
-/// Makes a call on a lock, and returns its result. Returns `None` if another kernel thread was using the lock, memory
-/// was refused, or a pass is not one of this lock for this thread.
+/// Returns `None` if another kernel thread was using the lock, memory was refused, or a pass is of another lock or
+/// thread.
 fn called(
     locks: &SleepLocks,
     seats: &mut LockSeats,
@@ -90,8 +86,7 @@ fn called(
     }
 }
 
-/// Makes each call on lock 2 in turn. Returns the number, from 0, of the first call with a wrong result, if there is
-/// one.
+/// Returns the index of the first call with a wrong result, if there is one.
 fn first_wrong(locks: &SleepLocks, seats: &mut LockSeats) -> Option<usize>
     requires own { AreSeatsOf locks.now seats.old }
     requires lock { 2 < length locks.now }
@@ -106,7 +101,6 @@ fn first_wrong(locks: &SleepLocks, seats: &mut LockSeats) -> Option<usize>
     None
 }
 
-/// Returns whether `history` consists of `events`.
 fn has_events(history: &History, events: &[LockEvent]) -> bool {
     history.len() == events.len()
         && history
@@ -115,7 +109,7 @@ fn has_events(history: &History, events: &[LockEvent]) -> bool {
             .all(|(event, wanted)| event == *wanted)
 }
 
-/// Returns whether only the last of three histories, that of lock 2, has events, and whether these are `WHOLE`.
+/// Returns true if only the history of lock 2, on which the calls were made, has events, and these are `WHOLE`.
 fn is_of_the_last(histories: &[History]) -> bool {
     histories.len() == 3
         && histories[0].is_empty()
@@ -123,7 +117,6 @@ fn is_of_the_last(histories: &[History]) -> bool {
         && has_events(&histories[2], WHOLE)
 }
 
-/// Makes three locks, makes calls on one of them, and returns the histories of all three.
 fn histories(alloc: Global) -> Option<Vec<History>> {
     let (locks, mut seats) = SleepLocks::new(alloc, 3).ok()?;
     if locks.count() != 3 || first_wrong(&locks, &mut seats).is_some() {
@@ -144,7 +137,7 @@ fn each_call_on_three_locks(rt: HostRuntime) {
     assert!(rt; are_right(rt.alloc()));
 }
 
-/// Closes the locks. Returns their histories, if all seats were joined.
+/// Returns the locks' histories, if all seats were joined.
 pub(super) fn closed(alloc: Global, locks: SleepLocks, seats: LockSeats) -> Option<Vec<History>>
     requires { AreSeatsOf locks seats }
 {

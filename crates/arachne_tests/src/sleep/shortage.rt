@@ -1,20 +1,17 @@
-//! Tests of a lock if memory for its asks is refused, and of a lock with a long history.
+//! Tests of a lock while memory for the threads that ask for it is refused, and of a lock with a long history.
 use super::{A, B, thread};
 use arachne_shortage::Hoard;
 use arachne_sleep::{AskFault, LockState};
 use std::alloc::AllocError;
 
-/// The number of bytes that the test frees after the growth of a list was refused: so few that the next growth in the
-/// same call is refused too.
+/// The number of bytes that the test frees after a list could not grow: so few that the next growth is refused too.
 const FEW: usize = 40;
 
-/// The greatest number of times that one thread asks for the lock.
 const TRIES: u64 = 100_000;
 
-/// The number of threads in the crowd, all of which ask for one lock.
 const CROWD: u64 = 900;
 
-/// Asks until there is memory, and returns the number of refusals, if each left the lock as it was.
+/// Returns the number of refusals, or `None` if one of them changed the lock.
 fn asks_at_last(lock: &mut LockState, tag: u64, hoard: &mut Hoard) -> Option<u64> {
     let (who, before) = (thread(tag, 0), lock.history().len());
     for refused in 0..TRIES {
@@ -30,10 +27,9 @@ fn asks_at_last(lock: &mut LockState, tag: u64, hoard: &mut Hoard) -> Option<u64
     None
 }
 
-/// Asks for the lock, without memory, for each thread of the crowd, and then frees it for each in turn, which needs no
-/// memory.
+/// Returns the number of requests that were refused memory.
 ///
-/// Returns the number of refused requests.
+/// To free the lock needs no memory, so it must succeed for each thread.
 fn comes_and_leaves(lock: &mut LockState, hoard: &mut Hoard) -> Option<u64> {
     let mut refused = 0u64;
     for tag in 0..CROWD {
@@ -58,7 +54,6 @@ fn a_wanted_lock_stays_as_it_was(rt: HostRuntime) -> Result<(), AllocError> {
     Ok(())
 }
 
-/// Lets A get the lock and B wait for it, and then each of them free it. Returns whether all calls succeeded.
 fn passes(lock: &mut LockState) -> bool {
     lock.ask(A).is_ok() && lock.ask(B).is_ok() && lock.free(A).is_ok() && lock.free(B).is_ok()
 }

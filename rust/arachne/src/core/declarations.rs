@@ -1,5 +1,4 @@
-// The declarations of `arachne_exec.h`, written by hand in Rust. `tests/header.rs` compares their names, codes, layouts
-// and signatures with the header.
+// The declarations of the header `arachne_exec.h`. `tests/header.rs` compares them with it.
 use std::ffi::c_void;
 
 pub(crate) const ARACHNE_DONE: u32 = 0;

@@ -1,29 +1,28 @@
-//! The proved core: each call is one of the functions of `libarachne_exec_c.a`, as `arachne_exec.h` declares them.
+//! The proved core: its methods call the functions of `libarachne_exec_c.a`, as `arachne_exec.h` declares them.
 //!
-//! The proofs apply to a program only if these rules are kept. The text behind each colon says how this crate keeps the
-//! rule:
+//! The proofs apply to a program only if these rules are kept. After each rule comes how this crate keeps it:
 //!
 //! - *A handle is null at first, only the library writes its pointer, and it is never copied*: `Handle` is made by
 //!   `Handle::empty`, moved and never cloned.
-//! - *One thread at a time uses a handle*: no call of the library calls back, and each type that contains a handle is
-//!   `Send` and not `Sync`, except `Crew`. A worker that steals a job from another's local queues gets the job's handle
-//!   along with it (`hand.rs`).
+//! - *One thread at a time uses a handle*: no function of the library calls back into this crate, and each type that
+//!   contains a handle is `Send` and not `Sync`, except `Crew`. A worker that steals a job also gets the job's handle
+//!   (`hand.rs`).
 //! - *Two handles in one call come from one executor*: `Root` splits and joins only its own handles.
 //! - *Pointers are not null*: all are made from references.
 //! - *The declarations agree with the archive*: `tests/header.rs` compares each code, field and signature.
 //! - *A task's pointer is made, used and freed once*: `task.rs` keeps this rule.
-//! - *A table of jobs outlives all wakers*: it is never freed. A later runtime of the same size uses it again, and
-//!   continues its generation counts.
+//! - *A table of jobs outlives all wakers*: it is never freed. A later runtime of the same size uses the table again,
+//!   and each slot's count of ended jobs (its generation) goes on.
 //! - *If a call asks to wake a worker (`unpark`), that worker is woken*: a worker sleeps in the epoll, whose event
 //!   stays raised until a waiter has seen it, or on its condition variable (`Bell`), whose flag stays set. The caller
-//!   looks up the worker only after the call that has returned `unpark`.
+//!   reads how to wake the worker of this number (a `Bell` or an epoll) only after the call has returned the number.
 //! - *No panic crosses a call of the library*: panics of tasks are caught, and a panic of a worker's loop aborts.
 //! - *No call from a signal handler or after a fork*: this crate makes none; a program must use no waker there.
 //! - *`malloc`, `realloc` and `free` are of one allocator*: the C library's; a program that replaces one must replace
 //!   all three.
 //!
-//! A handle, called a *seat* here, holds at most one job, so a thread has several seats. A thread that steals a job
-//! also gets the job's seat, and uses it until the job is put back.
+//! A handle, called a *seat* here, holds at most one job, so a thread has several handles. A thread that steals a job
+//! also uses the job's seat until it puts the job back.
 
 use super::{Asked, Freed, Job, Line, Rested, Spawned, Woken, BLOCK, MOST_SHARDS, NUMBERS};
 use crate::cores::{Advice, Sample};
@@ -32,7 +31,6 @@ use crate::sync::{Arc, Mutex};
 use std::cell::{Cell, RefCell, UnsafeCell};
 use std::ptr;
 
-/// The declarations of the header `arachne_exec.h`; `tests/header.rs` compares them with the header.
 #[path = "declarations.rs"]
 #[allow(non_camel_case_types, dead_code)]
 mod declarations;
@@ -71,19 +69,15 @@ impl Drop for Handle {
 /// A runtime's executor in the proved library, from which threads get their seats (library handles).
 pub(crate) struct Root(Handle);
 
-/// The most seats (library handles) of one thread that other threads may use at a time, with the jobs that they have
-/// stolen from it. The thread keeps its other seats for itself.
+/// The most jobs stolen from one thread that other threads may have at a time.
 const AWAY: u64 = 24;
 
-/// The seats (library handles) of all threads that steal jobs from each other. Each thread has `each` seats.
 struct Crew {
     seats: Box<[Handle]>,
     each: usize,
     members: Box<[Line<Member>]>,
 }
 
-/// How other threads use one thread's seats (library handles). `laid` is a bit mask of the seats that others have given
-/// back; `away` is the number of seats that others still use.
 #[derive(Default)]
 struct Member {
     laid: AtomicU64,
@@ -95,27 +89,22 @@ struct Member {
 // until it puts the job back and sets the seat's bit in `laid`; reading that bit gives the seat back to the owner.
 unsafe impl Sync for Crew {}
 
-/// A thread's seats (library handles). The first is for calls that neither take a job nor put one back; each other seat
-/// is for one job that the thread may hold.
+/// A thread's seats (library handles): one for calls that neither take a job nor put one back, and one for each job
+/// that the thread may have at a time.
 pub(crate) struct Hands {
     crew: Arc<Crew>,
     me: usize,
-    /// A bit mask of the seats (library handles) that hold no job.
     free: Cell<u64>,
-    /// For each seat (library handle), the slot at which its next search of a block for a ready job starts. The library
-    /// stores this index with the seat, not with the thread.
     from: Vec<Cell<u32>>,
-    /// The seat (library handle) that this thread uses for sweeps, which take all ready jobs of a block in turn.
     sweeps: Cell<usize>,
 }
 
-/// The library handle with which a worker asks if it may sleep. It is for all shards (of 4,096 task slots each) that
-/// have the same index modulo 64.
+/// A library handle by which a worker asks whether it may sleep. It speaks for some of the worker's task slots: the
+/// shards (4,096 slots each) with one index modulo 64.
 pub(crate) struct Parking(Handle);
 
 impl Root {
-    /// Returns an executor of `shards` shards (of 64 blocks of 64 task slots), at most 256. Returns None if memory is
-    /// refused.
+    /// Returns an executor of `shards` shards (4,096 task slots each); None for more than 256, or if memory is refused.
     pub(crate) fn new(shards: usize) -> Option<Root> {
         let handle = Handle::empty();
         // SAFETY: a handle that is null, as the call requires.
@@ -123,8 +112,7 @@ impl Root {
         made.then(|| Root(handle))
     }
 
-    /// Returns the seats (library handles) for `threads` threads. Each thread may then hold up to `most` jobs at a
-    /// time. Returns None if memory is refused. The caller must pass a `most` below 64.
+    /// Returns each thread's seats (library handles), for at most `most` (below 64) jobs; None if memory is refused.
     pub(crate) fn crew(&mut self, threads: usize, most: usize) -> Option<Vec<Hands>> {
         let each = 1 + most;
         let seats = (0..threads * each).map(|_| self.0.split()).collect::<Option<Box<[_]>>>()?;
@@ -139,8 +127,8 @@ impl Root {
         Some((0..threads).map(hands).collect())
     }
 
-    /// Takes back a thread's seats (library handles), which must hold no job. Only the call for the last thread of a
-    /// crew (the threads of one call of `crew`) gives the handles of all of them back to the library.
+    /// Takes back a thread's seats (library handles), which must hold no job. The library gets them once this was
+    /// called for each thread that one call of `crew` has made seats for.
     pub(crate) fn join(&mut self, hands: Hands) {
         for seat in Arc::try_unwrap(hands.crew).map_or(Box::default(), |crew| crew.seats).iter() {
             // SAFETY: two handles of one origin.
@@ -149,8 +137,6 @@ impl Root {
         }
     }
 
-    /// Returns the handle with which the worker of the shards whose index modulo 64 is `number` asks if it may sleep.
-    /// Returns None if memory is refused.
     pub(crate) fn parking(&mut self, number: usize) -> Option<Parking> {
         let seat = self.0.split()?;
         // SAFETY: a handle that only this thread uses now.
@@ -160,11 +146,8 @@ impl Root {
 }
 
 impl Parking {
-    /// Returns true if this worker may sleep. Then its idle bit is set: whoever makes one of its jobs ready must wake
-    /// it. The summary words were found empty after the bit was set.
-    ///
-    /// This calls the library's `next`, which also clears the summary bits of empty blocks. If `next` finds a ready
-    /// job, it takes it; this function then makes the job ready again, and returns false.
+    /// Returns true if no task is ready in the shards (4,096 task slots each) of this handle, so that the worker may
+    /// sleep. A thread that makes one of these tasks ready from now on must wake the worker.
     pub(crate) fn park(&self) -> bool {
         // SAFETY: a handle that only this thread uses now.
         let told = unsafe { arachne_exec_next(self.0.at()) };
@@ -183,14 +166,12 @@ impl Parking {
         }
     }
 
-    /// Clears the idle bit that `park` has set, because the worker is awake and needs no wake.
     pub(crate) fn wake_up(&self) {
         // SAFETY: a handle that only this thread uses now.
         unsafe { arachne_exec_wake_up(self.0.at()) };
     }
 }
 
-/// Returns a bit mask of the slots of a block from `from` through `to`, wrapping around after the last slot.
 #[inline]
 fn round(from: u32, to: u32) -> u64 {
     let (ahead, until) = (u64::MAX << from, u64::MAX >> (BLOCK as u32 - 1 - to));
@@ -201,7 +182,6 @@ fn round(from: u32, to: u32) -> u64 {
     }
 }
 
-/// Returns the index of the thread that owns `seat` (a library handle), and the seat's index among that thread's seats.
 #[inline]
 fn owner(seat: u16) -> (usize, usize) {
     (seat as usize >> 6, seat as usize & 63)
@@ -219,17 +199,14 @@ impl Hands {
         self.crew.seats[owner * self.crew.each + which].at()
     }
 
-    /// Returns the seat (library handle) that is reserved for calls that neither take a job nor put one back.
+    /// Returns the seat (library handle) for calls that neither take a job nor put one back.
     #[inline]
     fn any(&self) -> *mut arachne_exec {
         self.crew.seats[self.me * self.crew.each].at()
     }
 
-    /// Records that this thread has stolen `job` from the thread `of`. From now on this thread uses the seat (library
-    /// handle) that holds the job.
-    ///
-    /// Returns false if other threads already use `AWAY` seats of the thread `of`. Then the caller must make the job
-    /// ready at once, which gives the seat back to `of`.
+    /// Records that this thread has stolen `job` from the thread `of`, and from now on uses the job's seat. Returns
+    /// false if other threads already use `AWAY` seats of `of`; the caller must then make the job ready.
     pub(crate) fn gets(&self, job: &Job, of: usize) -> bool {
         let owner = owner(job.seat).0;
         let away = &self.crew.members[owner].0.away;
@@ -239,8 +216,8 @@ impl Hands {
         owner != of || away.fetch_add(1, Relaxed) < AWAY
     }
 
-    /// Puts a new job into a free slot of the block `block`. If `keep` is true, this thread then holds the job;
-    /// otherwise the job is ready.
+    /// Puts the new job `job` into a free slot of `block`, ready for any worker. If `keep` is true, and one of this
+    /// thread's seats holds no job, this thread takes the job with it, so that no other worker can.
     #[inline]
     pub(crate) fn spawn(&self, block: usize, job: u64, keep: bool) -> Spawned {
         let own = if keep { self.last_free() } else { None };
@@ -268,25 +245,21 @@ impl Hands {
         }
     }
 
-    /// Marks a job that this thread holds as running. Does nothing here: only the other implementation (`model.rs`)
-    /// needs the call.
+    /// Does nothing: only the stand-in `model.rs` needs this call.
     #[inline]
     pub(crate) fn begin(&self, _job: &Job) {}
 
-    /// Takes one ready job of the block `block` (64 task slots). Returns None if no job of the block is ready, and
-    /// perhaps also if another thread takes a job at the same time.
+    /// Takes a ready job of `block` (64 task slots). Returns None if no job there is ready, if all seats (library
+    /// handles) of this thread hold a job, or if another thread took the job first.
     #[inline]
     pub(crate) fn take_any(&self, block: usize) -> Option<Job> {
         self.take(self.last_free()?, block)
     }
 
-    /// Takes the next ready job of the slots in `wanted`, a bit mask of slots of the block `block`. It is for a sweep,
-    /// one pass over these slots.
-    ///
-    /// A job that became ready after the sweep of the block began may be taken before these. Each slot that the search
-    /// passes is cleared in `wanted`, so a job that becomes ready again and again doesn't keep others waiting. A sweep
-    /// uses one seat (library handle) for all its jobs, if that seat is free: the library stores with each seat the
-    /// slot at which its next search starts, so several seats would search the same slots again.
+    /// Takes the next ready job of `block`, and clears in `wanted`, a bit mask of slots, all slots up to the job's. So
+    /// a caller that begins with all ready slots and stops at 0 gets each of their jobs once, even if some become ready
+    /// again. All these calls use one seat (library handle) if it is free: the library searches on from where that
+    /// seat's last search ended.
     #[inline]
     pub(crate) fn take_next(&self, block: usize, wanted: &mut u64) -> Option<Job> {
         let seat = self.sweeping()?;
@@ -312,29 +285,26 @@ impl Hands {
         None
     }
 
-    /// Returns a bit mask of the slots of the block `block` that have a ready job.
+    /// Returns a bit for each of the 64 task slots of `block`, set if the slot's job is ready.
     #[inline]
     pub(crate) fn ready(&self, block: usize) -> u64 {
         // SAFETY: a handle that only this thread uses now.
         unsafe { arachne_exec_ready(self.any(), block) }
     }
 
-    /// Returns a bit mask of the blocks (of 64 task slots) of the shard `shard` that may have ready jobs.
+    /// Returns a bit for each of the 64 blocks (64 task slots each) of `shard`, set if the block may have a ready job.
     #[inline]
     pub(crate) fn shown(&self, shard: usize) -> u64 {
         // SAFETY: a handle that only this thread uses now.
         unsafe { arachne_exec_shown(self.any(), shard) }
     }
 
-    /// Does nothing, and returns true. (An empty block keeps its bit in the summary word until `Parking::park` clears
-    /// it.)
+    /// Does nothing: `Parking::park` clears the bit of a block without a ready job in the word that `shown` returns.
     #[inline]
     pub(crate) fn hide(&self, _block: usize) -> bool {
         true
     }
 
-    /// Records that `seat` (a library handle) no longer holds a job. A seat of another thread is given back to that
-    /// thread.
     #[inline]
     fn is_free(&self, seat: u16) {
         let (owner, which) = owner(seat);
@@ -346,8 +316,6 @@ impl Hands {
         member.away.fetch_sub(1, Relaxed);
     }
 
-    /// Returns a bit mask of this thread's seats (library handles) that hold no job. If the thread has none, first
-    /// collects those that other threads have given back.
     #[inline]
     fn free(&self) -> u64 {
         match self.free.get() {
@@ -356,8 +324,6 @@ impl Hands {
         }
     }
 
-    /// Reserves a seat (library handle) for a sweep: that of the last sweep if it is free, else the first free one.
-    /// Returns None if no seat is free.
     #[inline]
     fn sweeping(&self) -> Option<u16> {
         let free = self.free();
@@ -371,7 +337,6 @@ impl Hands {
         Some(self.own(self.sweeps.get()))
     }
 
-    /// Reserves the last free seat (library handle), for a call outside of a sweep. Returns None if no seat is free.
     #[inline]
     fn last_free(&self) -> Option<u16> {
         let free = self.free();
@@ -385,8 +350,8 @@ impl Hands {
         (self.me << 6 | which) as u16
     }
 
-    /// Puts back a job that this thread holds, so that it is ready. Returns true if the caller must wake the worker
-    /// that owns the job's slot.
+    /// Makes the job ready again, for any worker. Returns true if the worker that owns the job's slot sleeps, and the
+    /// caller must wake it.
     #[inline]
     pub(crate) fn rest_ready(&self, job: &Job) -> bool {
         // SAFETY: a handle that only this thread uses now.
@@ -398,8 +363,6 @@ impl Hands {
         told.unpark != ARACHNE_NOBODY
     }
 
-    /// Puts back a job that this thread holds. The job is then blocked until it is woken; if it was woken since it was
-    /// taken, it is ready instead.
     #[inline]
     pub(crate) fn rest_blocked(&self, job: &Job) -> Rested {
         // SAFETY: a handle that only this thread uses now.
@@ -412,7 +375,6 @@ impl Hands {
         }
     }
 
-    /// Ends a job that this thread holds. The library never gives the job's name to another job.
     #[inline]
     pub(crate) fn finish(&self, job: &Job) {
         // SAFETY: a handle that only this thread uses now.
@@ -423,8 +385,8 @@ impl Hands {
         self.is_free(job.seat);
     }
 
-    /// Wakes the job with the name `name` (its slot and generation). If the job was blocked and `keep` is true, the job
-    /// isn't made ready: this thread holds it, and may run it.
+    /// Wakes the job with the identifier `name`. A blocked job becomes ready; if `keep` is true, and a seat (library
+    /// handle) of this thread is free, this thread takes the job instead.
     #[inline]
     pub(crate) fn wake(&self, name: u64, keep: bool) -> Woken {
         let own = if keep { self.last_free() } else { None };
@@ -456,8 +418,7 @@ impl Hands {
 
 // ---------------------------------------------------------------------------------------------- locks
 
-/// The number of locks in a *set*, which is one allocation of the library. A set is made when no lock is left, and
-/// never freed.
+/// The number of locks that one call of the library creates. They are never freed, but used again for later locks.
 const LOCKS: usize = 1024;
 
 struct LockHandle(UnsafeCell<arachne_locks>);
@@ -480,13 +441,11 @@ impl Drop for LockHandle {
 #[derive(Default)]
 struct Sets {
     roots: Vec<LockHandle>,
-    /// The unused locks, each as the index of its set and its index in the set.
     free: Vec<(usize, usize)>,
 }
 
 static SETS: Mutex<Option<Sets>> = Mutex::new(None);
 
-/// This thread's handles of the sets of locks. The index of a handle is that of its set.
 struct LockSeats(Vec<Option<LockHandle>>);
 
 thread_local! {
@@ -516,7 +475,7 @@ fn split_locks(set: usize) -> LockHandle {
     other
 }
 
-/// Returns a number that no other call returns, and that is odd. It serves as a waiter's name in a request for a lock.
+/// Returns a number for a thread or task that requests a lock. The number is odd, and differs at each call.
 fn odd_number() -> u64 {
     static NEXT: AtomicU64 = AtomicU64::new(0);
     ASKED.with(|asked| {
@@ -528,11 +487,10 @@ fn odd_number() -> u64 {
     })
 }
 
-/// A lock without its value. The library knows which task or thread holds the lock, and which wait for it.
 pub(crate) struct LockCore {
     set: usize,
     lock: usize,
-    /// True if somebody probably holds the lock. Then `try_ask` fails without a call of the library.
+    /// True if a thread probably has the lock. `try_ask` then fails without a call of the library.
     held: AtomicBool,
 }
 
@@ -581,7 +539,7 @@ impl LockCore {
         called.unwrap_or_else(|_| call(split_locks(self.set).0.get()))
     }
 
-    /// Repeats a call of the library for as long as it fails because of another thread's call in progress.
+    /// Makes a call on the lock again and again while the library refuses it because another thread is in a call.
     #[inline]
     fn insist(&self, call: impl Fn(*mut arachne_locks) -> arachne_lock_told) -> arachne_lock_told {
         loop {
@@ -593,8 +551,7 @@ impl LockCore {
         }
     }
 
-    /// Takes the lock if it is free. Returns the name (a number) under which the caller then holds the lock, or None if
-    /// the lock isn't free.
+    /// Takes the lock if it is free. Returns the number by which the caller must free it, or None if it wasn't free.
     #[inline]
     pub(crate) fn try_ask(&self) -> Option<u64> {
         if self.held.load(Relaxed) {
@@ -607,7 +564,8 @@ impl LockCore {
         }
     }
 
-    /// Asks for the lock under the name `who` (a number). No other waiter or holder may have that name.
+    /// Requests the lock for the waiter with the number `who`. No other waiter or holder of the lock may have this
+    /// number.
     #[inline]
     pub(crate) fn ask(&self, who: u64) -> Asked {
         // SAFETY: a handle that only this thread uses now.
@@ -621,7 +579,6 @@ impl LockCore {
         }
     }
 
-    /// Frees the lock, which the caller must hold under the name `who`.
     #[inline]
     pub(crate) fn free(&self, who: u64) -> Freed {
         // SAFETY: a handle that only this thread uses now.
@@ -636,7 +593,8 @@ impl LockCore {
         }
     }
 
-    /// Removes the waiter with the name `who` from the lock's queue. Returns false if that waiter has the lock already.
+    /// Takes the waiter `who` out of the lock's queue. Returns false if `who` has the lock already, and so must free
+    /// it.
     pub(crate) fn withdraw(&self, who: u64) -> bool {
         // SAFETY: a handle that only this thread uses now.
         let told = self.insist(|seat| unsafe { arachne_lock_withdraw(seat, self.lock, who) });
@@ -650,7 +608,6 @@ impl LockCore {
 
 // ---------------------------------------------------------------------------------------------- the policy
 
-/// Decides from the load when a runtime asks for another processor, and when it gives one back.
 pub(crate) struct Estimator(arachne_estimator);
 
 impl Estimator {

@@ -1,9 +1,10 @@
-//! A stand-in for the proved library in Rust with atomics, for builds without the archive, for tests and for
-//! ThreadSanitizer.
+//! An unproved replacement, in Rust with atomics, of the proved library, for tests and builds without that library. A
+//! function without a comment here does the same as that of the same name in `library.rs`.
 //!
-//! A job is ready if its bit in the ready word of its block is set; the thread that clears the bit has taken the job.
-//! The mark of a slot is four times its generation, plus 1 if its job was woken since it was taken, plus 2 if it is
-//! blocked. Each shard has a summary word, which has a bit for each block that may have ready jobs.
+//! A job (task) is ready if its bit in the ready word of its block (64 slots) is set. A thread takes the job by
+//! clearing the bit. A slot's mark is four times the number of jobs that have ended there, plus 1 if its job was woken
+//! since it was taken, plus 2 if the job is blocked. Each shard (64 blocks) has a summary word with a bit for each
+//! block that may have ready jobs.
 
 use super::{
     place_of, Asked, Freed, Job, Line, Rested, Spawned, Woken, BLOCK, MOST_SHARDS, NUMBERS, PLACE_BITS, SHARD,
@@ -46,7 +47,7 @@ impl Table {
         &self.blocks[place / BLOCK].marks[place % BLOCK]
     }
 
-    /// Returns a pointer to the job number that is stored for the slot `place`.
+    /// Returns a pointer to the job number in the slot `place`.
     ///
     /// # Safety
     /// The caller may access the number only while it holds the job of that slot.
@@ -55,11 +56,9 @@ impl Table {
         self.blocks[place / BLOCK].slots[place % BLOCK].get()
     }
 
-    /// Makes the job of the slot `place` ready. Returns true if the caller must wake the worker that owns this slot.
-    ///
-    /// If another bit of the block's ready word was set already, the thread that set the word's first bit does the
-    /// remaining steps. The order of the steps closes the race with `park`: set the ready bit, then the summary bit,
-    /// then read the idle bit.
+    /// Makes the job in slot `place` ready. Returns true if the caller must wake the slot's worker. The order of the
+    /// steps closes the race with `park`: set the job's ready bit, then its block's summary bit, then read the worker's
+    /// idle bit.
     #[inline]
     fn publish(&self, place: usize) -> bool {
         let block = place / BLOCK;
@@ -75,11 +74,9 @@ impl Table {
         self.idle.0.load(SeqCst) & idle != 0 && self.idle.0.fetch_and(!idle, SeqCst) & idle != 0
     }
 
-    /// Clears the summary bit of the block `block`, which is empty. If a job of the block has become ready meanwhile,
-    /// sets the bit again, and returns false.
-    ///
-    /// The ready word must be read after the summary bit is cleared: `publish` sets the summary bit only with the first
-    /// bit of the ready word.
+    /// Clears the bit of `block` in its shard's summary word. If a job of the block has become ready, sets the bit
+    /// again, and returns false. The ready word is read last, because `publish` sets the summary bit only with the
+    /// first ready bit.
     fn hide(&self, block: usize) -> bool {
         let (summary, bit) = (&self.summary[block / SHARD].0, 1 << (block % SHARD));
         summary.fetch_and(!bit, SeqCst);
@@ -97,18 +94,13 @@ impl Table {
     }
 }
 
-/// A runtime's job table, from which threads get their access to it (`Hands`).
 pub(crate) struct Root(Arc<Table>);
 
-/// A thread's access to the table of jobs. The value may move to another thread, and is used by one thread at a time.
 pub(crate) struct Hands {
     table: Arc<Table>,
-    /// Unused data that isn't `Sync`, so that `Hands` isn't either.
     _one_thread: Cell<()>,
 }
 
-/// Lets a worker ask if it may sleep. It is for all shards (of 4,096 task slots each) that have the same index modulo
-/// 64.
 pub(crate) struct Parking {
     table: Arc<Table>,
     number: usize,
@@ -116,7 +108,6 @@ pub(crate) struct Parking {
 }
 
 impl Root {
-    /// Returns a table of `shards` shards (of 64 blocks of 64 slots). Returns None if `shards` is greater than 256.
     pub(crate) fn new(shards: usize) -> Option<Root> {
         if shards == 0 || shards > MOST_SHARDS {
             return None;
@@ -134,12 +125,10 @@ impl Root {
         })))
     }
 
-    /// Returns a `Hands` (access to the table) for each of `threads` threads. Never returns None.
     pub(crate) fn crew(&mut self, threads: usize, _most: usize) -> Option<Vec<Hands>> {
         Some((0..threads).map(|_| Hands { table: self.0.clone(), _one_thread: Cell::new(()) }).collect())
     }
 
-    /// Takes back a thread's access to the table. The thread must hold no job.
     pub(crate) fn join(&mut self, hands: Hands) {
         debug_assert!(Arc::ptr_eq(&self.0, &hands.table));
     }
@@ -150,11 +139,8 @@ impl Root {
 }
 
 impl Parking {
-    /// Sets this worker's idle bit: whoever makes one of its jobs ready must then wake it. Then reads all ready words
-    /// of its shards. Returns true if all were empty, so that the worker may sleep.
-    ///
-    /// The bit must be set first: a thread that makes a job ready sets the job's ready bit before it reads the idle
-    /// bit.
+    /// Returns true if no job of this worker's shards is ready. The idle bit is set before the ready words are read,
+    /// because a thread that makes a job ready sets the ready bit, and then reads the idle bit.
     pub(crate) fn park(&self) -> bool {
         let table = &*self.table;
         table.idle.0.fetch_or(1 << self.number, SeqCst);
@@ -172,15 +158,12 @@ impl Parking {
         true
     }
 
-    /// Clears the idle bit that `park` has set, because the worker is awake and needs no wake.
     pub(crate) fn wake_up(&self) {
         self.table.wake_up(self.number);
     }
 }
 
 impl Hands {
-    /// Puts a new job into a free slot of the block `block`. If `keep` is true, this thread then holds the job;
-    /// otherwise the job is ready.
     #[inline]
     pub(crate) fn spawn(&self, block: usize, job: u64, keep: bool) -> Spawned {
         let free = &self.table.blocks[block].free.0;
@@ -206,15 +189,12 @@ impl Hands {
         }
     }
 
-    /// Records that this thread has stolen a job from another thread. Does nothing here, and returns true: only the
-    /// implementation by the library needs the call.
     #[inline]
     pub(crate) fn gets(&self, _job: &Job, _of: usize) -> bool {
         true
     }
 
-    /// Marks a job that this thread holds as running, and forgets the wakes that came before: the poll that follows
-    /// answers all of them.
+    /// Clears the record that the job was woken, since this thread polls the job after those wakes.
     #[inline]
     pub(crate) fn begin(&self, job: &Job) {
         let mark = self.table.mark(job.place());
@@ -224,15 +204,11 @@ impl Hands {
         }
     }
 
-    /// Takes one ready job of the block `block` (64 task slots). Returns None if no job of the block is ready, and
-    /// perhaps also if another thread takes a job at the same time.
     pub(crate) fn take_any(&self, block: usize) -> Option<Job> {
         let mut any = self.ready(block);
         self.take_next(block, &mut any)
     }
 
-    /// Takes the next ready job of the slots in `wanted`, a bit mask of slots of the block `block`. It is for a sweep,
-    /// one pass over these slots.
     #[inline]
     pub(crate) fn take_next(&self, block: usize, wanted: &mut u64) -> Option<Job> {
         let ready = &self.table.blocks[block].ready.0;
@@ -255,27 +231,22 @@ impl Hands {
         None
     }
 
-    /// Returns a bit mask of the slots of the block `block` that have a ready job.
     #[inline]
     pub(crate) fn ready(&self, block: usize) -> u64 {
         self.table.blocks[block].ready.0.load(Relaxed)
     }
 
-    /// Returns a bit mask of the blocks of the shard `shard` (64 blocks) that may have ready jobs.
     #[inline]
     pub(crate) fn shown(&self, shard: usize) -> u64 {
         self.table.summary[shard].0.load(SeqCst)
     }
 
-    /// Clears the summary bit of the empty block `block`; if a job of the block has become ready meanwhile, the bit
-    /// stays set. Always returns false.
+    /// Clears the bit of `block` in its shard's summary word if none of its jobs is ready. Always returns false.
     pub(crate) fn hide(&self, block: usize) -> bool {
         self.table.hide(block);
         false
     }
 
-    /// Puts back a job that this thread holds, so that it is ready. Returns true if the caller must wake the worker
-    /// that owns the job's slot.
     #[inline]
     pub(crate) fn rest_ready(&self, job: &Job) -> bool {
         // SAFETY: this thread holds the job.
@@ -283,8 +254,6 @@ impl Hands {
         self.table.publish(job.place())
     }
 
-    /// Puts back a job that this thread holds, so that it is blocked until it is woken. If it was woken since it was
-    /// taken or begun, this thread still holds it instead.
     #[inline]
     pub(crate) fn rest_blocked(&self, job: &Job) -> Rested {
         let mark = self.table.mark(job.place());
@@ -299,8 +268,7 @@ impl Hands {
         Rested::InHand
     }
 
-    /// Ends a job that this thread holds, and frees its slot. If the slot's generations are used up, the slot is never
-    /// used again. No later job gets this job's name.
+    /// A slot isn't used again once its count of ended jobs no longer fits into a name.
     #[inline]
     pub(crate) fn finish(&self, job: &Job) {
         let next = (job.name >> PLACE_BITS) + 1;
@@ -310,8 +278,6 @@ impl Hands {
         }
     }
 
-    /// Wakes the job with the name `name` (its slot and generation). If the job was blocked and `keep` is true, the job
-    /// isn't made ready: this thread holds it, and may run it.
     #[inline]
     pub(crate) fn wake(&self, name: u64, keep: bool) -> Woken {
         let (place, generation) = (place_of(name), name >> PLACE_BITS);
@@ -345,23 +311,20 @@ const FREE: u8 = 0;
 const HELD: u8 = 1;
 const QUEUED: u8 = 2;
 
-/// A lock without its value: who holds the lock, and who waits for it.
 #[derive(Default)]
 pub(crate) struct LockCore {
-    /// One of three values: `FREE`; `HELD`, if nobody waits; `QUEUED`, if waiters are in `line`.
+    /// `FREE`; or `HELD`, if the lock is held and nobody waits; or `QUEUED`, if waiters are in `line`.
     state: AtomicU8,
     line: Mutex<VecDeque<u64>>,
 }
 
 impl LockCore {
-    /// Takes the lock if it is free. Returns the name (a number) under which the caller then holds the lock, or None if
-    /// the lock isn't free.
     #[inline]
     pub(crate) fn try_ask(&self) -> Option<u64> {
         self.state.compare_exchange(FREE, HELD, SeqCst, SeqCst).is_ok().then_some(1)
     }
 
-    /// Asks for the lock under the name `who`, an even number. No other waiter or holder may have that name.
+    /// Requests the lock under `who`, an even number that no other waiter or holder has. (`try_ask` uses 1.)
     #[inline]
     pub(crate) fn ask(&self, who: u64) -> Asked {
         let mut line = self.line.lock().unwrap();
@@ -378,7 +341,6 @@ impl LockCore {
         Asked::Queued
     }
 
-    /// Frees the lock, which the caller must hold. A waiter, if there is one, has the lock then.
     #[inline]
     pub(crate) fn free(&self, _who: u64) -> Freed {
         if self.state.compare_exchange(HELD, FREE, SeqCst, SeqCst).is_ok() {
@@ -390,7 +352,6 @@ impl LockCore {
         next.map_or(Freed::Free, Freed::HandedOn)
     }
 
-    /// Removes the waiter with the name `who` from the lock's queue. Returns false if that waiter has the lock already.
     pub(crate) fn withdraw(&self, who: u64) -> bool {
         let mut line = self.line.lock().unwrap();
         let found = line.iter().position(|&w| w == who);
@@ -413,14 +374,12 @@ impl LockCore {
     }
 }
 
-/// A stand-in for the library's estimator, which decides when to use more or fewer processors. Like the library's, it
-/// remembers only how busy the processors were when each of them was added.
+/// A stand-in for the library's estimator.
 pub(crate) struct Estimator {
     load: u64,
     hysteresis: u64,
     most: u64,
-    /// For each number of cores, how busy the cores were (in thousandths of a core) when the policy last asked for that
-    /// number.
+    /// At index n: how busy the cores were, in thousandths of a core, when the policy last asked for an n-th core.
     used: Vec<u64>,
 }
 

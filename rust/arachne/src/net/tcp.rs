@@ -26,10 +26,9 @@ use std::os::unix::io::{AsRawFd, FromRawFd};
 pub struct TcpListener(pub(super) Source<std::net::TcpListener>);
 
 impl TcpListener {
-    /// Listens at the first of these addresses that is free. Unlike tokio's `bind`, this one isn't `async`.
+    /// Listens at the first of these addresses that is free. Unlike tokio's `bind`, this isn't `async`.
     ///
-    /// The listener's backlog (of connections not yet accepted) is 4,096, or the system's `somaxconn` if that is less.
-    /// A listener of `from_std` keeps its backlog.
+    /// At most 4,096 connections (or `somaxconn`, if less) wait to be accepted. `from_std` doesn't change that limit.
     ///
     /// ```
     /// let listener = arachne::net::TcpListener::bind("127.0.0.1:0").unwrap();
@@ -48,8 +47,8 @@ impl TcpListener {
 
     /// Waits for a new connection. Returns the connection with the other side's address.
     ///
-    /// After `Runtime::shutdown_within` was called, fails once all connections that had arrived by then are accepted;
-    /// then [`crate::is_stopping`] returns true. See the example at `TcpListener`.
+    /// After `Runtime::shutdown_within` was called, which [`crate::is_stopping`] shows, `accept` fails once all
+    /// connections that had arrived are accepted. See the example at `TcpListener`.
     pub async fn accept(&self) -> io::Result<(TcpStream, SocketAddr)> {
         let (stream, from) = accept(&self.0, |listener| listener.accept()).await?;
         Ok((TcpStream::from_std(stream)?, from))
@@ -73,7 +72,7 @@ pub struct TcpStream(pub(super) Source<std::net::TcpStream>);
 impl TcpStream {
     /// Connects to the first of these addresses that accepts the connection.
     ///
-    /// A host name is looked up on the calling thread, which blocks for that time; in a task use `lookup_host` first.
+    /// A host name is looked up on the calling thread, which blocks for that time. In a task, call `lookup_host` first.
     ///
     /// ```
     /// # fn main() -> std::io::Result<()> {
@@ -155,8 +154,7 @@ impl TcpStream {
     /// # }
     /// ```
     pub async fn peek(&self, buffer: &mut [u8]) -> io::Result<usize> {
-        // A peek leaves the bytes in the socket, so a short one doesn't mean that the socket is empty: it counts as
-        // ready until a call returns `WouldBlock`.
+        // A short peek doesn't mean that the socket is empty, so it counts as ready until a call returns `WouldBlock`.
         self.0.wait::<true, _>(0, |socket| socket.peek(buffer), |_| 0).await
     }
 }

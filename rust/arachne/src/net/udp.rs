@@ -6,7 +6,7 @@ use std::net::{SocketAddr, ToSocketAddrs};
 
 /// A socket that sends and receives datagrams. Each call takes `&self`.
 ///
-/// Only a few of std's options have a method here; set the others before `from_std`.
+/// Only a few of std's options have methods here. Set other options before `from_std`.
 ///
 /// ```
 /// use arachne::net::UdpSocket;
@@ -24,8 +24,7 @@ use std::net::{SocketAddr, ToSocketAddrs};
 pub struct UdpSocket(pub(super) Source<std::net::UdpSocket>);
 
 impl UdpSocket {
-    /// Returns a socket bound to the first of these addresses that is free. Unlike tokio's `bind`, this one isn't
-    /// `async`.
+    /// Returns a socket bound to the first of these addresses that is free. Unlike in tokio, this isn't `async`.
     ///
     /// ```
     /// let socket = arachne::net::UdpSocket::bind("127.0.0.1:0").unwrap();
@@ -35,9 +34,9 @@ impl UdpSocket {
         UdpSocket::from_std(std::net::UdpSocket::bind(at)?)
     }
 
-    /// Sets the address to which `send` sends, and from which `recv` receives. The call isn't `async`.
+    /// Sets the address to which `send` sends, and from which `recv` receives. `connect` isn't `async`.
     ///
-    /// A host name is looked up on the calling thread, which is blocked meanwhile.
+    /// A host name is looked up on the calling thread, which blocks for that time.
     ///
     /// ```
     /// use arachne::net::UdpSocket;
@@ -77,31 +76,28 @@ impl UdpSocket {
         self.0.wait::<false, _>(0, send, |_| 0).await
     }
 
-    /// Sends a datagram to the address that `connect` has set, after waiting until there is room. Returns the length of
-    /// the datagram; see the example at `connect`.
+    /// Sends a datagram to the address of `connect` once there is room. Returns the datagram's length.
     pub async fn send(&self, bytes: &[u8]) -> io::Result<usize> {
         self.write(|socket| socket.send(bytes)).await
     }
 
-    /// Waits for a datagram from the address that `connect` has set. Returns the length of the datagram; see the
-    /// example at `connect`.
+    /// Waits for a datagram from the address of `connect`; see the example there. Returns the datagram's length.
     ///
     /// Bytes beyond the buffer are lost.
     pub async fn recv(&self, buffer: &mut [u8]) -> io::Result<usize> {
         self.read(|socket| socket.recv(buffer)).await
     }
 
-    /// Sends a datagram to the first of the addresses `to`, after waiting until there is room. Returns the length of
-    /// the datagram.
+    /// Sends a datagram to the first of the addresses `to`, once there is room. Returns the datagram's length.
     ///
-    /// A host name is looked up on the calling thread, which is blocked meanwhile. See the example at `UdpSocket`.
+    /// A host name is looked up on the calling thread, which blocks for that time. See the example at `UdpSocket`.
     pub async fn send_to(&self, bytes: &[u8], to: impl ToSocketAddrs) -> io::Result<usize> {
         let none = || io::Error::new(io::ErrorKind::InvalidInput, "no address");
         let to = to.to_socket_addrs()?.next().ok_or_else(none)?;
         self.write(|socket| socket.send_to(bytes, to)).await
     }
 
-    /// Waits for a datagram. Returns the length of the datagram, and the address of the sender.
+    /// Waits for a datagram. Returns the datagram's length, and the address of the sender.
     ///
     /// Bytes beyond the buffer are lost. See the example at `UdpSocket`.
     pub async fn recv_from(&self, buffer: &mut [u8]) -> io::Result<(usize, SocketAddr)> {

@@ -29,10 +29,9 @@ use std::time::Duration;
 pub struct UnixListener(pub(super) Source<net::UnixListener>);
 
 impl UnixListener {
-    /// Listens at `path`, which must not exist; the path stays when the listener is dropped. Unlike tokio's `bind`,
-    /// this one isn't `async`.
+    /// Listens at `path`, which must not exist, and which stays when the listener is dropped. `bind` isn't `async`.
     ///
-    /// The listener's backlog (of connections not yet accepted) is 4,096, or the system's `somaxconn` if that is less.
+    /// At most 4,096 connections (or the system's `somaxconn`, if that is less) wait to be accepted.
     ///
     /// ```
     /// # fn main() -> std::io::Result<()> {
@@ -55,8 +54,8 @@ impl UnixListener {
 
     /// Waits for a new connection. Returns the connection with the other side's address.
     ///
-    /// After `Runtime::shutdown_within` was called, fails once all connections that had arrived by then are accepted;
-    /// then `is_stopping` returns true. See the example at `UnixListener`.
+    /// After `Runtime::shutdown_within` was called, which `is_stopping` shows, `accept` fails once all connections that
+    /// had arrived are accepted. See the example at `UnixListener`.
     pub async fn accept(&self) -> io::Result<(UnixStream, SocketAddr)> {
         let (stream, from) = accept(&self.0, |listener| listener.accept()).await?;
         Ok((UnixStream::from_std(stream)?, from))
@@ -80,8 +79,7 @@ impl UnixListener {
 pub struct UnixStream(pub(super) Source<net::UnixStream>);
 
 impl UnixStream {
-    /// Connects to the listener at `path`. While the listener's backlog is full, the future tries again each
-    /// millisecond.
+    /// Connects to the listener at `path`. While the listener's queue is full, `connect` tries again each millisecond.
     ///
     /// ```
     /// # fn main() -> std::io::Result<()> {

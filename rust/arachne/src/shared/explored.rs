@@ -1,5 +1,4 @@
-//! Functions for the explorer (a test that tries many schedules): they free what a run leaves, and change the number of
-//! active workers as an arbiter does.
+//! Functions for the explorer, a test that runs the crate under many orders of its threads' steps.
 
 use super::*;
 use crate::runtime::Runtime;
@@ -9,7 +8,7 @@ pub fn set_active(runtime: &Runtime, active: usize) {
     runtime.shared().set_active(active);
 }
 
-/// Frees what the crate keeps for this thread: its handles of the core, and the parker of `block_on`.
+/// Frees the data that the crate keeps for this thread: its handles of the proved core, and the parker of `block_on`.
 pub fn forget_thread() {
     SEATS.with(|visitor| visitor.borrow_mut().seats = Vec::new());
     crate::block_on::forget_parker();

@@ -1,25 +1,22 @@
 //! How workers sleep.
 //!
-//! One waits in the epoll, a *deputy* polls the epoll now and then, and each of the others waits on a condition
-//! variable of its own, its *bell*. The deputy is needed while the worker that waits in the epoll runs tasks or has no
-//! processor. While no task runs, the deputy polls the epoll at intervals of 1, 2, 4 .. ms; while tasks run, each
-//! millisecond. So the events of sockets are seen as long as at least one worker isn't in a long poll.
+//! One worker waits in the epoll, and each other sleeping worker waits on a condition variable of its own (its *bell*).
+//! One sleeping worker, the *deputy*, also polls the epoll now and then, which is needed while the worker that should
+//! wait there runs tasks or has no processor. The deputy polls each millisecond while tasks run, otherwise after 1, 2,
+//! 4 .. ms.
 //!
-//! **Beside a long poll.** While any worker is awake, the worker in the epoll and the deputy check the other workers,
-//! at least every `LONG_REST` milliseconds. If they find a worker in the same poll twice, they take all jobs
-//! in its local queues, even the one to run next, fire its timers, and take the ready jobs in its task slots. A worker
-//! that is woken again and again does the same once a millisecond, before it goes back to sleep (`looks_before_sleep`);
-//! a busy worker does it in `look_out`. So, as long as at least one worker isn't in a long poll, a ready job behind a
-//! long poll begins within about 4 ms plus the delays of the machine. The first worker that runs a job after a sleep
-//! wakes another worker, which checks again (`goes_on`).
+//! **Long polls.** While any worker is awake, the worker in the epoll and the deputy look at the others at least every
+//! `LONG_REST` milliseconds. If one of the two finds a worker in the same poll twice, it takes that worker's queued and
+//! ready tasks, and fires its timers. So a ready task that waits for a worker in a long poll begins within about 4 ms,
+//! plus the machine's delays, unless all workers are in long polls. The first worker that runs a task after a sleep
+//! wakes another worker, which then looks at the others again (`goes_on`).
 //!
-//! **Without a core.** While only the first worker has a core, the second one covers for it (`cover`): each millisecond
-//! the second worker looks if the first makes progress, under an arbiter each fifth of a millisecond, since the first
-//! can't go to another processor. If there is no progress, as the first is in a long poll or has lost its processor,
-//! the second runs the waiting jobs, on any processor that it may use. Once nothing has run for a while the second
-//! worker looks less and less often, and `goes_on` makes it look as often as before.
+//! **One worker.** While only the first worker may run tasks, the second, on any processor, runs those that wait while
+//! the first stays in one poll (`cover`). Each millisecond, or under an arbiter (a daemon) five times as often, the
+//! second reads whether the first has ended another poll. If nothing runs for a while, it does so less often, until
+//! `goes_on` is called.
 //!
-//! With the watcher thread of `Builder::watch_polls`, ready jobs also run if all workers are in long polls.
+//! With the watcher thread of `Builder::watch_polls`, ready tasks also run if all workers are in long polls.
 
 use super::{Turn, FEW, LONG_POLL, LOOK_OUT};
 use crate::cores::Judge;
@@ -31,40 +28,37 @@ use crate::timer::{self, now};
 
 /// The number of times that an idle worker searches all other workers for work before it sleeps.
 const SPINS: usize = 4;
-/// The most milliseconds between two checks of the other workers while one of them is awake. A worker whose checks are
-/// farther apart than this is woken when tasks run again.
+/// While any worker is awake: the most milliseconds after which a sleeping worker next looks for long polls of others.
 const LONG_REST: i32 = 2;
-/// The milliseconds between two checks of the other workers while all workers sleep: some 17 minutes, as good as never.
 const FOR_EVER: i32 = 1 << 20;
-/// Nanoseconds between two looks of the worker that covers for the first, while tasks run without an arbiter.
+/// While only the first worker may run tasks: the nanoseconds after which the second next reads whether the first is
+/// still in the same poll of a task.
 const COVER: u64 = 1_000_000;
-/// Nanoseconds between these looks under an arbiter, or once the last one found a task to run.
+/// Nanoseconds after which the second worker next reads whether the first stays in one poll, if an arbiter (a daemon)
+/// grants the cores, or if the second has just run a task that waited for the first.
 const COVER_SOON: u64 = 200_000;
-/// The most nanoseconds between these checks while the first worker is awake.
+/// The most nanoseconds between two reads, by the second worker, of whether the first (awake now) stays in one poll.
 const COVER_LONG: u64 = 2_000_000;
-/// The most nanoseconds between these checks while the first worker sleeps.
+/// The most nanoseconds between two reads, by the second worker, of whether the first (asleep now) has run a task.
 const COVER_MOST: u64 = 3_600_000_000_000;
 
-/// Why the wait of a worker that has no core has ended.
 pub(crate) enum Ends {
-    /// The worker may have a core now; the caller must check this.
+    /// The wait for a processor has ended. The caller must find out whether the worker may use one now.
     Core,
     Call,
     Time,
 }
 
 impl Shared {
-    /// Searches the other workers for work. If there is none, sleeps until there may be some.
-    ///
-    /// The sleeper bit must be set, and the search recorded as ended, before the last check for work. Whoever makes a
-    /// job ready after that wakes this worker, and the check finds the jobs that were made ready before.
+    /// Searches the other workers for tasks, and sleeps if there is none. Before it searches for the last time, this
+    /// worker's bit in `sleepers` must be set, and `searching` (the number of workers that search) decreased. That
+    /// search finds the tasks that are ready by then, and whoever makes another task ready later wakes this worker.
     pub(super) fn look_around(&'static self, context: &Context, turn: &mut Turn, judge: &Option<Judge>) {
         self.searching.0.fetch_add(1, SeqCst);
         if self.finds_work(context, turn) {
             return self.stop_looking(&context.hands);
         }
-        // This worker registers in `waits` before it sets its sleeper bit, and leaves `waits` after it has cleared the
-        // bit: `ring` reads `waits` while the bit is set.
+        // Set before the sleeper bit, and left after the bit is cleared, as `ring` reads `waits` while the bit is set.
         let waits = self.waits.0.compare_exchange(NO_ONE, context.me, SeqCst, SeqCst).is_ok();
         self.sleepers.0.fetch_or(1 << context.me, SeqCst);
         self.searching.0.fetch_sub(1, SeqCst);
@@ -79,8 +73,7 @@ impl Shared {
             || context.me >= self.active.0.load(SeqCst);
         let sleeps = !busy && self.may_park(context);
         let (found, called) = if sleeps { self.sleep(context, turn, judge, waits) } else { (Found::NOTHING, false) };
-        // The idle bit must be cleared before the events wake tasks. Otherwise the wake of a job in this worker's own
-        // blocks would wake this worker once more.
+        // The idle bit must be cleared before the events wake tasks, which would otherwise wake this worker once more.
         self.wake_up(context);
         let roused = self.awake(context);
         if waits {
@@ -93,8 +86,7 @@ impl Shared {
         }
     }
 
-    /// Searches for a job to run, for a short while. Returns true if this worker has a job in its local queues or may
-    /// find a ready one.
+    /// Searches its own slots and the other workers for tasks for a short while. Returns true if it may have found one.
     fn finds_work(&'static self, context: &Context, turn: &mut Turn) -> bool {
         turn.seen.iter_mut().zip(self.workers.iter()).for_each(|(seen, w)| *seen = w.0.polls.load(Relaxed));
         for spin in 0..SPINS {
@@ -110,15 +102,11 @@ impl Shared {
         false
     }
 
-    /// Returns true if a job seems ready in the task slots of this worker, or of a worker without a core for which it
-    /// works.
     pub(super) fn mine(&self, context: &Context) -> bool {
         let me = context.me;
         self.ready(&context.hands, me) != 0 || self.lodgers(me).any(|other| self.ready(&context.hands, other) != 0)
     }
 
-    /// Returns true if this worker may sleep. Asks the core about the shards (groups of 4,096 task slots) of this
-    /// worker, and of the workers without a core for which it works.
     fn may_park(&self, context: &Context) -> bool {
         std::iter::once(context.me).chain(self.lodgers(context.me)).all(|owner| {
             let parking = self.workers[owner].0.parking.lock().unwrap();
@@ -126,7 +114,6 @@ impl Shared {
         })
     }
 
-    /// Clears the summary bits of those blocks (of task slots) of the worker `me` that are empty.
     pub(super) fn tidy(&self, me: usize) {
         for seat in self.workers[me].0.parking.lock().unwrap().iter() {
             if seat.park() {
@@ -135,21 +122,18 @@ impl Shared {
         }
     }
 
-    /// Clears the idle bits of this worker, and of the workers without a core for which it works: nobody need wake
-    /// them.
     fn wake_up(&self, context: &Context) {
         for owner in std::iter::once(context.me).chain(self.lodgers(context.me)) {
             let parking = self.workers[owner].0.parking.lock().unwrap();
-            // This is checked under the lock: another worker may run the jobs of `owner` now, and may sleep with these
-            // idle bits set.
+            // Checked under the lock: another worker may run the jobs of `owner` now, and sleep with these bits set.
             if self.keeper(owner) == context.me {
                 parking.iter().for_each(|seat| seat.wake_up());
             }
         }
     }
 
-    /// Sleeps: in the epoll if `waits` is true, otherwise as the deputy or on this worker's condition variable. Returns
-    /// the events that were found, and true if a worker that is stuck in a poll may have jobs for this worker to run.
+    /// Sleeps in the epoll if `waits` is true, otherwise on this worker's condition variable. Returns the events found,
+    /// and true if this worker must search for tasks again, because another one stays in one poll or has no processor.
     fn sleep(&self, context: &Context, turn: &mut Turn, judge: &Option<Judge>, waits: bool) -> (Found, bool) {
         if self.looks_before_sleep(context, turn) {
             return (Found::NOTHING, true);
@@ -175,8 +159,8 @@ impl Shared {
         found
     }
 
-    /// Sleeps in the epoll until an event comes, `timeout` milliseconds have passed, or this worker finds another one
-    /// stuck in a poll with jobs to run. Returns the events, and true in the last case.
+    /// Sleeps in the epoll until an event comes, `timeout` milliseconds have passed, or a worker that has tasks to run
+    /// stays in one poll.
     fn wait_in_epoll(&self, context: &Context, turn: &mut Turn, timeout: i32) -> (Found, bool) {
         let most = self.asks(self.room(context, turn));
         if self.workers.len() == 1 {
@@ -196,12 +180,10 @@ impl Shared {
         }
     }
 
-    /// Sleeps as the *deputy*, which polls the epoll now and then. Returns when this worker is woken, when `timeout`
-    /// milliseconds have passed, or when there is something to do.
-    ///
-    /// There is something to do in three cases. First, a worker that is stuck in a poll has jobs to run. Second, nobody
-    /// waits in the epoll, and a worker that is awake has made no new poll since the last check. Third, the epoll has
-    /// events, and the worker that waits there has no processor to take them.
+    /// Sleeps as the *deputy*, which polls the epoll now and then, for `timeout` milliseconds or until it is woken.
+    /// Returns earlier if a worker that stays in one poll has tasks to run, or if there is such a worker and nobody
+    /// waits in the epoll. Also returns if the epoll has events, because the worker that waits there has no processor
+    /// then.
     fn stand_in(&self, context: &Context, turn: &mut Turn, timeout: i32) -> (Found, bool) {
         let bell = &context.worker.bell;
         let mut left = timeout;
@@ -230,11 +212,6 @@ impl Shared {
         }
     }
 
-    /// Calls `look_after` before a sleep, but at most once in `LONG_POLL` nanoseconds. Returns true if a worker that is
-    /// stuck in a poll has jobs for this worker to run.
-    ///
-    /// It is needed for a worker that is woken again and again: none of its sleeps is long enough for a check of the
-    /// others.
     fn looks_before_sleep(&self, context: &Context, turn: &mut Turn) -> bool {
         let now = context.looked.get();
         if self.workers.len() == 1 || now.saturating_sub(turn.looked) < LONG_POLL {
@@ -247,12 +224,9 @@ impl Shared {
         waits
     }
 
-    /// Takes over the workers that have made no new poll since the last call: takes the jobs in their local queues, and
-    /// fires their timers.
-    ///
-    /// If such a worker must give back its core and hasn't done so yet, only its jobs are taken, because another worker
-    /// already fires its timers. Returns two values: true if there was any such worker, and true if one of them has
-    /// jobs or timers to run.
+    /// Takes the tasks in the local queues of each worker that has ended no poll since this worker's last call, and
+    /// fires its timers. Returns two values: true if there is such a worker, and true if there are tasks to run. If
+    /// that worker's processor was asked back, takes only the tasks, as another worker fires its timers.
     fn look_after(&self, context: &Context, turn: &mut Turn) -> (bool, bool) {
         let (active, sleepers) = (self.active.0.load(SeqCst), self.sleepers.0.load(SeqCst));
         let (mut stands, mut waits) = (false, false);
@@ -276,14 +250,14 @@ impl Shared {
         (stands, waits)
     }
 
-    /// Waits for a core by calls of `waits`, whose argument is the most nanoseconds to wait. Between these calls, runs
-    /// the jobs that the first worker, the only one with a core, doesn't get to.
+    /// The second worker waits for a processor by calls of `waits`, whose argument is the most nanoseconds to wait.
+    /// Between these calls, it runs the tasks that wait while the first worker, the only one that may run tasks, stays
+    /// in one poll.
     pub(crate) fn cover(&self, context: &Context, turn: &mut Turn, mut waits: impl FnMut(u64) -> Ends) {
         let mut rests = self.cover_often();
         loop {
             self.covers.0.store(rests, SeqCst);
-            // Written before the check: when the first worker wakes, it first clears its sleeper bit and then reads
-            // this number (`goes_on`).
+            // Stored before the check: when the first worker wakes, it clears its sleeper bit, then reads this number.
             if rests > COVER_LONG && self.sleepers.0.load(SeqCst) & 1 == 0 {
                 rests = COVER_LONG;
                 self.covers.0.store(rests, SeqCst);
@@ -297,7 +271,6 @@ impl Shared {
         self.covers.0.store(0, SeqCst);
     }
 
-    /// Runs the jobs that the first worker doesn't get to. Returns the nanoseconds until the next check.
     fn look_at_first(&self, context: &Context, turn: &mut Turn, rested: u64) -> u64 {
         let polls = self.workers[0].0.polls.load(Relaxed);
         if std::mem::replace(&mut turn.seen[0], polls) != polls {
@@ -310,7 +283,6 @@ impl Shared {
         (2 * rested).clamp(COVER, COVER_MOST)
     }
 
-    /// Returns the nanoseconds between two looks of the worker that covers for the first, while tasks run.
     fn cover_often(&self) -> u64 {
         match self.arbiter.is_up() {
             true => COVER_SOON,
@@ -318,7 +290,6 @@ impl Shared {
         }
     }
 
-    /// Makes the worker that covers for the first look often again.
     fn call_cover(&self) {
         let gate = self.workers[1].0.given_back.0.lock().unwrap();
         self.covers.0.store(COVER, SeqCst);
@@ -327,8 +298,8 @@ impl Shared {
         self.arbiter.call();
     }
 
-    /// Runs the jobs of workers that make no progress (no new poll since the last check), and the jobs of events that
-    /// no worker has taken. Returns true if there were any such jobs.
+    /// Runs the tasks of each worker that has ended no poll since the last call, and tasks that wait for events in the
+    /// epoll, `LOOK_OUT` polls at most. Returns true if it ran one.
     fn runs_what_waits(&self, context: &Context, turn: &mut Turn) -> bool {
         // From now on other workers check this one too, since it has jobs.
         context.worker.away.store(false, SeqCst);
@@ -354,24 +325,22 @@ impl Shared {
         self.lay_down(context, turn);
         context.worker.away.store(true, SeqCst);
         if self.next_timer(context.me) != u64::MAX {
-            // The worker that works for this one, and fires its timers, may be asleep.
+            // The worker that fires this one's timers may be asleep.
             self.ring(self.keeper(context.me));
         }
         ran != 0
     }
 
-    /// Returns after how many milliseconds a sleeping worker next checks the others, and stores this number in `told`.
-    ///
-    /// While tasks run, the number is `least`. Each check that finds that no task has run since multiplies it by
-    /// `times`. While any worker is awake, it is at most `LONG_REST`.
+    /// Returns the milliseconds after which a sleeping worker next looks for workers that stay in one poll, and stores
+    /// this number in `told`. If a task has run since its last look, the number is `least`; otherwise it is `times` the
+    /// number before. While any other worker is awake, it is at most `LONG_REST`.
     fn rests_of(&self, me: usize, turn: &mut Turn, least: i32, times: i32, told: &AtomicI32) -> i32 {
         let polls = self.workers.iter().map(|worker| worker.0.polls.load(Relaxed)).sum();
         let longer = turn.rests.saturating_mul(times).clamp(least, FOR_EVER);
         turn.rests = if polls != turn.watched { least } else { longer };
         turn.watched = polls;
         told.store(turn.rests, SeqCst);
-        // The number must be stored before the check: a worker that wakes first clears its sleeper bit, and then reads
-        // this number (in `goes_on`).
+        // Stored before the check: a worker that wakes clears its sleeper bit first, and then reads this number.
         if turn.rests > LONG_REST && self.is_anybody_awake(me) {
             turn.rests = LONG_REST;
             told.store(turn.rests, SeqCst);
@@ -384,13 +353,9 @@ impl Shared {
         self.workers.iter().enumerate().any(|(other, line)| sleepers >> other & 1 == 0 && !line.0.away.load(SeqCst))
     }
 
-    /// Makes sure that another worker checks this one, which has just woken and is about to run something that may take
-    /// long.
-    ///
-    /// If nobody waits in the epoll and there is no deputy (which polls it instead), wakes any sleeping worker, to wait
-    /// there. If the workers that check the others sleep for longer than `LONG_REST`, wakes one of them, so that its
-    /// checks become frequent again. If only the first worker has a core, also wakes the second worker, which checks
-    /// the first.
+    /// Called by a worker that has just woken, since its next poll may be long. Makes sure that another worker then
+    /// soon looks whether this one stays in that poll, and runs its waiting tasks: wakes one if all others sleep for
+    /// longer.
     pub(crate) fn goes_on(&self) {
         if self.covers.0.load(SeqCst) > COVER_LONG {
             self.call_cover();

@@ -1,4 +1,4 @@
-//! Reads the messages of all connections, and acts on each of them, before the daemon decides.
+//! Reads the messages of all connections and acts on them, before the daemon decides which thread gets which core.
 
 use super::{Arbiter, Client, Thread};
 use crate::means::Means;
@@ -10,28 +10,24 @@ use std::io::{ErrorKind, Read};
 use std::os::unix::io::AsRawFd;
 use std::os::unix::net::UnixStream;
 
-/// The most connections of all processes together. A client's connection takes three descriptors, so that 300 fit into
-/// the usual limit of 1,024.
+/// The most connections in all. A client's connection takes three descriptors, and the usual limit is 1,024.
 const CONNECTIONS: usize = 300;
-/// The most connections of one process: room for two clients of 64 workers, each with a control connection.
+/// The most connections of one process. Two clients of 64 workers each need 130 connections.
 const OF_A_PROCESS: usize = 130;
-/// The most connections of a user who isn't trusted, and of all such users together.
+/// The most connections of a user who is neither root nor the daemon's own, and of all such users together.
 const OF_A_USER: usize = 100;
 const OF_OTHERS: usize = CONNECTIONS / 2;
-/// The daemon reads all sockets at most this many times before it decides. Each time it reads at most this many
-/// messages of each connection, and accepts at most this many new connections. So a client that sends without pause
-/// can't delay a decision.
+/// The most passes over all sockets before a decision, and in one pass the most messages of a connection and the most
+/// new connections. So a client that sends without pause can't delay a decision.
 const PASSES: usize = 4;
 const MESSAGES: usize = 4;
 const ACCEPTED: usize = 64;
-/// The most clients that the daemon serves at a time. The library's state numbers them from 0 to 63.
+/// The most clients at a time. The library numbers clients from 0 to 63.
 const CLIENTS: usize = 64;
-/// The highest priority (the lowest number) for clients of users who aren't trusted. Such clients get no reserved
-/// cores, and each such user may have at most `OF_ANOTHER` clients.
+/// The highest priority (lowest number) and the most clients of a user who is neither root nor the daemon's own.
 const FOR_OTHERS: u32 = 4;
 const OF_ANOTHER: usize = 16;
 
-/// Whoever connected has ended, and another user's process has its number. (One of the same user is taken for it.)
 const OF_ANOTHER_USER: &str = "a process of another user";
 
 pub(super) enum Role {
@@ -42,24 +38,22 @@ pub(super) enum Role {
 
 pub(super) struct Connection {
     pub(super) stream: UnixStream,
-    /// The process id and the user id of the process that has connected.
+    /// The client's process id and user id.
     peer: (u32, u32),
-    /// True if that user is root or the daemon's own user.
+    /// True for root and for the daemon's own user.
     trusted: bool,
     bytes: [u8; SIZE],
     len: usize,
     pub(super) role: Role,
-    /// True if the connection has ended, or if the daemon has refused a message on it. The next `bury` drops the
-    /// connection.
+    /// True if the connection has ended, or a message on it was refused. The next `bury` drops the connection.
     pub(super) gone: bool,
 }
 
 impl Arbiter {
-    /// Reads all messages that have arrived. If there is none, waits for one, for at most `timeout` milliseconds.
+    /// Reads all messages that have arrived. If there are none, waits for one, for at most `timeout` milliseconds.
     ///
-    /// Messages that arrive meanwhile are read too, in at most four passes. Otherwise the daemon might decide on a
-    /// client's request before it reads that the client's threads have joined or wait, although they sent that first.
-    /// Then the cores would go to other clients, and be taken back at once.
+    /// Makes up to four passes, to read the messages of a client's threads with its request for cores. If the daemon
+    /// read only the request, it would give the cores to other clients and take them back at once.
     pub(super) fn hear(&mut self, timeout: i32) {
         let mut timeout = timeout;
         for _ in 0..PASSES {
@@ -70,8 +64,7 @@ impl Arbiter {
         }
     }
 
-    /// Makes one pass over the sockets: reads a few messages of each connection. Returns false if no message arrives
-    /// within `timeout` milliseconds.
+    /// Reads messages of all connections. Returns false if none arrives within `timeout` milliseconds.
     fn pass(&mut self, timeout: i32) -> bool {
         self.bury();
         let names: Vec<u64> = self.connections.keys().copied().collect();
@@ -82,7 +75,7 @@ impl Arbiter {
         let fds = streams.chain(processes).chain(sockets);
         let mut fds: Vec<sys::Polled> = fds.map(|fd| sys::Polled { fd, events: 1, seen: 0 }).collect();
         sys::wait(&mut fds, timeout);
-        // Processes that have connected to read the status get it after the decision.
+        // The readers of the status get it after the decision.
         fds.pop();
         if fds.iter().all(|it| it.seen == 0) {
             return false;
@@ -99,15 +92,15 @@ impl Arbiter {
                 Err(_) => break,
             }
         }
-        // If a client's threads sent messages before a request that was read above, these have arrived by now, and so
-        // have the connections that the threads made before.
+        // A client's threads send their messages before the client sends its request. So if the request was read above,
+        // the threads' messages have arrived, and are read here.
         let others = self.connections.iter().filter(|(_, it)| !matches!(it.role, Role::Control(_)));
         let others: Vec<u64> = others.map(|(&name, _)| name).collect();
         others.into_iter().for_each(|name| self.read(name));
         true
     }
 
-    /// Takes in a new connection, or closes it.
+    /// Adds a new connection, or closes it if there are too many or the virtual machine's host takes the machine.
     fn accept(&mut self, stream: UnixStream) {
         let peer @ (process, user) = match sys::peer(&stream) {
             Ok(peer) => peer,
@@ -127,7 +120,6 @@ impl Arbiter {
         self.connections.insert(self.connected, connection);
     }
 
-    /// Reads the messages that have arrived on the connection `name`, up to a limit.
     fn read(&mut self, name: u64) {
         for _ in 0..MESSAGES {
             let connection = match self.connections.get_mut(&name) {
@@ -256,7 +248,7 @@ impl Arbiter {
         Ok(())
     }
 
-    /// Takes the core of the thread `place` of a client, if the thread has one. The thread then waits for another core.
+    /// Takes the core of a client's thread, if it has one; the thread then waits for another.
     fn take_back(&mut self, client: u32, place: u32) -> Result<(), &'static str> {
         let number = self.clients.get(&client).ok_or("no client")?.number;
         if !self.state.wait(number, place as usize) {

@@ -1,31 +1,25 @@
-//! Shares a core that is left over among the clients of one priority, one after the other. A *turn* moves the core from
-//! one client to the next.
+//! Shares cores evenly over time among clients of the same priority. A *turn* moves a core from one of them to another.
 
 use super::{Arbiter, Client};
 use std::collections::BTreeMap;
 use std::time::{Duration, Instant};
 
-/// The most clients to which the daemon tries to move a core at a time. Each try needs a decision, even if the client
-/// has no thread for the core.
+/// The most tries to begin a turn in a row. A try fails if the client that would get the core has no thread for it.
 const TRIED: usize = 8;
 
 pub(super) struct Turns {
-    /// The time between two turns; zero if cores stay with their clients.
+    /// The time between two turns; zero if there are none.
     every: Duration,
     looked: Instant,
-    /// The number of turns so far, plus the number of times that a client had no thread for the core that a turn
-    /// brought.
     pub(super) count: u64,
     current: Option<Turn>,
 }
 
-/// A turn that is in progress: it moves a core from one client to another of the same priority.
 struct Turn {
     priority: u32,
     from: u32,
     to: u32,
-    /// For each client of that priority, how many cores it will have after the turn. Until the turn ends, the daemon
-    /// asks the library for no more cores for that client.
+    /// For each client of the turn's priority, the number of cores that it will have after the turn.
     most: BTreeMap<u32, u32>,
 }
 
@@ -36,8 +30,9 @@ impl Turns {
 }
 
 impl Arbiter {
-    /// Reports to the proved library how many cores a client asks for. During a turn of the client's priority, the
-    /// number is limited to what the client will have after the turn, or to its reserve if that is more.
+    /// Passes the number of cores that a client asks for to the proved library. During a turn (a move of a core) among
+    /// clients of this client's priority, the number is limited to what the client will have after the turn, or to its
+    /// reserved cores if they are more.
     pub(super) fn tell(&mut self, id: u32) {
         if let Some(client) = self.clients.get(&id) {
             let turn = self.turns.current.as_ref().filter(|turn| turn.priority == client.priority);
@@ -52,16 +47,15 @@ impl Arbiter {
         ids.into_iter().for_each(|id| self.tell(id));
     }
 
-    /// Returns the time at which the next turn may begin; `None` if a turn is in progress, or if none is possible.
+    /// Returns the time at which the next turn may begin, or `None` if one is in progress or none is possible.
     pub(super) fn next_turn(&self) -> Option<Instant> {
         let Turns { every, looked, current, .. } = &self.turns;
         let may = self.clients.len() > 1 && current.is_none() && !every.is_zero();
         may.then_some(*looked + *every)
     }
 
-    /// Decides how many cores each client is allowed. If a client of the turn's priority is allowed fewer cores than
-    /// the turn would give it, ends the turn: other clients of that priority may want those cores, and their requests
-    /// are limited during a turn.
+    /// Decides how many cores each client is allowed. Ends the turn in progress if a client is then allowed fewer cores
+    /// than the turn would give it, so that other clients may have these cores.
     pub(super) fn decide(&mut self) {
         self.state.decide();
         let most = self.turns.current.as_ref().map_or(BTreeMap::new(), |turn| turn.most.clone());
@@ -71,8 +65,8 @@ impl Arbiter {
         }
     }
 
-    /// Begins a turn. Returns false if it is too early for one, or if no core can be moved. The caller must have
-    /// carried out all earlier decisions.
+    /// Begins a turn (a move of a core from one client to another), if one is possible, and returns true. Before this
+    /// call, all threads must have been moved as decided.
     pub(super) fn begin_turn(&mut self) -> bool {
         if !self.next_turn().map_or(false, |at| at <= Instant::now()) {
             return false;
@@ -94,9 +88,9 @@ impl Arbiter {
         false
     }
 
-    /// Returns the next turn, if one is possible. The taker must ask for more cores than it is allowed; the giver must
-    /// be allowed more cores than the taker, and more than its own reserve. If several clients could be the taker or
-    /// the giver, it is the one whose last turn is the longest ago.
+    /// Returns the next turn, if one is possible. The core goes to a client that asks for more cores than it is
+    /// allowed. The core comes from a client that is allowed more cores than the first, and more than are reserved for
+    /// itself. Of several such clients, the one whose last turn is the longest ago is chosen.
     fn find_turn(&self) -> Option<Turn> {
         let alike = |priority| self.clients.iter().filter(move |(_, it)| it.priority == priority);
         let giver = |to: &Client| {
@@ -112,7 +106,6 @@ impl Arbiter {
         Some(Turn { priority: client.priority, from, to, most })
     }
 
-    /// Ends the turn if the client that should get the core has it now. Returns true if the turn has ended.
     pub(super) fn end_turn(&mut self) -> bool {
         let (from, to, most) = match &self.turns.current {
             Some(turn) => (turn.from, turn.to, turn.most[&turn.to]),

@@ -17,7 +17,6 @@ use std::time::{Duration, Instant};
 /// A test fails if something that it waits for takes longer than this, even on a busy machine.
 const PATIENCE: Duration = Duration::from_secs(60);
 
-/// The path of a daemon's socket, with methods for the messages of a client.
 pub struct Socket(pub PathBuf);
 
 impl Socket {
@@ -27,7 +26,6 @@ impl Socket {
         stream
     }
 
-    /// Connects a client to the daemon. Returns its control connection, and the daemon's answer.
     pub fn hello(&self, priority: u32, least: u32) -> (UnixStream, [u32; 4]) {
         let mut stream = self.connect();
         send(&mut stream, [HELLO, VERSION, priority, least << 16 | 64]);
@@ -35,7 +33,7 @@ impl Socket {
         (stream, answer)
     }
 
-    /// Starts a kernel thread that lives as long as this test, and returns its connection.
+    /// Starts a kernel thread that lives as long as this test, registers it, and returns its connection.
     pub fn thread(&self, client: u32, place: u32, floats: bool) -> UnixStream {
         let (sender, numbers) = mpsc::channel();
         thread::spawn(move || {
@@ -47,14 +45,12 @@ impl Socket {
         self.join(client, numbers.recv().unwrap(), place, floats)
     }
 
-    /// Registers the kernel thread `thread` as one of a client's threads. Returns the thread's connection.
     pub fn join(&self, client: u32, thread: u32, place: u32, floats: bool) -> UnixStream {
         let mut stream = self.connect();
         send(&mut stream, [JOIN, client, thread, place << 1 | floats as u32]);
         stream
     }
 
-    /// Starts a kernel thread that asks for a core and waits. Returns the thread's connection.
     pub fn waiting(&self, client: u32, place: u32) -> UnixStream {
         let mut stream = self.thread(client, place, false);
         send(&mut stream, [WAIT, 0, 0, 0]);
@@ -62,13 +58,12 @@ impl Socket {
     }
 }
 
-/// Returns this thread's id in the kernel.
 pub fn number() -> u32 {
     let link = fs::read_link("/proc/thread-self").unwrap();
     link.file_name().unwrap().to_str().unwrap().parse().unwrap()
 }
 
-/// The process that a test starts: a guardian, whose child is the daemon.
+/// The daemon is a child of the process that the test starts (the guardian).
 pub struct Daemon {
     pub guardian: Child,
     pub socket: Socket,
@@ -91,7 +86,6 @@ impl Daemon {
         Daemon::begun(run(&path, words), path)
     }
 
-    /// Starts a daemon by `command`, which uses `path` as the path of its socket.
     pub fn begun(mut command: Command, path: PathBuf) -> Daemon {
         let mut guardian = command.stdout(Stdio::piped()).spawn().unwrap();
         let mut line = [0; 6];
@@ -105,7 +99,7 @@ impl Daemon {
         fs::read_to_string(format!("/proc/{id}/task/{id}/children")).unwrap().trim().parse().unwrap()
     }
 
-    /// Stops the daemon while `f` runs. So when the daemon continues, all messages that `f` has sent have arrived.
+    /// Stops the daemon while `f` runs. When the daemon goes on, all messages that `f` sent have arrived.
     pub fn while_it_stands(&self, f: impl FnOnce()) {
         let child = self.child();
         signal(child, "STOP");
@@ -126,9 +120,8 @@ impl Drop for Daemon {
     }
 }
 
-/// Returns the command that starts a daemon. It uses cpusets if the environment variable ARBITER_CPUSET names a folder,
-/// unless `words` say otherwise. It ignores hyperthreads, and the host of the machine, which may take processors while
-/// a test runs.
+/// Returns the command that starts a daemon, which uses cpusets if ARBITER_CPUSET names a folder and `words` have no
+/// `--rest`. The daemon ignores hyperthreads, and processors that the host of this machine takes.
 pub fn run(path: &Path, words: &[&str]) -> Command {
     let mut command = Command::new(program());
     command.arg("run").arg(path).args(words).env("ARBITER_STAT", "/dev/null").env("ARBITER_TOPOLOGY", "/dev/null");
@@ -138,7 +131,7 @@ pub fn run(path: &Path, words: &[&str]) -> Command {
     command
 }
 
-/// A machine's host: a file that a daemon reads in place of the kernel's account of stolen time.
+/// Plays the host of a virtual machine. A daemon reads the stolen time from `file`, and not from the kernel.
 pub struct Host {
     file: PathBuf,
     /// The hundredths of a second since the machine began, and those that the host has taken of each processor.
@@ -152,7 +145,6 @@ impl Host {
         host
     }
 
-    /// Starts a daemon on this host's machine.
     pub fn daemon(&self, name: &str) -> Daemon {
         let path = path_of(name);
         let mut command = run(&path, &[]);
@@ -160,7 +152,8 @@ impl Host {
         Daemon::begun(command, path)
     }
 
-    /// Lets a second pass. The host takes `share` per cent of it from each processor for which `is_one` returns true.
+    /// Adds a second to the times, of which the host takes `share` per cent on the processors for which `is_one` is
+    /// true.
     pub fn takes(&self, share: u64, is_one: impl Fn(u32) -> bool) {
         let (all, stolen) = &mut *self.times.borrow_mut();
         *all += 100;
@@ -197,7 +190,6 @@ pub fn send(stream: &mut UnixStream, words: [u32; 4]) {
     stream.write_all(&bytes_of(words)).unwrap();
 }
 
-/// Returns the next message, or None if the connection has ended.
 pub fn receive(stream: &mut UnixStream) -> Option<[u32; 4]> {
     let mut bytes = [0; SIZE];
     match stream.read_exact(&mut bytes) {
@@ -209,7 +201,6 @@ pub fn receive(stream: &mut UnixStream) -> Option<[u32; 4]> {
     }
 }
 
-/// Returns true if no unread message has arrived, and the connection has not ended.
 pub fn is_silent(stream: &UnixStream) -> bool {
     stream.set_nonblocking(true).unwrap();
     let read = { stream }.read(&mut [0]);
@@ -217,37 +208,31 @@ pub fn is_silent(stream: &UnixStream) -> bool {
     matches!(read, Err(error) if error.kind() == ErrorKind::WouldBlock)
 }
 
-/// Returns the path of the daemon's program.
 pub fn program() -> String {
     option_env!("CARGO_BIN_EXE_arachne-arbiter").map_or_else(|| env::var("ARBITER").unwrap(), str::to_string)
 }
 
-/// Returns what `arachne-arbiter status` prints.
 pub fn status(socket: &Socket) -> String {
     let output = Command::new(program()).arg("status").arg(&socket.0).output().unwrap();
     assert!(output.status.success());
     String::from_utf8(output.stdout).unwrap()
 }
 
-/// Returns the thread of this process to which the processor `cpu` is granted, according to the daemon's status.
 pub fn thread_on(socket: &Socket, cpu: u32) -> u32 {
     let (text, begin) = (status(socket), format!("processor {cpu}: client "));
     let line = text.lines().find_map(|line| line.strip_prefix(&*begin)).unwrap();
     line.split([' ', ',']).nth(3).unwrap().parse().unwrap()
 }
 
-/// Returns the processors that a thread of this process may run on, as the kernel prints them.
 pub fn processors_of(thread: &str) -> String {
     processors_of_process(&format!("self/task/{thread}"))
 }
 
-/// Returns the processors that the first thread of a process may run on.
 pub fn processors_of_process(process: &str) -> String {
     let text = fs::read_to_string(format!("/proc/{process}/status")).unwrap();
     text.lines().find_map(|line| line.strip_prefix("Cpus_allowed_list:")).unwrap().trim().into()
 }
 
-/// Waits until `is_so` returns true, and fails if it doesn't within `PATIENCE`.
 pub fn becomes(what: &str, is_so: impl Fn() -> bool) {
     let end = Instant::now() + PATIENCE;
     while !is_so() {
@@ -263,7 +248,6 @@ pub fn other(name: &str, socket: &Socket) -> Command {
     command
 }
 
-/// Returns the socket of the daemon of the test that has started this process.
 pub fn given() -> Socket {
     Socket(env::var_os("ARBITER_OF").unwrap().into())
 }

@@ -1,9 +1,8 @@
-//! A client of a Redis server that measures which connections have to wait: `asks PORT CLIENTS IN-FLIGHT MILLISECONDS`.
+//! `asks PORT CLIENTS IN-FLIGHT MILLISECONDS` is a client of a Redis server that measures how long connections wait.
 //!
-//! Two threads share the connections. On each connection, a *round* is IN-FLIGHT SETs that are sent at once; the next
-//! round begins when all of them are answered. The program prints how long a round takes, at 50, 99 and 99.9 per cent,
-//! by how many later rounds a round was overtaken, and each connection's rounds with their times. It also prints the
-//! periods in which the slowest rounds waited.
+//! In each *round* of a connection, IN-FLIGHT SETs (requests) are sent at once, and all are answered. The program
+//! prints how long a round takes (percentiles 50, 99 and 99.9), how many later rounds were answered before it, and how
+//! many rounds each connection had. It also prints the periods in which the slowest rounds waited.
 use std::thread;
 use std::time::{Duration, Instant};
 use tokio::io::{AsyncReadExt, AsyncWriteExt};
@@ -11,8 +10,7 @@ use tokio::io::{AsyncReadExt, AsyncWriteExt};
 const THREADS: usize = 2;
 const ANSWER: &[u8] = b"+OK\r\n";
 
-/// A round of a connection (several requests sent at once): when it was sent and when its last answer came, in
-/// nanoseconds.
+/// One round (several requests sent at once), with its times in nanoseconds.
 #[derive(Clone, Copy)]
 struct Round {
     client: usize,
@@ -43,7 +41,6 @@ async fn ask(port: u16, client: usize, flight: usize, start: Instant, time: Dura
     Ok(rounds)
 }
 
-/// Returns for each round how many rounds were sent later and yet answered earlier.
 fn overtaken(rounds: &[Round]) -> Vec<u64> {
     let mut by_sent: Vec<usize> = (0..rounds.len()).collect();
     by_sent.sort_by_key(|&i| rounds[i].sent);
@@ -75,9 +72,7 @@ fn points(mut numbers: Vec<u64>) -> [u64; 4] {
     [0.5, 0.99, 0.999, 1.0].map(|part| numbers[((numbers.len() as f64 * part) as usize).min(last)])
 }
 
-/// Prints the periods of time in which a slow round (one in a thousand) waited. The figures are: how many such periods
-/// there were, the median of their lengths, and the median and the maximum of how many connections waited in one of
-/// them.
+/// Prints the number and the length of the periods in which one of the slowest rounds (one in a thousand) waited.
 fn stalls(rounds: &[Round]) {
     let times = points(rounds.iter().map(|r| r.answered - r.sent).collect());
     let mut slow: Vec<_> = rounds.iter().filter(|r| r.answered - r.sent >= times[2]).collect();

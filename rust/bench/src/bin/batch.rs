@@ -1,8 +1,8 @@
-//! A batch program, which computes as long as it has processors.
+//! `batch CORES [SOCKET PRIORITY]` is a batch program, which computes as long as it has processors.
 //!
-//! `batch CORES [SOCKET PRIORITY]` computes on a runtime with a policy, and with the arbiter at SOCKET. Every 10 ms, the
-//! program prints the time in milliseconds, how many units of work (of some 20 us each) it has done, and on how many
-//! cores it runs. The program ends when its standard input ends.
+//! SOCKET is that of the arbiter (the daemon that grants cores), PRIORITY the program's. Every 10 ms, the program
+//! prints the time in milliseconds, how many units of work (of some 20 us each) it has done, and on how many cores it
+//! runs. The program ends when its standard input ends.
 use std::sync::atomic::{AtomicU64, Ordering::Relaxed};
 use std::thread;
 use std::time::{Duration, SystemTime};

@@ -1,13 +1,11 @@
-//! An open-loop client of a server of Redis's protocol: `due PORT CLIENTS RATE MILLISECONDS [PROCESSOR]`.
+//! `due PORT CLIENTS RATE MILLISECONDS [PROCESSOR]` is an open-loop client of a server of Redis's protocol.
 //!
-//! Requests (SETs of 64 bytes) are due at random times, on average RATE a second, and are sent even if earlier ones
-//! aren't answered yet. They go to CLIENTS connections in turn. One kernel thread, which never sleeps, sends and
-//! receives.
+//! Requests (SETs of 64 bytes) are due at random times, RATE a second on average, and are sent even if earlier ones
+//! aren't answered. The requests go to CLIENTS connections in turn. The client's only kernel thread never sleeps.
 //!
-//! The program prints how many requests a second were answered, and the time from when a request was due until its
-//! answer, in us, at 50, 99 and 99.9 per cent and the maximum. It prints how late the client itself was to send, at 99
-//! and 99.9 per cent, and how often the client lost its processor for more than 200 us. None of these figures includes
-//! the first tenth of the time.
+//! The program prints how many requests a second were answered. It prints the time from when a request was due until
+//! its answer, in us (50, 99 and 99.9 per cent and the maximum). The program also prints how late it sent requests, and
+//! how often it lost its processor for more than 200 us. The first tenth of the time isn't counted.
 use std::collections::VecDeque;
 use std::io::{ErrorKind::WouldBlock, Read, Write};
 use std::net::TcpStream;

@@ -1,13 +1,12 @@
-//! Measures one executor on one load: `executors EXECUTOR CORES LOAD N` prints the nanoseconds per operation.
+//! `executors EXECUTOR CORES LOAD N` prints the nanoseconds that an operation of a load takes on an executor.
 //!
-//! EXECUTOR: arachne, tokio, async-executor.
-//! LOAD:
+//! EXECUTOR is arachne, tokio or async-executor. These are the loads:
 //! - spawn: spawn N tasks from outside, and join each.
 //! - fan: spawn N tasks from within a task, and join each.
 //! - pingpong: two tasks pass a number to each other, N times.
 //! - pairs: 16 pairs of tasks pass numbers to each other at the same time, N times in all.
 //! - lock: 64 tasks, N critical sections in all, with a yield inside.
-//! - chain: N tasks, each spawned by the one before and awaiting the next.
+//! - chain: a chain of N tasks, each spawned by the one before and awaiting the next.
 //! - yield: 64 tasks, N yields in all.
 use arachne::Lock;
 use std::future::{poll_fn, Future};
@@ -19,7 +18,7 @@ use std::time::Instant;
 
 type Boxed<T> = Pin<Box<dyn Future<Output = T> + Send>>;
 
-/// The operations of an executor that the loads need. They are generic, so that no future is boxed.
+/// The operations of an executor that the loads need. These are generic, so that no future is boxed.
 trait Exec: Send + Sync + Clone + 'static {
     type Join<T: Send + 'static>: Future<Output = T> + Send;
     fn spawn<F: Future + Send + 'static>(&self, f: F) -> Self::Join<F::Output>
@@ -79,7 +78,7 @@ impl Exec for Smol {
     }
 }
 
-/// A cell for a value, in which one task can wait for the value. All executors are measured with the same cell.
+/// A cell for a value, for which one task can wait.
 struct Mail(Mutex<(Option<u64>, Option<Waker>)>);
 impl Mail {
     fn new() -> Arc<Mail> {

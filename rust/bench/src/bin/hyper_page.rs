@@ -1,4 +1,4 @@
-//! Serves one page with hyper's server, unchanged, on arachne or tokio: `hyper_page EXECUTOR CORES PORT`, on 127.0.0.1.
+//! `hyper_page EXECUTOR CORES PORT` serves one page with hyper's server, unchanged, on arachne or tokio, at 127.0.0.1.
 //! The server ends when its standard input ends.
 use hyper::service::service_fn;
 use hyper::{Body, Request, Response};

@@ -1,10 +1,9 @@
-//! An open-loop client, which sends each request when it is due, even if earlier ones aren't answered:
-//! `load redis|served:MICROS PORT RATE:MILLISECONDS..`.
+//! `load redis|served:MICROS PORT RATE:MILLISECONDS..` is an open-loop client: it sends each request when it is due.
 //!
-//! The client sends SETs of Redis's protocol, or requests to `served` that take MICROS, on 32 connections. In each
-//! phase it sends RATE requests a second for MILLISECONDS. For each phase, it prints when the phase begins, and the
-//! latencies, counted from the time at which each request was due. Every 10 ms, it prints the time in milliseconds, how
-//! many requests were due and answered, and the latency in us at 99 per cent and the maximum.
+//! The requests are SETs of Redis's protocol, or requests to the server `served` that take MICROS. In each phase
+//! (RATE:MILLISECONDS), the client sends RATE requests a second for MILLISECONDS, on 32 connections, and prints the
+//! latencies, each from when the request was due. Every 10 ms, the client prints the time in milliseconds, how many
+//! requests were due and answered, and the latency in us (99 per cent and the maximum).
 use std::collections::VecDeque;
 use std::io::{ErrorKind, Read, Write};
 use std::net::TcpStream;
@@ -12,7 +11,6 @@ use std::thread;
 use std::time::{Duration, Instant, SystemTime};
 
 const CONNECTIONS: u64 = 32;
-/// The number of different requests.
 const KINDS: usize = 4096;
 const ROW: u64 = 10_000_000;
 
@@ -57,8 +55,7 @@ fn main() {
     let clock = SystemTime::now().duration_since(SystemTime::UNIX_EPOCH).unwrap().as_micros() as f64 / 1e3;
     let now = || start.elapsed().as_nanos() as u64;
     let millis = |at: u64| clock + at as f64 / 1e6;
-    // A last phase without requests is added, in which the client waits at most two seconds for answers to earlier
-    // ones.
+    // In an additional last phase, the client waits for at most two seconds for the answers to earlier requests.
     let phases: Vec<(u64, u64)> = words[2..]
         .iter()
         .map(|phase| phase.split_once(':').expect("RATE:MILLISECONDS"))

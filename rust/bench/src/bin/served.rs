@@ -1,8 +1,8 @@
 //! A server whose requests take a given time, and its client.
 //!
-//! `served EXECUTOR CORES [policy [SOCKET PRIORITY]]` is the server, on arachne or tokio; SOCKET and PRIORITY are for
-//! an arbiter. The server prints its port, and with `policy` a line at each change of the active cores. The server ends
-//! when its standard input ends.
+//! `served EXECUTOR CORES [policy [SOCKET PRIORITY]]` is the server, on arachne or tokio. SOCKET is that of the arbiter
+//! (the daemon that grants cores). The server prints its port, and with `policy` a line when the number of active cores
+//! changes. The server ends when its standard input ends.
 //!
 //! `served client PORT CONNECTIONS IN-FLIGHT MICROS MILLISECONDS` keeps IN-FLIGHT requests in flight per connection.
 //! `served offer PORT RATE MICROS MILLISECONDS` sends each of RATE requests a second when it is due, on 32 connections.
@@ -12,8 +12,7 @@ use std::sync::atomic::{AtomicU64, Ordering::Relaxed};
 use std::thread;
 use std::time::{Duration, Instant, SystemTime};
 
-/// The length of a request in bytes, and also of its answer. Each contains the time at which the request was due, and
-/// the microseconds of work that the request takes.
+/// The size in bytes of a request or answer. Both contain when the request was due, and its work in microseconds.
 const SIZE: usize = 16;
 
 fn spin(time: Duration) {
@@ -28,7 +27,6 @@ fn clock() -> f64 {
     SystemTime::now().duration_since(SystemTime::UNIX_EPOCH).unwrap().as_micros() as f64 / 1e3
 }
 
-/// Answers every complete request in `buffer`. Returns how many bytes these requests have.
 fn serve(buffer: &[u8]) -> usize {
     for request in buffer.chunks_exact(SIZE) {
         spin(Duration::from_micros(u64::from_le_bytes(request[8..].try_into().unwrap())));
@@ -113,8 +111,7 @@ fn connect(port: u16) -> TcpStream {
     stream
 }
 
-/// Keeps `flight` requests in flight on each connection, for `time`. Each connection has a kernel thread, which sends a
-/// new request for each answer.
+/// Each connection has a kernel thread.
 fn client(port: u16, connections: u64, flight: usize, micros: u64, time: Duration) {
     static ANSWERED: AtomicU64 = AtomicU64::new(0);
     static SENT: AtomicU64 = AtomicU64::new(0);
@@ -139,7 +136,7 @@ fn client(port: u16, connections: u64, flight: usize, micros: u64, time: Duratio
     println!("{:.0} answers a second", ANSWERED.load(Relaxed) as f64 / start.elapsed().as_secs_f64());
 }
 
-/// Reads answers. For each, adds to `times` the nanoseconds since its request was due.
+/// Reads answers, and adds to `times` the nanoseconds since each answered request was due.
 fn receive(stream: &mut TcpStream, back: &mut Vec<u8>, start: Instant, times: &mut Vec<u64>) {
     let mut bytes = [0; 4096];
     match stream.read(&mut bytes) {

@@ -1,9 +1,8 @@
-//! Takes processors as a machine's host does: `taker SHARE FILE PROCESSOR..`.
+//! `taker SHARE FILE PROCESSOR..` takes processors as the host of a virtual machine does.
 //!
-//! On each PROCESSOR a thread of the highest real-time priority computes for SHARE per cent of the time: for 5 to 20 ms
-//! each time, at random times. Each 50 ms FILE gets the lines of /proc/stat, in which the host has stolen that time.
-//! The program ends with its standard input. Unlike a host it is seen by the kernel, which brings other threads to
-//! another processor, and a processor that sleeps waits for nothing as it wakes.
+//! On each PROCESSOR, a thread of the highest real-time priority computes for SHARE per cent of the time, for 5 to 20
+//! ms each time. Every 50 ms, the program copies /proc/stat to FILE, with this time as stolen. Unlike with a real host,
+//! the kernel moves other threads to other processors. The program ends when its standard input ends.
 use std::sync::atomic::{AtomicU64, Ordering::Relaxed};
 use std::time::{Duration, Instant};
 use std::{fs, thread};
@@ -16,7 +15,6 @@ extern "C" {
 const PROCESSORS: usize = 64;
 #[allow(clippy::declare_interior_mutable_const)]
 const NONE: AtomicU64 = AtomicU64::new(0);
-/// The nanoseconds that were taken of each processor.
 static TAKEN: [AtomicU64; PROCESSORS] = [NONE; PROCESSORS];
 const SHORTEST: f64 = 0.005;
 const LONGEST: f64 = 0.020;
@@ -44,7 +42,7 @@ fn take(processor: usize, share: f64) {
     }
 }
 
-/// Returns a line of /proc/stat, in which the time that was taken of its processor is stolen and no user's.
+/// Returns a line of /proc/stat in which the time that this program took is stolen time, and not a user's.
 fn account(line: &str) -> String {
     let mut words = line.split_whitespace();
     let name = words.next().unwrap_or("");
@@ -68,7 +66,7 @@ fn main() {
     }
     thread::spawn(move || loop {
         let lines: Vec<String> = fs::read_to_string("/proc/stat").unwrap().lines().map(account).collect();
-        // In one step, as the kernel's.
+        // The file changes in one step, like the kernel's.
         fs::write(format!("{file}.next"), lines.join("\n")).unwrap();
         fs::rename(format!("{file}.next"), &file).unwrap();
         thread::sleep(Duration::from_millis(50));

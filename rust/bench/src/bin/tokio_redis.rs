@@ -1,5 +1,4 @@
-//! The server of examples/src/bin/redis.rs on tokio: `tokio_redis CORES PORT`. The server ends when its standard input
-//! ends.
+//! `tokio_redis CORES PORT` is the server of examples/src/bin/redis.rs on tokio. It ends when its standard input ends.
 use examples::{wait_for_end, Arguments, Buffer, Store};
 use std::sync::Arc;
 use tokio::io::{AsyncReadExt, AsyncWriteExt};

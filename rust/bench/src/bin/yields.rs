@@ -1,6 +1,6 @@
-//! Measures an echo server beside tasks that yield for ever: `yields EXECUTOR CORES [TASKS]`, on arachne or tokio.
-//! TASKS tasks (by default one per core) yield. Meanwhile, for two seconds, each of 8 connections sends a byte and
-//! waits for the echo. Prints the times of these round trips.
+//! `yields EXECUTOR CORES [TASKS]` measures an echo server beside tasks that yield for ever, on arachne or tokio. There
+//! are TASKS such tasks, by default one per core. For two seconds, each of 8 connections sends a byte and waits for the
+//! echo. The program prints the times of these round trips.
 use std::io::{Read, Write};
 use std::net::SocketAddr;
 use std::sync::atomic::{AtomicBool, Ordering::Relaxed};

@@ -1,6 +1,6 @@
-//! An echo server on 127.0.0.1, from "Five minutes" in docs/rust.md: `echo [CORES PORT]`.
+//! `echo [CORES PORT]` is an echo server on 127.0.0.1, from "Five minutes" in docs/rust.md.
 //!
-//! At SIGTERM, idle connections end at once, and all other connections within five seconds; then the server ends.
+//! At SIGTERM, idle connections end at once, and all others within five seconds. Then the server ends.
 use arachne::net::{TcpListener, TcpStream};
 use std::io;
 use std::time::Duration;

@@ -1,5 +1,4 @@
-//! A server of one page by HTTP/1.1 on 127.0.0.1, with kept-alive connections: `http CORES PORT`. The server ends when
-//! its standard input ends.
+//! `http CORES PORT` serves a page by HTTP/1.1 on 127.0.0.1. The server ends when its standard input ends.
 use arachne::net::{TcpListener, TcpStream};
 use examples::{wait_for_end, Arguments, Buffer};
 use std::io;
@@ -7,8 +6,7 @@ use std::io;
 const PAGE: &[u8] = b"HTTP/1.1 200 OK\r\nContent-Type: text/plain\r\nContent-Length: 14\r\n\r\nHello, world!\n";
 const BAD: &[u8] = b"HTTP/1.1 400 Bad Request\r\nContent-Length: 0\r\nConnection: close\r\n\r\n";
 
-/// Returns the length of the first request's head, or None if the head is incomplete. The error means that the request
-/// isn't a GET, and must be refused.
+/// Fails if the request isn't a GET.
 fn head(bytes: &[u8]) -> Option<Result<usize, ()>> {
     let end = bytes.windows(4).position(|w| w == b"\r\n\r\n")? + 4;
     Some(if bytes.starts_with(b"GET ") { Ok(end) } else { Err(()) })

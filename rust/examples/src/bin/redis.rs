@@ -1,10 +1,10 @@
-//! A server on 127.0.0.1 for GET, SET, INCR, DEL and PING of Redis's protocol:
-//! `redis CORES PORT [policy [SOCKET PRIORITY]]`.
+//! `redis CORES PORT [policy [SOCKET PRIORITY]]` is a server on 127.0.0.1 for GET, SET, INCR, DEL and PING of Redis's
+//! protocol.
 //!
-//! The server ends at SIGTERM, or when its standard input ends. Within a second, it then answers the commands that it
-//! has read, and prints how many commands it has accepted and how many of them it has answered. With `policy`, the
-//! number of active workers follows the load, and every 10 ms the server prints that number. SOCKET and PRIORITY are
-//! those of an arbiter.
+//! At SIGTERM, or when its standard input ends, the server answers the commands that it has read, and ends within a
+//! second. The server then prints how many commands it has accepted and how many of them it has answered. With
+//! `policy`, the number of active workers follows the load, and every 10 ms the server prints that number. SOCKET is
+//! that of an arbiter (a daemon that grants cores), and PRIORITY the server's priority there.
 use arachne::net::{TcpListener, TcpStream};
 use examples::{wait_for_end, Arguments, Buffer, Store};
 use std::io;
@@ -13,7 +13,7 @@ use std::sync::mpsc::{channel, Receiver};
 use std::sync::Arc;
 use std::time::{Duration, Instant};
 
-/// The number of commands that were accepted, and of those that were answered, on connections that have ended.
+/// The number of commands accepted, and the number of those answered, on connections that have ended.
 static COMMANDS: [AtomicU64; 2] = [AtomicU64::new(0), AtomicU64::new(0)];
 
 /// Answers commands until the other side closes the connection, or the runtime begins to end.
@@ -47,8 +47,7 @@ async fn connection(stream: TcpStream, store: Arc<Store>) -> io::Result<()> {
         all.fetch_add(count, SeqCst);
     }
     answered?;
-    // Commands that arrive now are read but not accepted. If the socket were closed with unread bytes, the last answers
-    // would be lost.
+    // From now on, commands are read but not accepted. A socket closed with unread bytes would lose the last answers.
     stream.shutdown(std::net::Shutdown::Write)?;
     let mut rest = [0; 4096];
     while stream.read(&mut rest).await? != 0 {}
@@ -71,7 +70,6 @@ async fn accept(listener: TcpListener, store: Arc<Store>) {
     }
 }
 
-/// Returns a channel that receives a value at SIGTERM, or when the standard input ends.
 fn end() -> io::Result<Receiver<()>> {
     let (sender, ended) = channel();
     let (other, term) = (sender.clone(), arachne::Signal::heard(15)?);

@@ -1,13 +1,13 @@
-//! Trials of a runtime under a server's loads: `trial NAME [CORES]`. Each trial prints its figures, and ends after a
-//! limited time.
+//! `trial NAME [CORES]` tries a runtime under one of these loads, each for a limited time:
 //!
-//! - soak: tasks of eight kinds for SECONDS (a third word; 300 if there is none), with their count and the resident
-//!   memory.
+//! - soak: runs tasks of eight kinds for SECONDS (the third argument; 300 if there is none), and prints their count and
+//!   the memory in use.
 //! - overload: requests of 100 us at 0.8, 1, 1.2 and 2 times the rate that the cores can serve, behind a limit of
-//!   concurrent requests (a third word; one more than there are cores if there is none).
+//!   concurrent requests (the third argument; one more than there are cores if there is none).
 //! - blocking: 10,000 requests of 5 us a second, while a task on each of four workers blocks for 100 ms.
-//! - waiting: a million tasks that wait: the bytes per task, and the time of a ping-pong with and without these tasks.
-//! - drain: SIGTERM to the server `redis` beside this program, under load and after a million answers.
+//! - waiting: runs a million tasks that wait, and prints the bytes per task, and the time of a ping-pong with and
+//!   without these tasks.
+//! - drain: sends SIGTERM to the server `redis`, under load and after a million answers.
 use arachne::net::{TcpListener, TcpStream};
 use arachne::{Builder, Limit, Lock, Runtime};
 use std::io::{ErrorKind, Read, Write};
@@ -17,9 +17,8 @@ use std::task::{Poll, Waker};
 use std::thread;
 use std::time::{Duration, Instant};
 
-/// The length of a message in bytes. A request contains the time at which it was due, in nanoseconds since the trial
-/// began, and the microseconds of work that the request takes. An answer contains the same time, and a mark that says
-/// if the request was accepted.
+/// The length of a message in bytes. A request has the time at which it was due, in nanoseconds since the trial began,
+/// and the microseconds of work that it takes. An answer has the same time, and 1 if the request was accepted.
 const SIZE: usize = 16;
 
 fn spin(time: Duration) {
@@ -33,8 +32,7 @@ async fn request(bytes: [u8; SIZE], out: Arc<Lock<Arc<TcpStream>>>, ticket: Opti
     let mut answer = bytes;
     let micros = u64::from_le_bytes(bytes[8..].try_into().unwrap());
     if ticket.is_some() {
-        // The yield lets requests that have arrived be read, and refused if there are too many, before the work of this
-        // one begins.
+        // Before this request's work, other requests that have arrived are read, and refused if there are too many.
         arachne::yield_now().await;
         spin(Duration::from_micros(micros));
     }
@@ -82,8 +80,7 @@ fn serve(runtime: &Runtime, most: usize) -> std::net::SocketAddr {
     at
 }
 
-/// The numbers of requests that were sent and refused, and the latencies of the others, each counted from the time at
-/// which its request was due.
+/// The numbers of requests sent and refused, and the latencies of the others, each from when the request was due.
 #[derive(Default)]
 struct Answers {
     sent: u64,
@@ -170,7 +167,6 @@ fn offer(at: std::net::SocketAddr, rate: f64, micros: u64, time: Duration) -> An
     answers
 }
 
-/// Returns the resident memory of this process, in kB.
 fn resident() -> u64 {
     let text = std::fs::read_to_string("/proc/self/statm").unwrap();
     text.split(' ').nth(1).unwrap().parse::<u64>().unwrap() * 4
@@ -233,7 +229,6 @@ fn blocking() {
     println!("slow polls {}, tasks that the watcher ran {}", stats.slow_polls, stats.rescued);
 }
 
-/// A cell for a number, in which one task can wait for the number.
 #[derive(Default)]
 struct Mail(Mutex<(Option<u64>, Option<Waker>)>);
 impl Mail {
@@ -262,7 +257,6 @@ impl Mail {
     }
 }
 
-/// Returns the nanoseconds per round of two tasks that hand a number to each other.
 fn ping_pong(runtime: &Runtime) -> f64 {
     let rounds = 200_000;
     let mut all: Vec<f64> = (0..5)
@@ -327,8 +321,7 @@ fn waiting(cores: usize) {
     println!("all were woken and have ended after {:?}", start.elapsed());
 }
 
-/// Sends commands, 64 at a time, until the server closes the connection. Returns how many of them were answered, and
-/// adds this number to `all`.
+/// Returns the number of answers, and adds it to `all`.
 fn ask(port: u16, all: &AtomicU64) -> u64 {
     let mut stream = std::net::TcpStream::connect(("127.0.0.1", port)).unwrap();
     stream.set_nodelay(true).unwrap();
@@ -385,7 +378,6 @@ fn drain(cores: usize) {
     assert_eq!(line.trim(), format!("accepted {answered} answered {answered} aborted 0"));
 }
 
-/// Does the work of one task of the trial `soak`; `what` is the kind of work.
 async fn soaked(what: u64, lock: Arc<Lock<u64>>, done: Arc<AtomicU64>) {
     match what {
         0 => arachne::yield_now().await,
@@ -399,8 +391,7 @@ async fn soaked(what: u64, lock: Arc<Lock<u64>>, done: Arc<AtomicU64>) {
     done.fetch_add(1, Relaxed);
 }
 
-/// Runs tasks of eight kinds, 10,000 at a time, for `seconds`. Every 30 s, prints how many have run, and the resident
-/// memory.
+/// Runs tasks of eight kinds, and every 30 s prints how many have run, and the resident memory.
 fn soak(cores: usize, seconds: u64) {
     let runtime = Runtime::new(cores);
     let (lock, done) = (Arc::new(Lock::new(0)), Arc::new(AtomicU64::new(0)));
@@ -427,7 +418,7 @@ fn soak(cores: usize, seconds: u64) {
         }
     }
     let time = start.elapsed();
-    // A task's handle may be woken a moment before its worker has freed the task's slot.
+    // A task's handle may be woken a moment before the task's slot is free.
     (0..1000).take_while(|_| runtime.live() != 0).for_each(|_| thread::sleep(Duration::from_millis(1)));
     println!("{} tasks in {time:?}, live at the end {}", total * 9 / 8, runtime.live());
 }

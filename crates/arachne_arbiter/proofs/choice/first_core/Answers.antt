@@ -3,12 +3,11 @@
 -- candidates is in `is_candidate_at`; another list of loads changes `Loads`, another choice among them nothing here.
 use Rattle.std.proofs.Common.{◌≡◌, ◌<◌, ◌≤◌, true, false, length, get_or, take, ap, ◌∙◌, arith, rules}
 use Rattle.std.proofs.lemmas.List.{get_or_default}
-use Rattle.arachne_core.specs.declared.layout.TheConstants.{CORES}
-use Rattle.arachne_core.specs.Occupancy.{vacant}
+use Rattle.arachne_core.specs.{declared.layout.TheConstants.CORES, Occupancy.vacant}
 use Rattle.arachne_arbiter.specs.Choice.{is_candidate_at}
 use Rattle.arachne_arbiter.proofs.Loads.{AreBelow, AreBelow-found, loads_of-push, loads_of-skip, loads_of-below}
-use Rattle.arachne_arbiter.proofs.choice.first_core.Goals as goal
 use Rattle.arachne_arbiter.proofs.choice.first_core.Goals.{then-is_candidate, else-is_candidate}
+use Rattle.arachne_arbiter.proofs.choice.first_core.Goals as goal
 
 pub loop-core-preserved : goal.loop-core-preserved
 loop-core-preserved c =

@@ -1,6 +1,5 @@
 use Rattle.std.proofs.Common.{arith}
-use Rattle.arachne_cli.proofs.OrderLists.{next_order, no_order}
-use Rattle.arachne_cli.proofs.OrderWords.{order_is}
+use Rattle.arachne_cli.proofs.{OrderLists.{next_order, no_order}, OrderWords.order_is}
 use Rattle.arachne_cli.proofs.command_line.orders_in.Goals as goal
 
 pub returns-in_default-clause-none : goal.returns-in_default-clause-none

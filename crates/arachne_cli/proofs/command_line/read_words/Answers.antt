@@ -1,5 +1,4 @@
-use Rattle.std.proofs.Common.{map}
-use Rattle.std.proofs.lemmas.Result.{err_from_is_err_and}
+use Rattle.std.proofs.{Common.map, lemmas.Result.err_from_is_err_and}
 use Rattle.arachne_cli.proofs.CommandLines.{asked_is_met, no_order_met_first, nothing_met, refused_by_parser}
 use Rattle.arachne_cli.proofs.command_line.read_words.Goals as goal
 

@@ -1,5 +1,4 @@
-use Rattle.std.proofs.Common.{refl}
-use Rattle.std.proofs.lemmas.Result.{err_from_is_err_and}
+use Rattle.std.proofs.{Common.refl, lemmas.Result.err_from_is_err_and}
 use Rattle.arachne_cli.proofs.command_line.run_in.Goals as goal
 
 pub returns-in_err-orders-clause-none : goal.returns-in_err-orders-clause-none

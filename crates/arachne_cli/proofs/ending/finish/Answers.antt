@@ -1,6 +1,5 @@
 use Rattle.std.proofs.Common.{List, ℕ, subst}
-use Rattle.arachne_cli.specs.Ends.{AppendsFront}
-use Rattle.arachne_cli.proofs.KnownBytes.{front_kept}
+use Rattle.arachne_cli.{specs.Ends.AppendsFront, proofs.KnownBytes.front_kept}
 use Rattle.arachne_cli.proofs.ending.finish.Goals as goal
 
 pub returns-in-Err-clause-front : goal.returns-in-Err-clause-front

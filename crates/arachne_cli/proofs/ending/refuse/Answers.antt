@@ -1,8 +1,5 @@
-use Rattle.std.proofs.Common.{◌≡◌, ◌∙◌, ◌++◌, [], List, ℕ, subst, ap, rules}
-use Rattle.std.proofs.lemmas.Fmt.{contents_after_writes}
-use Rattle.arachne_cli.specs.Ends.{AppendsFront}
-use Rattle.arachne_cli.specs.Fault.{line_text}
-use Rattle.arachne_cli.proofs.KnownBytes.{front_either}
+use Rattle.std.proofs.{Common.{◌≡◌, ◌∙◌, ◌++◌, [], List, ℕ, subst, ap, rules}, lemmas.Fmt.contents_after_writes}
+use Rattle.arachne_cli.{specs.{Ends.AppendsFront, Fault.line_text}, proofs.KnownBytes.front_either}
 use Rattle.arachne_cli.proofs.ending.refuse.Goals as goal
 
 pub returns-in-Ok-clause-line : goal.returns-in-Ok-clause-line

@@ -1,7 +1,5 @@
-use Rattle.std.proofs.Common.{◌≡◌, ◌<◌, ◌∙◌, length, get_or, true, false, sym, ap, arith}
-use Rattle.std.specs.Prelude.{string_bytes}
-use Rattle.arachne_policy.specs.Sample.{is_good}
-use Rattle.arachne_policy.specs.Advice.{Settings as Bounds}
+use Rattle.std.proofs.Common.{◌≡◌, ◌<◌, ◌∙◌, length, get_or, true, false, sym, ap, arith, string_bytes}
+use Rattle.arachne_policy.specs.{Sample.is_good, Advice.{Settings as Bounds}}
 use Rattle.arachne_cli.proofs.JudgedInTurn.{some_sample, written_more, first_bad}
 use Rattle.arachne_cli.proofs.judging.judge.Goals as goal
 

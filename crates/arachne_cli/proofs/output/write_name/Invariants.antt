@@ -1,6 +1,4 @@
-use Rattle.std.proofs.Common.{◌≡◌, ◌++◌, ◌∷◌, take}
-use Rattle.std.specs.Prelude.{string_bytes, decimal}
-use Rattle.std.specs.List.{flat_map}
+use Rattle.std.{proofs.Common.{◌≡◌, ◌++◌, ◌∷◌, take, string_bytes, decimal}, specs.List.flat_map}
 use Rattle.arachne_cli.proofs.output.write_name.Given as goal
 
 -- the forks so far are written

@@ -1,5 +1,4 @@
-use Rattle.std.proofs.Common.{◌≡◌, ◌++◌, take}
-use Rattle.std.specs.Prelude.{string_bytes, map, decimal}
+use Rattle.std.proofs.Common.{◌≡◌, ◌++◌, take, string_bytes, map, decimal}
 use Rattle.arachne_lang.specs.Spelling.{after_spaces}
 use Rattle.arachne_cli.proofs.output.write_thread.Given as goal
 

@@ -1,6 +1,4 @@
-use Rattle.std.proofs.Common.{◌≡◌, ◌++◌, take}
-use Rattle.std.specs.Prelude.{string_bytes}
-use Rattle.std.specs.List.{flat_map}
+use Rattle.std.{proofs.Common.{◌≡◌, ◌++◌, take, string_bytes}, specs.List.flat_map}
 use Rattle.arachne_cli.specs.Output.{thread_line}
 use Rattle.arachne_cli.proofs.output.write_threads.Given as goal
 

@@ -1,5 +1,4 @@
-use Rattle.std.proofs.Common.{◌≡◌, ◌++◌, take}
-use Rattle.std.specs.Prelude.{string_bytes}
+use Rattle.std.proofs.Common.{◌≡◌, ◌++◌, take, string_bytes}
 use Rattle.arachne_cli.specs.Output.{ledger_lines}
 use Rattle.arachne_cli.proofs.output.write_totals.Given as goal
 

@@ -1,9 +1,7 @@
 use Rattle.std.proofs.Common.{map, ap, refl}
-use Rattle.arachne_cli.specs.CommandLine.{asked_serially, serial_in}
+use Rattle.arachne_cli.{specs.CommandLine.{asked_serially, serial_in}, proofs.Causes.memory_is_wanting}
+use Rattle.arachne_cli.proofs.{KnownBytes.keeps_same, Refusals.refused_asks_nothing}
 use Rattle.arachne_cli.specs.declared.fault.Fault.TheVariants as fault
-use Rattle.arachne_cli.proofs.Causes.{memory_is_wanting}
-use Rattle.arachne_cli.proofs.KnownBytes.{keeps_same}
-use Rattle.arachne_cli.proofs.Refusals.{refused_asks_nothing}
 use Rattle.arachne_cli.proofs.serial.drive.Goals as goal
 
 pub returns-in-Err-clause-fault : goal.returns-in-Err-clause-fault

@@ -1,5 +1,4 @@
-use Rattle.std.proofs.Common.{◌≤◌, ◌+◌, ◌++◌, length, take, arith}
-use Rattle.std.proofs.lemmas.List.{length-take}
+use Rattle.std.proofs.Common.{◌≤◌, ◌+◌, ◌++◌, length, take, arith, length-take}
 use Rattle.arachne_cli.proofs.KnownBytes.{consumes_both, length_read}
 use Rattle.arachne_cli.proofs.stream.read_input.Goals as goal
 

@@ -1,5 +1,4 @@
-use Rattle.std.proofs.Common.{◌-◌, ◌≤◌, vec_len}
-use Rattle.std.specs.Io.KnownBytes.{Consumes}
+use Rattle.std.{proofs.Common.{◌-◌, ◌≤◌, vec_len}, specs.Io.KnownBytes.Consumes}
 use Rattle.arachne_cli.proofs.stream.read_input.Given as goal
 
 abbrev pub invariant-loop-chunk : goal.invariant-loop-chunk

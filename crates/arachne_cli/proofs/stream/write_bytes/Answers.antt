@@ -1,5 +1,4 @@
-use Rattle.std.proofs.Common.{arith, sym, subst, List, ℕ}
-use Rattle.std.specs.Io.KnownBytes.{Appends}
+use Rattle.std.{proofs.Common.{arith, sym, subst, List, ℕ}, specs.Io.KnownBytes.Appends}
 use Rattle.arachne_cli.proofs.KnownBytes.{appends_both, take_rest}
 use Rattle.arachne_cli.proofs.stream.write_bytes.Goals as goal
 

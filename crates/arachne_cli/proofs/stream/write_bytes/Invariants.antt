@@ -1,5 +1,4 @@
-use Rattle.std.proofs.Common.{◌-◌, ◌≤◌, length, take}
-use Rattle.std.specs.Io.KnownBytes.{Appends}
+use Rattle.std.{proofs.Common.{◌-◌, ◌≤◌, length, take}, specs.Io.KnownBytes.Appends}
 use Rattle.arachne_cli.proofs.stream.write_bytes.Given as goal
 
 abbrev pub invariant-loop-written : goal.invariant-loop-written

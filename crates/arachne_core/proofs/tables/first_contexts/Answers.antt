@@ -1,9 +1,6 @@
-use Rattle.std.proofs.Common.{ℕ, List, [], ◌∷◌, ◌++◌, map, arith, sym, ap, ◌∙◌}
-use Rattle.std.specs.List.{range_with_len}
+use Rattle.std.{proofs.Common.{ℕ, List, [], ◌∷◌, ◌++◌, map, arith, sym, ap, ◌∙◌}, specs.List.range_with_len}
 use Rattle.std.proofs.lemmas.List.FromFn.{map-range_with_len_more}
-use Rattle.arachne_core.specs.declared.place.Place.{Place}
-use Rattle.arachne_core.specs.declared.state.Context.{Context}
-use Rattle.arachne_core.specs.declared.state.State.TheVariants.{Free}
+use Rattle.arachne_core.specs.declared.{place.Place.Place, state.{Context.Context, State.TheVariants.Free}}
 use Rattle.arachne_core.specs.TableChanges.{first_context}
 use Rattle.arachne_core.proofs.tables.first_contexts.Goals as goal
 

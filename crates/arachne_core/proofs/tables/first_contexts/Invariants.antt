@@ -1,5 +1,4 @@
-use Rattle.std.proofs.Common.{◌≡◌, map}
-use Rattle.std.specs.List.{range_with_len}
+use Rattle.std.{proofs.Common.{◌≡◌, map}, specs.List.range_with_len}
 use Rattle.arachne_core.specs.TableChanges.{first_context}
 use Rattle.arachne_core.proofs.tables.first_contexts.Given as goal
 

@@ -1,5 +1,4 @@
-use Rattle.std.proofs.Common.{◌≡◌}
-use Rattle.std.specs.List.{range_with_len}
+use Rattle.std.{proofs.Common.◌≡◌, specs.List.range_with_len}
 use Rattle.arachne_core.proofs.tables.first_residents.Given as goal
 
 abbrev pub invariant-loop-number : goal.invariant-loop-number

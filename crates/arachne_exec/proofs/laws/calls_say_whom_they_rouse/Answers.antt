@@ -1,20 +1,14 @@
 use Rattle.std.proofs.Common.{◌≡◌, ⊎_elim, ℕ, ◌/◌, List, refl, ap, ◌∙◌, arith}
 use Rattle.std.specs.Int.{bit_at}
-use Rattle.arachne_exec.specs.declared.view.Notes.{Notes}
-use Rattle.arachne_exec.specs.declared.view.SleepDeed.{SleepDeed}
-use Rattle.arachne_exec.specs.declared.answers.JobSpawned.{JobSpawned}
+use Rattle.arachne_exec.specs.declared.{view.Notes.Notes, view.SleepDeed.SleepDeed, answers.JobSpawned.JobSpawned}
 use Rattle.arachne_exec.specs.declared.answers.JobSpawned.TheVariants as spawned
-use Rattle.arachne_exec.specs.declared.answers.SpawnedHere.{SpawnedHere}
+use Rattle.arachne_exec.specs.declared.answers.{SpawnedHere.SpawnedHere, JobRested.JobRested, JobWoken.JobWoken}
 use Rattle.arachne_exec.specs.declared.answers.SpawnedHere.TheVariants as spawned_here
-use Rattle.arachne_exec.specs.declared.answers.JobRested.{JobRested}
 use Rattle.arachne_exec.specs.declared.answers.JobRested.TheVariants as rested
-use Rattle.arachne_exec.specs.declared.answers.JobWoken.{JobWoken}
 use Rattle.arachne_exec.specs.declared.answers.JobWoken.TheVariants as woken
-use Rattle.arachne_exec.specs.declared.answers.WokenHere.{WokenHere}
+use Rattle.arachne_exec.specs.{declared.answers.WokenHere.WokenHere, declared.answers.Next.Next, Layout.worker_of}
 use Rattle.arachne_exec.specs.declared.answers.WokenHere.TheVariants as here
-use Rattle.arachne_exec.specs.declared.answers.Next.{Next}
 use Rattle.arachne_exec.specs.declared.answers.Next.TheVariants as next
-use Rattle.arachne_exec.specs.Layout.{worker_of}
 use Rattle.arachne_exec.specs.Changes.{roused_more, lain_more, risen_more}
 use Rattle.arachne_exec.specs.Calls.{worker_at, HasMissed, HasSpawned, HasSpawnedHere, HasRested, IsGone, HasWoken, HasWokenHere, HasAnswered}
 use Rattle.arachne_exec.specs.Sleeps.{spawn_unparks, rest_unparks, wake_unparks, Rouses, RousesNobody, Sleeps}

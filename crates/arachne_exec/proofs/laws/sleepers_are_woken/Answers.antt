@@ -1,6 +1,5 @@
 use Rattle.std.proofs.Common.{◌≡◌, ℕ, ◌<◌, ◌+◌, ◌*◌, ◌/◌, ◌%◌, inl, inr, ⊎_elim, sym, subst, arith, get_or}
-use Rattle.arachne_exec.specs.Layout.{summary_at}
-use Rattle.arachne_exec.specs.Board.{owed}
+use Rattle.arachne_exec.specs.{Layout.summary_at, Board.owed}
 use Rattle.arachne_exec.proofs.Bits.{bit-some}
 use Rattle.arachne_exec.proofs.laws.sleepers_are_woken.Goals as goal
 

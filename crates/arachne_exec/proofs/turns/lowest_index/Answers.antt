@@ -1,6 +1,5 @@
-use Rattle.std.proofs.Common.{arith}
+use Rattle.std.proofs.{Common.arith, lemmas.Nat.Bits.bit_at-trailing_zeros}
 use Rattle.std.specs.Int.{w64}
-use Rattle.std.proofs.lemmas.Nat.Bits.{bit_at-trailing_zeros}
 use Rattle.arachne_exec.proofs.turns.lowest_index.Goals as goal
 
 pub returns : goal.returns

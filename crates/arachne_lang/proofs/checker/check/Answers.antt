@@ -1,5 +1,4 @@
-use Rattle.std.proofs.Common.{◌≡◌, true, false, refl}
-use Rattle.std.proofs.lemmas.Result.{err_from_is_err_and}
+use Rattle.std.proofs.{Common.{◌≡◌, true, false, refl}, lemmas.Result.err_from_is_err_and}
 use Rattle.arachne_lang.proofs.NodesJudged.{verdict-limits, verdict-ok, verdict-err}
 use Rattle.arachne_lang.proofs.checker.check.Goals as goal
 

@@ -1,5 +1,4 @@
-use Rattle.std.proofs.Common.{◌≡◌, ◌+◌, length, take}
-use Rattle.std.specs.Prelude.{sum_by}
+use Rattle.std.proofs.Common.{◌≡◌, ◌+◌, length, take, sum_by}
 use Rattle.arachne_lang.proofs.checker.have_items_within.Given as goal
 
 abbrev pub invariant-loop-array : goal.invariant-loop-array

@@ -1,6 +1,5 @@
 use Rattle.std.proofs.Common.{refl}
-use Rattle.arachne_lang.specs.Spelling.{text_of}
-use Rattle.arachne_lang.proofs.FirstFault.{accepted_has_no_fault}
+use Rattle.arachne_lang.{specs.Spelling.text_of, proofs.FirstFault.accepted_has_no_fault}
 use Rattle.arachne_lang.proofs.laws.accepted_texts_have_no_fault.Goals as goal
 
 pub returns : goal.returns

@@ -1,24 +1,25 @@
--- The order of the recursion: from a form to its part, and from that to the part's expression.
-use Rattle.std.proofs.Common.{◌+◌, ◌*◌, max}
+-- The order of the recursion: from a form to its parts, which have fewer nodes together.
+use Rattle.std.proofs.Common.{◌≡◌, ◌+◌, ◌*◌, ◌≤◌, ◌++◌, map, drop}
+use Rattle.std.specs.List.{AllByRecursion}
 use Rattle.arachne_program.specs.Program.{tree_of}
-use Rattle.arachne_program.specs.Nesting.{nesting}
+use Rattle.arachne_program.specs.Checked.{node_count}
+use Rattle.arachne_lang.specs.Text.{NumbersFit}
+use Rattle.arachne_lang.specs.Spelling.{after_spaces, spelling}
+use Rattle.arachne_lang.proofs.PrintedForms.{total}
 use Rattle.arachne_lang.proofs.printing.+expression.Given as goal
 
 abbrev pub decreases-push_expression : goal.decreases-push_expression
-decreases-push_expression l = 3 * nesting (tree_of l.expr.now)
+decreases-push_expression l = 2 * node_count (tree_of l.expr.now)
 
-abbrev pub decreases-push_part : goal.decreases-push_part
-decreases-push_part l = 3 * nesting (tree_of l.part.now) + 1
+abbrev pub decreases-push_form : goal.decreases-push_form
+decreases-push_form l = 2 * total (λ part. node_count (tree_of part.now)) l.parts.now + 1
 
-abbrev pub decreases-push_with_one : goal.decreases-push_with_one
-decreases-push_with_one l = 3 * nesting (tree_of l.a.now) + 2
-
-abbrev pub decreases-push_with_two : goal.decreases-push_with_two
-decreases-push_with_two l = 3 * max (nesting (tree_of l.a.now)) (nesting (tree_of l.b.now)) + 2
-
-abbrev pub decreases-push_with_three : goal.decreases-push_with_three
-decreases-push_with_three l = 3 * max (nesting (tree_of l.a.now)) (max (nesting (tree_of l.b.now)) (nesting (tree_of l.c.now))) + 2
-
-abbrev pub decreases-push_with_four : goal.decreases-push_with_four
-decreases-push_with_four l =
-    3 * max (nesting (tree_of l.a.now)) (max (nesting (tree_of l.b.now)) (max (nesting (tree_of l.c.now)) (nesting (tree_of l.d.now)))) + 2
+-- The text and the rest of the parts are all parts, all numbers fit if those of the rest do, and the rest has no more
+-- nodes than all parts.
+abbrev pub invariant-push_form-loop-part : goal.invariant-push_form-loop-part
+invariant-push_form-loop-part l = record {
+  written : l.text.items ++ after_spaces (map (λ part. spelling (tree_of part.now)) (drop l.part-index l.parts))
+      ≡ l.initial.text.items ++ after_spaces (map (λ part. spelling (tree_of part.now)) l.parts);
+  fit : AllByRecursion (λ part. NumbersFit (tree_of part.now)) (drop l.part-index l.parts) → AllByRecursion (λ part. NumbersFit (tree_of part.now)) l.parts;
+  fewer : total (λ part. node_count (tree_of part.now)) (drop l.part-index l.parts) ≤ total (λ part. node_count (tree_of part.now)) l.parts;
+}

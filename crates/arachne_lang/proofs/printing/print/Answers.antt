@@ -1,5 +1,4 @@
-use Rattle.std.proofs.Common.{arith}
-use Rattle.std.proofs.lemmas.List.{drop_all}
+use Rattle.std.proofs.{Common.arith, lemmas.List.drop_all}
 use Rattle.arachne_lang.proofs.printing.print.Goals as goal
 
 pub returns-clause-accepted : goal.returns-clause-accepted

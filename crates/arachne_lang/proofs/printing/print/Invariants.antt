@@ -1,5 +1,4 @@
-use Rattle.std.proofs.Common.{◌≡◌, ◌^◌, ◌<◌, ◌++◌, codes, map, drop}
-use Rattle.std.specs.List.{AllByRecursion, flat_map}
+use Rattle.std.{proofs.Common.{◌≡◌, ◌^◌, ◌<◌, ◌++◌, codes, map, drop}, specs.List.{AllByRecursion, flat_map}}
 use Rattle.arachne_lang.specs.Spelling.{line}
 use Rattle.arachne_lang.proofs.printing.print.Given as goal
 

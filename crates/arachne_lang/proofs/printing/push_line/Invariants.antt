@@ -1,5 +1,4 @@
-use Rattle.std.proofs.Common.{◌≡◌, ◌^◌, ◌<◌, ◌++◌, map, drop}
-use Rattle.std.specs.List.{AllByRecursion}
+use Rattle.std.{proofs.Common.{◌≡◌, ◌^◌, ◌<◌, ◌++◌, map, drop}, specs.List.AllByRecursion}
 use Rattle.arachne_lang.specs.Spelling.{after_spaces, numeral}
 use Rattle.arachne_lang.proofs.printing.push_line.Given as goal
 

@@ -1,6 +1,5 @@
 use Rattle.std.proofs.Common.{[], ◌∷◌, append_assoc}
-use Rattle.arachne_lang.specs.Spelling.{numeral}
-use Rattle.arachne_lang.proofs.PrintedNumbers.{decimal-numeral}
+use Rattle.arachne_lang.{specs.Spelling.numeral, proofs.PrintedNumbers.decimal-numeral}
 use Rattle.arachne_lang.proofs.printing.push_number.Goals as goal
 
 pub returns : goal.returns

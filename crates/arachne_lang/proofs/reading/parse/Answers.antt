@@ -7,7 +7,7 @@ use Rattle.arachne_lang.proofs.reading.parse.Goals as goal
 pub returns-in_default : goal.returns-in_default
 returns-in_default c =
     let bytes = c.args.text.now in
-    let said = said_header bytes c.in_default.field-0 c.in_default.ensures.takes_no_memory c.in_default.ensures.read in
+    let said = said_header bytes c.in_default.field-0 c.in_default.ensures.at_byte c.in_default.ensures.read in
     record { accepted = tt; every_text = said_every_text bytes (Err (fault.Header 0)) said; no_header = λ none. refl; first_fault = said; every_fault = said_every_fault bytes (Err (fault.Header 0)) said }
 
 pub returns-in-Ok-program : goal.returns-in-Ok-program

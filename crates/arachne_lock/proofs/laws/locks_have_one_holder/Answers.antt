@@ -1,5 +1,4 @@
-use Rattle.arachne_lock.proofs.OneHolder.{one_holder}
-use Rattle.arachne_lock.proofs.Leaving.{grants_none}
+use Rattle.arachne_lock.proofs.{OneHolder.one_holder, Leaving.grants_none}
 use Rattle.arachne_lock.proofs.laws.locks_have_one_holder.Goals as goal
 
 pub returns : goal.returns

@@ -1,9 +1,6 @@
-use Rattle.std.proofs.Common.{ℕ, ◌+◌, ◌∙◌, sym, subst, ap, refl, [], ◌∷◌}
-use Rattle.std.proofs.lemmas.List.{length_push}
+use Rattle.std.proofs.{Common.{ℕ, ◌+◌, ◌∙◌, sym, subst, ap, refl, [], ◌∷◌}, lemmas.List.length_push}
 use Rattle.std.proofs.lemmas.List.Elements.{All-nil, All-cons, All-append}
-use Rattle.arachne_lock.specs.State.{IsLeftBy}
-use Rattle.arachne_lock.specs.Views.{Guarded}
-use Rattle.arachne_lock.specs.Rule.{AreFirstSlots}
+use Rattle.arachne_lock.specs.{State.IsLeftBy, Views.Guarded, Rule.AreFirstSlots}
 use Rattle.arachne_lock.proofs.GoingOn.{nothing-yet}
 use Rattle.arachne_lock.proofs.locks.first_slots.Goals as goal
 

@@ -1,5 +1,4 @@
-use Rattle.std.proofs.Common.{None, [], ◌∷◌, ◌++◌, sym, ap, ◌∙◌}
-use Rattle.std.proofs.lemmas.Grind.{replicate_next}
+use Rattle.std.proofs.{Common.{None, [], ◌∷◌, ◌++◌, sym, ap, ◌∙◌}, lemmas.Grind.replicate_next}
 use Rattle.arachne_locked.proofs.homes.no_values.Goals as goal
 
 pub loop-preserved : goal.loop-preserved

@@ -1,7 +1,5 @@
-use Rattle.std.proofs.Common.{◌≡◌, true, false, get_or, replicate, ap, ◌∙◌, refl, arith}
-use Rattle.std.proofs.lemmas.List.{get_or-replicate}
-use Rattle.arachne_core.specs.declared.layout.TheConstants.{MASK_BITS}
-use Rattle.arachne_core.specs.declared.occ_word.TheConstants.{FULL_MASK}
+use Rattle.std.proofs.{Common.{◌≡◌, true, false, get_or, replicate, ap, ◌∙◌, refl, arith}, lemmas.List.get_or-replicate}
+use Rattle.arachne_core.specs.declared.{layout.TheConstants.MASK_BITS, occ_word.TheConstants.FULL_MASK}
 use Rattle.arachne_core.specs.Occupancy.{Occupancy, flags}
 use Rattle.arachne_locked.proofs.state.no_core.Goals as goal
 

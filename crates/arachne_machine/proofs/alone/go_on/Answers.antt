@@ -2,12 +2,9 @@
 -- the other threads ready for the rest. If the thread joins, the newest outcome is its child's (`is_ready`).
 use Rattle.std.proofs.Common.{rules, refl, ◌≡◌, ◌<◌, List, [], ◌∷◌, ◌++◌, length, map, reverse, sym, ap, ◌∙◌, subst}
 use Rattle.arachne_program.specs.Program.{source_of}
-use Rattle.arachne_machine.specs.Advance.{AdvancedAlone}
-use Rattle.arachne_machine.specs.Alone.{key, Rests}
-use Rattle.arachne_machine.specs.Nested.{Nested}
-use Rattle.arachne_machine.proofs.Nesting.{whole_is}
+use Rattle.arachne_machine.specs.{Advance.AdvancedAlone, Alone.{key, Rests}, Nested.Nested}
+use Rattle.arachne_machine.proofs.{Nesting.whole_is, alone.go_on.Goals.{In_ok-advance_within, After-unwrap-outcome}}
 use Rattle.arachne_machine.proofs.Waiting.{IsReady, alone_on, pushed, same_on, some_outcome, rests_same, rests_fork, rests_end, ready}
-use Rattle.arachne_machine.proofs.alone.go_on.Goals.{In_ok-advance_within, After-unwrap-outcome}
 use Rattle.arachne_machine.proofs.alone.go_on.Goals as goal
 
 made : (c : goal.In_ok-advance_within) → AdvancedAlone c.args.budget c.args.thread.now c.in_ok-advance_within.field-0 c.advance_within.new.self

@@ -1,5 +1,4 @@
-use Rattle.std.proofs.Common.{map, reverse}
-use Rattle.std.specs.Prelude.{sum_by}
+use Rattle.std.proofs.Common.{map, reverse, sum_by}
 use Rattle.arachne_machine.specs.Alone.{key, Rests, turns_left}
 use Rattle.arachne_machine.proofs.alone.run_all.Given as goal
 

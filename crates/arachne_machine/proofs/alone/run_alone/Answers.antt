@@ -1,6 +1,5 @@
 use Rattle.std.proofs.Common.{[], ◌∷◌, sym, subst}
-use Rattle.arachne_machine.specs.Alone.{Rests}
-use Rattle.arachne_machine.proofs.Waiting.{rests_root}
+use Rattle.arachne_machine.{specs.Alone.Rests, proofs.Waiting.rests_root}
 use Rattle.arachne_machine.proofs.alone.run_alone.Goals as goal
 
 pub run_all-requires-clause-rests : goal.run_all-requires-clause-rests

@@ -1,6 +1,5 @@
 use Rattle.std.proofs.Common.{[], ◌∷◌, ◌++◌, map, reverse, sym, ap, ◌∙◌, subst}
-use Rattle.arachne_machine.specs.Alone.{key, Rests}
-use Rattle.arachne_machine.specs.Nested.{whole}
+use Rattle.arachne_machine.specs.{Alone.{key, Rests}, Nested.whole}
 use Rattle.arachne_machine.proofs.Waiting.{pushed}
 use Rattle.arachne_machine.proofs.alone.take_turn.Goals as goal
 

@@ -1,13 +1,6 @@
-use Rattle.std.proofs.Common.{◌≡◌, ◌∷◌, ◌++◌, [], take, ap, sym, ◌∙◌, subst, arith}
-use Rattle.std.specs.Prelude.{reverse}
-use Rattle.std.proofs.Math.Dec.{eqb}
-use Rattle.std.proofs.Math.Seq.{take-length}
-use Rattle.std.proofs.lemmas.Map.Views.{exact_unsigned_eq}
-use Rattle.std.proofs.lemmas.Bool.{eqb-false}
-use Rattle.std.proofs.lemmas.List.{reverse-append}
-use Rattle.arachne_machine.specs.declared.level.Level.{Level}
-use Rattle.arachne_machine.specs.declared.level.Parent.{Parent}
-use Rattle.arachne_machine.specs.Strands.{moved_level, moved_parents}
+use Rattle.std.proofs.{Common.{◌≡◌, ◌∷◌, ◌++◌, [], take, ap, sym, ◌∙◌, subst, arith, reverse}, Math.Dec.eqb}
+use Rattle.std.proofs.{Math.Seq.take-length, lemmas.{Map.Views.exact_unsigned_eq, Bool.eqb-false, List.reverse-append}}
+use Rattle.arachne_machine.specs.{declared.level.{Level.Level, Parent.Parent}, Strands.{moved_level, moved_parents}}
 use Rattle.arachne_machine.proofs.Moving.{Bounded, bounded, moved_is, none_before, parents_up_to, positive, some_before}
 use Rattle.arachne_machine.proofs.level.move_parents.Goals as goal
 

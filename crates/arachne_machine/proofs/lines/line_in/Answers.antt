@@ -1,6 +1,5 @@
 use Rattle.std.proofs.Common.{◌≡◌, ◌+◌, ◌-◌, ◌<◌, ◌≤◌, length, take, get_or, ap, sym, ◌∙◌, arith}
-use Rattle.arachne_machine.specs.Lines.{lines_in}
-use Rattle.arachne_machine.proofs.Listing.{later-list, line-within, take-lines}
+use Rattle.arachne_machine.{specs.Lines.lines_in, proofs.Listing.{later-list, line-within, take-lines}}
 use Rattle.arachne_machine.proofs.lines.line_in.Goals as goal
 
 pub loop-left-preserved : goal.loop-left-preserved

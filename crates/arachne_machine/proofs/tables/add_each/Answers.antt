@@ -1,6 +1,5 @@
 use Rattle.std.proofs.Common.{◌≡◌, ◌+◌, length, get_or, ap, ◌∙◌, arith}
-use Rattle.arachne_program.specs.Value.{wrapped}
-use Rattle.arachne_program.specs.Effects.{tabulated}
+use Rattle.arachne_program.specs.{Value.wrapped, Effects.tabulated}
 use Rattle.arachne_machine.proofs.Tabulated.{tabulated-sum, length-tabulated}
 use Rattle.arachne_machine.proofs.tables.add_each.Goals as goal
 

@@ -1,5 +1,4 @@
-use Rattle.std.proofs.Common.{◌++◌, [], ◌∷◌, ℕ, List, ap, sym, ◌∙◌, append_assoc, add-one, arith}
-use Rattle.std.proofs.lemmas.List.{append-nil}
+use Rattle.std.proofs.Common.{◌++◌, [], ◌∷◌, ℕ, List, ap, sym, ◌∙◌, append_assoc, add-one, arith, append-nil}
 use Rattle.arachne_program.specs.Effects.{tabulated}
 use Rattle.arachne_machine.proofs.tables.push_zeros.Goals as goal
 

@@ -1,5 +1,4 @@
-use Rattle.std.proofs.Common.{◌∙◌, ap, replicate, rules}
-use Rattle.std.proofs.lemmas.Result.{IfOk-weaker}
+use Rattle.std.proofs.{Common.{◌∙◌, ap, replicate, rules}, lemmas.Result.IfOk-weaker}
 use Rattle.arachne_machine.proofs.Tabulated.{tabulated-zeros}
 use Rattle.arachne_machine.proofs.tables.zeros.Goals as goal
 

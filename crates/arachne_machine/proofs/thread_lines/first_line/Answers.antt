@@ -1,6 +1,5 @@
 use Rattle.std.proofs.Common.{◌+◌, ◌<◌, ◌∷◌, List, length, ap, sym, ◌∙◌, arith}
-use Rattle.arachne_machine.specs.Lines.{Listed, lines_from}
-use Rattle.arachne_machine.proofs.Listing.{from-line}
+use Rattle.arachne_machine.{specs.Lines.{Listed, lines_from}, proofs.Listing.from-line}
 use Rattle.arachne_machine.proofs.thread_lines.first_line.Goals as goal
 
 pub returns-then-place-len : goal.returns-then-place-len

@@ -1,7 +1,6 @@
 -- The order of the recursion: from a helper to the expression that it takes, and from that to its parts.
 use Rattle.std.proofs.Common.{◌+◌, ◌*◌}
-use Rattle.arachne_program.specs.Program.{tree_of}
-use Rattle.arachne_program.specs.Nesting.{nesting}
+use Rattle.arachne_program.specs.{Program.tree_of, Nesting.nesting}
 use Rattle.arachne_machine.proofs.worth.+recursion.Given as goal
 
 abbrev pub decreases-value_at_once : goal.decreases-value_at_once

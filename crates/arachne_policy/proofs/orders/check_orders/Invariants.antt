@@ -1,5 +1,4 @@
-use Rattle.std.proofs.Common.{◌≡◌, ℕ, ◌<◌}
-use Rattle.std.specs.Prelude.{None}
+use Rattle.std.proofs.Common.{◌≡◌, ℕ, ◌<◌, None}
 use Rattle.arachne_policy.specs.Orders.{due_before, fault_at}
 use Rattle.arachne_policy.proofs.orders.check_orders.Given as goal
 

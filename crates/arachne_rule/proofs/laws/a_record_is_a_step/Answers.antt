@@ -1,7 +1,6 @@
 use Rattle.std.proofs.Common.{◌∙◌, sym, ap, List}
 use lib.ListN.{get_elem?}
-use Rattle.arachne_rule.specs.declared.view.Record.{Record}
-use Rattle.arachne_rule.proofs.Histories.{record-is-a-step}
+use Rattle.arachne_rule.{specs.declared.view.Record.Record, proofs.Histories.record-is-a-step}
 use Rattle.arachne_rule.proofs.laws.a_record_is_a_step.Goals as goal
 
 pub returns : goal.returns

@@ -1,5 +1,4 @@
-use Rattle.std.proofs.Common.{arith, inl, inr}
-use Rattle.std.proofs.lemmas.Bool.{cases_lt}
+use Rattle.std.proofs.{Common.{arith, inl, inr}, lemmas.Bool.cases_lt}
 use Rattle.arachne_rule.proofs.laws.an_occupancy_word_stands_apart.Goals as goal
 
 pub returns-clause-marks : goal.returns-clause-marks

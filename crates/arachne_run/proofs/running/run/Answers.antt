@@ -1,10 +1,6 @@
-use Rattle.std.proofs.Common.{◌≤◌, All, ap, length, subst, sym, ◌∙◌}
-use Rattle.std.proofs.lemmas.List.Elements.{All-map}
-use Rattle.std.proofs.lemmas.List.{length-map}
-use Rattle.arachne_program.specs.Meaning.{meaning_of}
-use Rattle.arachne_program.specs.Program.{source_of}
-use Rattle.arachne_sleep.specs.History.{IsSound}
-use Rattle.arachne_sleep.specs.OneHolder.{HasOneHolderAtATime}
+use Rattle.std.proofs.{Common.{◌≤◌, All, ap, length, subst, sym, ◌∙◌}, lemmas.List.{length-map, Elements.All-map}}
+use Rattle.arachne_program.specs.{Meaning.meaning_of, Program.source_of}
+use Rattle.arachne_sleep.specs.{History.IsSound, OneHolder.HasOneHolderAtATime}
 use Rattle.arachne_run.proofs.running.run.Goals as goal
 
 -- the report's histories are those that the locks were closed with

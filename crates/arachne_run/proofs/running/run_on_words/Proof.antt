@@ -1,6 +1,7 @@
 use Rattle.std.proofs.Common.{refl}
 use contract.BorrowLft.{⊑_static}
-use denote.Param.Send.{sendable}
+use denote.{Param.Send.{sendable, IsSend, param_send, arg_send}, RattleType.RattleType, Exit.no}
+use denote.Param.{param}
 use Rattle.std.proofs.Crossing as std
 use Rattle.arachne_words.proofs.table.WordContexts.TheSendSync as words
 use Rattle.arachne_words.proofs.seat.WordSeat.TheSendSync as seat
@@ -8,10 +9,6 @@ use Rattle.arachne_words.proofs.seat.WordClaim.TheSendSync as claim
 use Rattle.arachne_words.proofs.seat.WordHold.TheSendSync as hold
 use Rattle.arachne_words.proofs.table.WordContexts.TheLaws as words_laws
 use Rattle.arachne_words.proofs.seat.WordSeat.TheLaws as seat_laws
-use denote.RattleType.{RattleType}
-use denote.Exit.{no}
-use denote.Param.{param}
-use denote.Param.Send.{IsSend, param_send, arg_send}
 use Rattle.arachne_words.specs.contracts.seat.WordSeat as seat_row
 use Rattle.arachne_run.proofs.running.run_on_words.Statement.{statement}
 use Rattle.arachne_run.proofs.running.run_on_words.Tie as tie

@@ -2,29 +2,22 @@ use Rattle.std.proofs.Common.{refl}
 use contract.BorrowLft.{⊑_static}
 use denote.Param.Send.{sendable}
 use Rattle.std.proofs.Crossing as std
-use Rattle.arachne_locked.proofs.seat.LockedSeat.TheSendSync as seat
-use Rattle.arachne_locked.proofs.tokens.LockedClaim.TheSendSync as claim
-use Rattle.arachne_locked.proofs.tokens.LockedHold.TheSendSync as hold
 use contract.Lifetimes.{Lfts}
 use denote.Ref.{NamedLft}
 use mir.Syntax.{named}
-use Rattle.arachne_jobs.specs.contracts.job.Job as job_row
-use Rattle.arachne_jobs.specs.contracts.job.JobTagged.TheImpl as tagged
 use Rattle.arachne_machine.proofs.thread.Thread.TheLaws as thread
 use Rattle.arachne_jobs.proofs.job.Job.TheLaws as job
 use Rattle.arachne_jobs.proofs.waiting.Ticket.TheLaws as ticket
 use Rattle.arachne_jobs.proofs.spares.JobSpares.TheLaws as spares
 use Rattle.arachne_machine.proofs.Crossing.{thread_send}
 use Rattle.arachne_jobs.proofs.Crossing.{job_send, spares_send, ticket_send}
-use Rattle.arachne_run_tests.proofs.altered.Altered.TheSendSync as altered
-use Rattle.arachne_run_tests.proofs.altered.Altered.TheLaws as altered_laws
 use Rattle.arachne_run_tests.proofs.choosers.Progression.TheSendSync as chooser
 use Rattle.arachne_run_tests.proofs.gates.Watch.TheSendSync as watch
 use Rattle.arachne_run_tests.proofs.runs.run_on_lock.Statement.{statement}
 use Rattle.arachne_run_tests.proofs.runs.run_on_lock.Tie as tie
 
 -- the lifetime of the program
-abbrev program : Lfts 14 → NamedLft
+abbrev program : Lfts 10 → NamedLft
 program κs = record { mir = named 1; lft = κs.1.0 }
 
 -- What is lent to the run outlives it; what it sends to its kernel threads and shares with them may cross; the program
@@ -33,58 +26,34 @@ pub run_on_lock_spec : {M : Type 1} → statement M
 run_on_lock_spec = tie.close (λ R laws threads threads-dict wait wait-dict clock clock-dict world met-threads met-wait met-clock.
     tie.spec R laws threads threads-dict wait wait-dict clock clock-dict
     (λ c κs within. (
-      within.1.1.1.1.1,
+      within.1.1.1.1,
       (
         job.the_within (program κs) _ within.0,
         (
-          altered_laws.the_within (job_row.the_row (program κs)) tagged.ghosts _ (job.the_within (program κs) _ within.1.0),
+          ⊑_static _,
           (
             ⊑_static _,
             (
-              ⊑_static _,
+              thread.the_within (program κs) _ within.1.0,
               (
-                thread.the_within (program κs) _ within.1.1.0,
+                ticket.the_within (program κs) _ within.1.1.0,
                 (
-                  ticket.the_within (program κs) _ within.1.1.1.0,
+                  spares.the_within (program κs) _ within.1.1.1.0,
                   (
-                    spares.the_within (program κs) _ within.1.1.1.1.0,
+                    search (sendable, job_send) depth 20,
                     (
-                      ⊑_static _,
+                      search (sendable, chooser.the_send) depth 20,
                       (
-                        ⊑_static _,
+                        search (sendable, thread_send) depth 20,
                         (
-                          ⊑_static _,
+                          search (sendable, ticket_send) depth 20,
                           (
-                            search (sendable, job_send) depth 20,
+                            search (sendable, spares_send) depth 20,
                             (
-                              search (sendable, chooser.the_send) depth 20,
+                              search (sendable, c.requires.1.0) depth 20,
                               (
-                                search (sendable, thread_send) depth 20,
-                                (
-                                  search (sendable, ticket_send) depth 20,
-                                  (
-                                    search (sendable, spares_send) depth 20,
-                                    (
-                                      search (sendable, claim.the_send) depth 20,
-                                      (
-                                        search (sendable, hold.the_send) depth 20,
-                                        (
-                                          search (sendable, seat.the_send) depth 20,
-                                          (
-                                            search (sendable, c.requires.1.0) depth 20,
-                                            (
-                                              search (sendable, std.crosses, altered.the_sync, job_send) depth 20,
-                                              (
-                                                search (sendable, std.crosses, watch.the_sync) depth 20,
-                                                ((refl, tt), c.requires.1.1),
-                                              ),
-                                            ),
-                                          ),
-                                        ),
-                                      ),
-                                    ),
-                                  ),
-                                ),
+                                search (sendable, std.crosses, watch.the_sync) depth 20,
+                                ((refl, tt), c.requires.1.1),
                               ),
                             ),
                           ),

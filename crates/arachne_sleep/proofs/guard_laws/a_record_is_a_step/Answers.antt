@@ -1,8 +1,6 @@
-use Rattle.std.proofs.Common.{List, sym, ap, ◌∙◌, refl}
-use Rattle.std.specs.Prelude.{slice_get}
+use Rattle.std.proofs.Common.{List, sym, ap, ◌∙◌, refl, slice_get}
 use Rattle.arachne_weights.specs.Tokens.{held}
-use Rattle.arachne_sleep.specs.declared.view.Record.{Record}
-use Rattle.arachne_sleep.proofs.Traces.{noted-is-made}
+use Rattle.arachne_sleep.{specs.declared.view.Record.Record, proofs.Traces.noted-is-made}
 use Rattle.arachne_sleep.proofs.guard_laws.a_record_is_a_step.Goals as goal
 
 pub returns-clause-all : goal.returns-clause-all

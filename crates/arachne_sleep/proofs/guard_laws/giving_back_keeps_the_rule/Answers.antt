@@ -1,8 +1,6 @@
 use Rattle.std.proofs.Common.{subst, sym}
 use Rattle.atomic_table.specs.Table.{Allows}
-use Rattle.arachne_sleep.specs.Words.{guard_word}
-use Rattle.arachne_sleep.specs.Rule.{IsKept}
-use Rattle.arachne_sleep.specs.Steps.{Mine, GivesBack}
+use Rattle.arachne_sleep.specs.{Words.guard_word, Rule.IsKept, Steps.{Mine, GivesBack}}
 use Rattle.arachne_sleep.proofs.Keeps.{gives-allowed}
 use Rattle.arachne_sleep.proofs.guard_laws.giving_back_keeps_the_rule.Goals as goal
 

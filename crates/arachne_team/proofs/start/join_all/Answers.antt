@@ -1,5 +1,4 @@
-use Rattle.std.proofs.Common.{◌≡◌, All, subst}
-use Rattle.std.proofs.lemmas.List.Elements.{All-tail}
+use Rattle.std.proofs.{Common.{◌≡◌, All, subst}, lemmas.List.Elements.All-tail}
 use Rattle.arachne_team.proofs.start.join_all.Goals as goal
 
 pub loop-other-preserved : goal.loop-other-preserved

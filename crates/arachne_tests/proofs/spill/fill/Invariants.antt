@@ -1,4 +1,4 @@
-use Rattle.arachne_spill.specs.Views.{IsPassOf}
+use Rattle.arachne_jobs.specs.Views.{IsPassOf}
 use Rattle.arachne_tests.proofs.spill.fill.Given as goal
 
 abbrev pub invariant-loop-tag : goal.invariant-loop-tag

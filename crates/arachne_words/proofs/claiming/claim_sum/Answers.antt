@@ -1,5 +1,4 @@
-use Rattle.std.proofs.Common.{arith}
-use Rattle.std.proofs.lemmas.Nat.{pow_below, one_shl}
+use Rattle.std.proofs.{Common.arith, lemmas.Nat.{pow_below, one_shl}}
 use Rattle.arachne_core.specs.declared.layout.TheConstants.{MASK_BITS}
 use Rattle.arachne_words.proofs.claiming.claim_sum.Goals as goal
 

@@ -2,8 +2,7 @@
 -- other (`AreDraining-closes`, `AreDraining-opens`). A new kind of order is another arm with such a lemma in
 -- `DrainingCores`.
 use Rattle.std.proofs.Common.{◌≡◌, rules}
-use Rattle.arachne_arbiter.specs.declared.orders.Effect.TheVariants.{Closes, Opens}
-use Rattle.arachne_arbiter.specs.Orders.{next_effect, with_next}
+use Rattle.arachne_arbiter.specs.{declared.orders.Effect.TheVariants.{Closes, Opens}, Orders.{next_effect, with_next}}
 use Rattle.arachne_arbiter.proofs.DrainingCores.{AreDraining-closes, AreDraining-opens}
 use Rattle.arachne_arbiter.proofs.arbiter.Arbiter.apply_next.Goals as goal
 

@@ -1,5 +1,4 @@
-use Rattle.std.proofs.Common.{◌≡◌}
-use Rattle.std.specs.Prelude.{vec_len}
+use Rattle.std.proofs.Common.{◌≡◌, vec_len}
 use Rattle.arachne_arbiter.proofs.parking.Parking.new.Given as goal
 
 abbrev pub invariant-loop : goal.invariant-loop

@@ -1,7 +1,5 @@
-use Rattle.std.proofs.Common.{◌≡◌, ℕ, ◌/◌, ◌^◌, sym, ap, ◌∙◌, arith}
-use Rattle.std.proofs.lemmas.Nat.{and_mask}
-use Rattle.arachne_core.specs.Marked.{Marked, marked_of, mark_named}
-use Rattle.arachne_core.proofs.OccupancyWords.{bit_test}
+use Rattle.std.proofs.{Common.{ℕ, ◌/◌, ◌^◌, ap, ◌∙◌}, lemmas.Nat.and_mask}
+use Rattle.arachne_core.{specs.Marked.mark_named, proofs.OccupancyWords.bit_test}
 use Rattle.arachne_core.proofs.mark_word.MarkWord.from_first.Goals as goal
 
 pub returns-then-generation-le-LAST_GENERATION-clause-value : goal.returns-then-generation-le-LAST_GENERATION-clause-value

@@ -1,6 +1,5 @@
 use Rattle.std.proofs.Common.{ap, ◌∙◌}
-use Rattle.arachne_core.specs.Marked.{Marked}
-use Rattle.arachne_core.proofs.OccupancyWords.{bit_test}
+use Rattle.arachne_core.{specs.Marked.Marked, proofs.OccupancyWords.bit_test}
 use Rattle.arachne_core.proofs.mark_word.MarkWord.is_alone.Goals as goal
 
 pub returns : goal.returns

@@ -1,7 +1,5 @@
-use Rattle.std.proofs.Common.{ℕ, ◌+◌, ◌*◌, ◌/◌, ◌^◌, ap, ◌∙◌, arith}
-use Rattle.std.proofs.lemmas.Nat.Bits.{and_high_mask}
-use Rattle.arachne_core.specs.declared.layout.TheConstants.{CORE_BITS}
-use Rattle.arachne_core.specs.Marked.{Marked, marked_of}
+use Rattle.std.proofs.{Common.{ℕ, ◌+◌, ◌*◌, ◌/◌, ◌^◌, ap, ◌∙◌, arith}, lemmas.Nat.Bits.and_high_mask}
+use Rattle.arachne_core.specs.{declared.layout.TheConstants.CORE_BITS, Marked.{Marked, marked_of}}
 use Rattle.arachne_core.proofs.MarkWords.{marking}
 use Rattle.arachne_core.proofs.mark_word.MarkWord.with_mark.Goals as goal
 

@@ -1,8 +1,6 @@
-use Rattle.std.proofs.Common.{◌/◌, ◌^◌, ◌≤◌, ap, ◌∙◌, arith}
+use Rattle.std.proofs.{Common.{◌/◌, ◌^◌, ◌≤◌, ap, ◌∙◌, arith}, lemmas.Nat.and_mask}
 use Rattle.std.specs.Int.RustNames.{bit_and}
-use Rattle.arachne_core.specs.declared.layout.TheConstants.{MASK_BITS}
-use Rattle.arachne_core.specs.Occupancy.{Occupancy, count_of, flags}
-use Rattle.std.proofs.lemmas.Nat.{and_mask}
+use Rattle.arachne_core.specs.{declared.layout.TheConstants.MASK_BITS, Occupancy.{Occupancy, count_of, flags}}
 use Rattle.arachne_core.proofs.OccupancyWords.{read_count, count_of-le, length-flags}
 use Rattle.arachne_core.proofs.occ_word.OccWord.count.Goals as goal
 

@@ -1,9 +1,6 @@
-use Rattle.std.proofs.Common.{◌/◌, ◌^◌, refl, sym, ap, ◌∙◌, arith}
+use Rattle.std.proofs.{Common.{◌/◌, ◌^◌, refl, sym, ap, ◌∙◌, arith}, lemmas.{Nat.and_mask, Bool.false≢true}}
 use Rattle.std.specs.Int.RustNames.{count_ones}
-use Rattle.std.proofs.lemmas.Nat.{and_mask}
-use Rattle.std.proofs.lemmas.Bool.{false≢true}
-use Rattle.arachne_core.specs.declared.layout.TheConstants.{MASK_BITS}
-use Rattle.arachne_core.proofs.OccupancyWords.{counted, counts}
+use Rattle.arachne_core.{specs.declared.layout.TheConstants.MASK_BITS, proofs.OccupancyWords.{counted, counts}}
 use Rattle.arachne_core.proofs.occ_word.OccWord.from_word.Goals as goal
 
 pub invariant_of-result : goal.invariant_of-result

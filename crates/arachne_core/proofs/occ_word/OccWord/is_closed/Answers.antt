@@ -1,6 +1,5 @@
 use Rattle.std.proofs.Common.{ap, ◌∙◌}
-use Rattle.arachne_core.specs.Occupancy.{Occupancy}
-use Rattle.arachne_core.proofs.OccupancyWords.{bit_test}
+use Rattle.arachne_core.{specs.Occupancy.Occupancy, proofs.OccupancyWords.bit_test}
 use Rattle.arachne_core.proofs.occ_word.OccWord.is_closed.Goals as goal
 
 pub returns : goal.returns

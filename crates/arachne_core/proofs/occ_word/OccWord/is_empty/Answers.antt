@@ -1,5 +1,4 @@
-use Rattle.std.proofs.Common.{sym, ◌∙◌}
-use Rattle.std.proofs.lemmas.Bool.{eqb-true, eq-eqb}
+use Rattle.std.proofs.Common.{sym, ◌∙◌, eqb-true, eq-eqb}
 use Rattle.arachne_core.proofs.OccupancyWords.{mask_of-zero, mask_of-none}
 use Rattle.arachne_core.proofs.occ_word.OccWord.is_empty.Goals as goal
 

@@ -1,8 +1,6 @@
-use Rattle.std.proofs.Common.{ℕ, ◌/◌, ◌^◌, false, eqb, get_or, sym, ap, ◌∙◌}
+use Rattle.std.proofs.{Common.{ℕ, ◌/◌, ◌^◌, false, eqb, get_or, sym, ap, ◌∙◌}, lemmas.Nat.Bits.shr_and_one}
 use Rattle.std.specs.Int.RustNames.{bit_and}
-use Rattle.arachne_core.specs.declared.layout.TheConstants.{MASK_BITS}
-use Rattle.arachne_core.specs.Occupancy.{Occupancy}
-use Rattle.std.proofs.lemmas.Nat.Bits.{shr_and_one}
+use Rattle.arachne_core.specs.{declared.layout.TheConstants.MASK_BITS, Occupancy.Occupancy}
 use Rattle.arachne_core.proofs.OccupancyWords.{get_or-flags}
 use Rattle.arachne_core.proofs.occ_word.OccWord.is_occupied.Goals as goal
 

@@ -1,6 +1,5 @@
 use Rattle.std.proofs.Common.{false, get_or, sym, ap, ◌∙◌, arith}
-use Rattle.arachne_core.specs.Occupancy.{Occupancy}
-use Rattle.arachne_core.proofs.OccupancyWords.{lowest}
+use Rattle.arachne_core.{specs.Occupancy.Occupancy, proofs.OccupancyWords.lowest}
 use Rattle.arachne_core.proofs.occ_word.OccWord.lowest_free.Goals as goal
 
 pub returns-then-index-from-clause-free : goal.returns-then-index-from-clause-free

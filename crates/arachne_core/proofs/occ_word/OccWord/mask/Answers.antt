@@ -1,7 +1,5 @@
-use Rattle.std.proofs.Common.{ap, ◌∙◌}
-use Rattle.arachne_core.specs.declared.layout.TheConstants.{MASK_BITS}
-use Rattle.arachne_core.specs.Occupancy.{Occupancy, mask_of}
-use Rattle.std.proofs.lemmas.Nat.{and_mask}
+use Rattle.std.proofs.{Common.{ap, ◌∙◌}, lemmas.Nat.and_mask}
+use Rattle.arachne_core.specs.{declared.layout.TheConstants.MASK_BITS, Occupancy.{Occupancy, mask_of}}
 use Rattle.arachne_core.proofs.OccupancyWords.{read_mask}
 use Rattle.arachne_core.proofs.occ_word.OccWord.mask.Goals as goal
 

@@ -1,7 +1,6 @@
 use Rattle.std.proofs.Common.{Bool, sym, ap, ◌∙◌, subst}
-use Rattle.arachne_core.specs.Occupancy.{IsOccupancyWord}
+use Rattle.arachne_core.specs.Occupancy.{IsOccupancyWord, occupancy_of}
 use Rattle.arachne_core.proofs.OccupancyWords.{set_closed, clear_closed}
-use Rattle.arachne_core.specs.Occupancy.{occupancy_of}
 use Rattle.arachne_core.proofs.occ_word.OccWord.with_closed.Goals.{then-closed, else-closed}
 use Rattle.arachne_core.proofs.occ_word.OccWord.with_closed.Goals as goal
 

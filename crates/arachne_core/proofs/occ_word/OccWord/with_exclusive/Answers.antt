@@ -1,7 +1,6 @@
 use Rattle.std.proofs.Common.{Bool, sym, ap, ◌∙◌, subst}
-use Rattle.arachne_core.specs.Occupancy.{IsOccupancyWord}
+use Rattle.arachne_core.specs.Occupancy.{IsOccupancyWord, occupancy_of}
 use Rattle.arachne_core.proofs.OccupancyWords.{set_exclusive, clear_exclusive}
-use Rattle.arachne_core.specs.Occupancy.{occupancy_of}
 use Rattle.arachne_core.proofs.occ_word.OccWord.with_exclusive.Goals.{then-exclusive, else-exclusive}
 use Rattle.arachne_core.proofs.occ_word.OccWord.with_exclusive.Goals as goal
 

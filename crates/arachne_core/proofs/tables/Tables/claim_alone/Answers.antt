@@ -1,6 +1,5 @@
 use Rattle.std.proofs.Common.{true, ap, arith}
-use Rattle.arachne_core.specs.declared.state.State.TheVariants.{Claimed}
-use Rattle.arachne_core.specs.ContextTable.{ContextTable}
+use Rattle.arachne_core.specs.{declared.state.State.TheVariants.Claimed, ContextTable.ContextTable}
 use Rattle.arachne_core.proofs.TableEvents.{alone_makes}
 use Rattle.arachne_core.proofs.tables.Tables.claim_alone.Goals as goal
 

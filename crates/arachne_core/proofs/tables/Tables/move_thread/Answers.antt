@@ -1,6 +1,5 @@
 use Rattle.std.proofs.Common.{ap, arith}
-use Rattle.arachne_core.specs.ContextTable.{ContextTable}
-use Rattle.arachne_core.proofs.TableEvents.{move_makes}
+use Rattle.arachne_core.{specs.ContextTable.ContextTable, proofs.TableEvents.move_makes}
 use Rattle.arachne_core.proofs.tables.Tables.move_thread.Goals as goal
 
 pub returns : goal.returns

@@ -1,12 +1,7 @@
-use Rattle.arachne_core.specs.ContextTable.{world_of}
-use Rattle.std.proofs.Common.{◌≡◌, ℕ, ◌*◌, List, map, sym, ap, ◌∙◌, subst}
-use Rattle.std.specs.List.{range_with_len}
-use Rattle.arachne_core.specs.declared.state.Context.{Context}
-use Rattle.arachne_core.specs.Occupancy.{Occupancy}
-use Rattle.arachne_core.specs.World.{Thread}
-use Rattle.arachne_core.specs.Run.{IsOpening}
-use Rattle.arachne_core.specs.TableChanges.{IsTable, first_context}
+use Rattle.arachne_core.specs.{ContextTable.world_of, declared.state.Context.Context, Occupancy.Occupancy, World.Thread}
+use Rattle.arachne_core.specs.{Run.IsOpening, TableChanges.{IsTable, first_context}}
 use Rattle.arachne_core.proofs.TableInvariant.{first_table, first_world}
+use Rattle.std.{proofs.Common.{◌≡◌, ℕ, ◌*◌, List, map, sym, ap, ◌∙◌, subst}, specs.List.range_with_len}
 use Rattle.arachne_core.proofs.tables.Tables.new.Goals as goal
 
 pub invariant_of-result : goal.invariant_of-result

@@ -1,6 +1,5 @@
 use Rattle.std.proofs.Common.{ap, arith}
-use Rattle.arachne_core.specs.ContextTable.{ContextTable}
-use Rattle.arachne_core.proofs.TableEvents.{post_makes}
+use Rattle.arachne_core.{specs.ContextTable.ContextTable, proofs.TableEvents.post_makes}
 use Rattle.arachne_core.proofs.tables.Tables.post.Goals as goal
 
 pub returns : goal.returns

@@ -1,7 +1,5 @@
 use Rattle.std.proofs.Common.{ap, ◌∙◌, arith}
-use Rattle.arachne_core.specs.declared.state.Context.{Context}
-use Rattle.arachne_core.specs.ContextTable.{ContextTable}
-use Rattle.arachne_core.specs.World.{put_back}
+use Rattle.arachne_core.specs.{declared.state.Context.Context, ContextTable.ContextTable, World.put_back}
 use Rattle.arachne_core.proofs.TableEvents.{state_makes}
 use Rattle.arachne_core.proofs.tables.Tables.put_back.Goals as goal
 

@@ -1,6 +1,5 @@
 use Rattle.std.proofs.Common.{false, ap, arith}
-use Rattle.arachne_core.specs.declared.state.State.TheVariants.{Free}
-use Rattle.arachne_core.specs.ContextTable.{ContextTable}
+use Rattle.arachne_core.specs.{declared.state.State.TheVariants.Free, ContextTable.ContextTable}
 use Rattle.arachne_core.proofs.TableEvents.{alone_makes}
 use Rattle.arachne_core.proofs.tables.Tables.release.Goals as goal
 

@@ -1,6 +1,5 @@
 use Rattle.std.proofs.Common.{◌<◌, length, sym, subst, arith, ap, ◌∙◌}
-use Rattle.arachne_core.specs.World.{IsContext}
-use Rattle.arachne_core.specs.ContextTable.{ContextTable, context, world_of}
+use Rattle.arachne_core.specs.{World.IsContext, ContextTable.{ContextTable, context, world_of}}
 use Rattle.arachne_core.proofs.TableInvariant.{resident_at}
 use Rattle.arachne_core.proofs.tables.Tables.resident.Goals as goal
 

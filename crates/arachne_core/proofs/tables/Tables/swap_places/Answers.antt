@@ -1,8 +1,5 @@
-use Rattle.arachne_core.specs.ContextTable.{ContextTable, world_of}
-use Rattle.std.proofs.Common.{◌<◌, length, sym, subst, arith}
-use Rattle.std.proofs.lemmas.List.{get_or_read}
-use Rattle.arachne_core.specs.World.{IsContext}
-use Rattle.arachne_core.specs.ContextTable.{no_context}
+use Rattle.arachne_core.specs.{ContextTable.{ContextTable, world_of}, World.IsContext, ContextTable.no_context}
+use Rattle.std.proofs.{Common.{◌<◌, length, sym, subst, arith}, lemmas.List.get_or_read}
 use Rattle.arachne_core.proofs.TableInvariant.{swap_invariant, number_in}
 use Rattle.arachne_core.proofs.tables.Tables.swap_places.Goals as goal
 

@@ -1,6 +1,5 @@
-use Rattle.arachne_core.specs.ContextTable.{ContextTable, world_of}
+use Rattle.arachne_core.specs.{ContextTable.{ContextTable, world_of}, World.IsPlace}
 use Rattle.std.proofs.Common.{ℕ, sym, ap, ◌∙◌, subst}
-use Rattle.arachne_core.specs.World.{IsPlace}
 use Rattle.arachne_core.proofs.world.World.context_at.Goals as goal
 
 pub returns-clause-at : goal.returns-clause-at

@@ -1,5 +1,4 @@
-use Rattle.arachne_core.specs.ContextTable.{world_of}
-use Rattle.arachne_core.proofs.Runs.{opening_owned_once}
+use Rattle.arachne_core.{specs.ContextTable.world_of, proofs.Runs.opening_owned_once}
 use Rattle.arachne_core.proofs.world.World.new.Goals as goal
 
 pub invariant_of-result : goal.invariant_of-result

@@ -1,6 +1,5 @@
-use Rattle.arachne_core.specs.ContextTable.{ContextTable, world_of}
+use Rattle.arachne_core.specs.{ContextTable.{ContextTable, world_of}, OwnedOnce.OwnedOnce}
 use Rattle.std.proofs.Common.{sym, subst}
-use Rattle.arachne_core.specs.OwnedOnce.{OwnedOnce}
 use Rattle.arachne_core.proofs.world.World.reserve.Goals as goal
 
 pub invariant_of-self : goal.invariant_of-self

@@ -1,8 +1,6 @@
 use Rattle.std.proofs.Common.{ℕ, ◌%◌, ◌∙◌, ◌∷◌}
-use Rattle.arachne_exec.specs.Changes.{claiming, noted}
-use Rattle.arachne_exec.specs.Seats.{CallView}
-use Rattle.arachne_exec.proofs.Allowed.{bit_true, claim-asks}
-use Rattle.arachne_exec.proofs.Told.{told-view}
+use Rattle.arachne_exec.specs.{Changes.{claiming, noted}, Seats.CallView}
+use Rattle.arachne_exec.proofs.{Allowed.{bit_true, claim-asks}, Told.told-view}
 use Rattle.arachne_exec.proofs.executor.Executor.claim_bit.Goals as goal
 
 pub fetch_and-found-requires : goal.fetch_and-found-requires

@@ -1,11 +1,8 @@
 use Rattle.std.proofs.Common.{◌≡◌, ℕ, suc, ◌+◌, ◌<◌, ◌∙◌, ◌++◌, ap, sym, subst, arith, rules, List, [], ◌∷◌}
 use Rattle.std.specs.Slots.{slots_items, slots_filled}
 use Rattle.atomic_table.specs.Table.{Final, Seen}
-use Rattle.arachne_weights.specs.declared.token.Token.{Token}
-use Rattle.arachne_weights.specs.Tokens.{held}
-use Rattle.arachne_weights.specs.Weight.{whole}
-use Rattle.arachne_exec.specs.declared.view.Notes.{Notes}
-use Rattle.arachne_exec.specs.Board.{IsLawful}
+use Rattle.arachne_weights.specs.{declared.token.Token.Token, Tokens.held, Weight.whole}
+use Rattle.arachne_exec.specs.{declared.view.Notes.Notes, Board.IsLawful}
 use Rattle.arachne_exec.proofs.Leaving.{EndsWith, SoFar, so-far-none, so-far-zero, so-far-some, all-settled, still-filled, none-taken}
 use Rattle.arachne_exec.proofs.executor.Executor.close_into.Goals as goal
 

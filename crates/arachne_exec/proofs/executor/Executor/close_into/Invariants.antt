@@ -1,6 +1,5 @@
 use Rattle.std.proofs.Common.{◌≡◌, ℕ, ◌<◌, ◌≤◌, true, false, get_or, vec_len}
-use Rattle.std.specs.Vec.{vec_capacity}
-use Rattle.std.specs.Slots.{slots_items, slots_filled, slots_len}
+use Rattle.std.specs.{Vec.vec_capacity, Slots.{slots_items, slots_filled, slots_len}}
 use Rattle.arachne_exec.proofs.Leaving.{EndsWith, SoFar}
 use Rattle.arachne_exec.proofs.executor.Executor.close_into.Given as goal
 

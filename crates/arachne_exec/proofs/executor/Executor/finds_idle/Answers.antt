@@ -1,8 +1,6 @@
 use Rattle.std.proofs.Common.{◌∙◌, ap}
-use Rattle.arachne_exec.specs.Layout.{worker_of}
-use Rattle.arachne_exec.specs.Changes.{owing}
-use Rattle.arachne_exec.proofs.Told.{live-either}
-use Rattle.arachne_exec.proofs.Allowed.{look-idle-asks}
+use Rattle.arachne_exec.specs.{Layout.worker_of, Changes.owing}
+use Rattle.arachne_exec.proofs.{Told.live-either, Allowed.look-idle-asks}
 use Rattle.arachne_exec.proofs.executor.Executor.finds_idle.Goals as goal
 
 pub load-found-requires : goal.load-found-requires

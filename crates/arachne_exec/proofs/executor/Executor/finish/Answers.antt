@@ -1,6 +1,5 @@
 use Rattle.std.proofs.Common.{◌≡◌, ℕ, ◌+◌, ◌*◌, ◌/◌, ◌%◌, ◌∙◌, inl, inr, [], ◌∷◌, ap, refl, arith}
-use Rattle.arachne_exec.specs.declared.view.Notes.{Notes}
-use Rattle.arachne_exec.specs.Layout.{mark_at}
+use Rattle.arachne_exec.specs.{declared.view.Notes.Notes, Layout.mark_at}
 use Rattle.arachne_exec.specs.Changes.{freeing, noted, blocking, ending, hearing}
 use Rattle.arachne_exec.proofs.Chains.{ended}
 use Rattle.arachne_exec.proofs.executor.Executor.finish.Goals.{After-lay-generation}

@@ -1,6 +1,5 @@
 use Rattle.std.proofs.Common.{◌≡◌, ℕ, ◌+◌, ◌*◌, refl, ap, ◌∙◌, arith}
-use Rattle.arachne_exec.specs.Layout.{summary_at}
-use Rattle.arachne_exec.specs.Changes.{noted, rising}
+use Rattle.arachne_exec.specs.{Layout.summary_at, Changes.{noted, rising}}
 use Rattle.arachne_exec.proofs.executor.Executor.lie_down.Goals as goal
 
 pub sees_none-requires-clause-calm : goal.sees_none-requires-clause-calm

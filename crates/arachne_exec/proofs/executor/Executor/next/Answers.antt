@@ -1,8 +1,6 @@
 use Rattle.std.proofs.Common.{◌≡◌, ◌≤◌, ◌∙◌, ◌⊎◌, ⊎_elim, inl, inr, ℕ, ◌+◌, ◌*◌, ◌/◌, ◌<◌, refl, ap, sym, subst, arith, rules}
 use Rattle.std.proofs.lemmas.Bool.{cases_lt}
-use Rattle.arachne_exec.specs.declared.view.Notes.{Notes}
-use Rattle.arachne_exec.specs.Layout.{worker_of}
-use Rattle.arachne_exec.specs.Calls.{HasLooked, IsSearched}
+use Rattle.arachne_exec.specs.{declared.view.Notes.Notes, Layout.worker_of, Calls.{HasLooked, IsSearched}}
 use Rattle.arachne_exec.proofs.executor.Executor.next.Goals.{After-of-round}
 use Rattle.arachne_exec.proofs.Rousing.{looked-none, looked-on, searched-more, searched-left, took-on}
 use Rattle.arachne_exec.proofs.executor.Executor.next.Goals as goal

@@ -1,7 +1,6 @@
 use Rattle.atomic_table.specs.Table.{rest}
 use Rattle.arachne_exec.specs.Changes.{freeing}
-use Rattle.arachne_exec.proofs.Told.{told-view}
-use Rattle.arachne_exec.proofs.Allowed.{free-asks}
+use Rattle.arachne_exec.proofs.{Told.told-view, Allowed.free-asks}
 use Rattle.arachne_exec.proofs.executor.Executor.put_free.Goals as goal
 
 pub fetch_or-requires : goal.fetch_or-requires

@@ -1,8 +1,5 @@
 use Rattle.std.proofs.Common.{◌≡◌, ℕ, ◌*◌, ◌/◌, ◌%◌, ◌∙◌, sym, ap}
-use Rattle.arachne_exec.specs.declared.view.Notes.{Notes}
-use Rattle.arachne_exec.specs.Layout.{mark_at}
-use Rattle.arachne_exec.specs.Seats.{CallView}
-use Rattle.arachne_exec.specs.Changes.{hearing, noted}
+use Rattle.arachne_exec.specs.{declared.view.Notes.Notes, Layout.mark_at, Seats.CallView, Changes.{hearing, noted}}
 use Rattle.arachne_exec.proofs.Chains.{unmarked, cleared}
 use Rattle.arachne_exec.proofs.executor.Executor.refresh.Goals.{After-look-mark}
 use Rattle.arachne_exec.proofs.executor.Executor.refresh.Goals as goal

@@ -1,6 +1,5 @@
 use Rattle.std.proofs.Common.{◌≡◌, ℕ, ◌+◌, ◌*◌, ◌/◌, ◌∷◌, ◌∙◌, refl, ap, sym, arith}
-use Rattle.arachne_exec.specs.Layout.{free_at, worker_of}
-use Rattle.arachne_exec.specs.Changes.{claiming, noted, rousing, spawning}
+use Rattle.arachne_exec.specs.{Layout.{free_at, worker_of}, Changes.{claiming, noted, rousing, spawning}}
 use Rattle.arachne_exec.proofs.Chains.{missed, spawned}
 use Rattle.arachne_exec.proofs.executor.Executor.spawn.Goals as goal
 

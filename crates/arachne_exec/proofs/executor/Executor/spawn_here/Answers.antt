@@ -1,6 +1,5 @@
 use Rattle.std.proofs.Common.{◌∙◌, refl, ap}
-use Rattle.arachne_exec.specs.Layout.{free_at}
-use Rattle.arachne_exec.specs.Changes.{noted}
+use Rattle.arachne_exec.specs.{Layout.free_at, Changes.noted}
 use Rattle.arachne_exec.proofs.Chains.{missed}
 use Rattle.arachne_exec.proofs.executor.Executor.spawn_here.Goals as goal
 

@@ -1,8 +1,6 @@
 use Rattle.std.proofs.Common.{ℕ, ◌%◌, ◌∙◌, ◌∷◌}
-use Rattle.arachne_exec.specs.Changes.{gained, noted}
-use Rattle.arachne_exec.specs.Seats.{CallView}
-use Rattle.arachne_exec.proofs.Allowed.{bit_true, take-asks}
-use Rattle.arachne_exec.proofs.Told.{told-view}
+use Rattle.arachne_exec.specs.{Changes.{gained, noted}, Seats.CallView}
+use Rattle.arachne_exec.proofs.{Allowed.{bit_true, take-asks}, Told.told-view}
 use Rattle.arachne_exec.proofs.executor.Executor.take_bit.Goals as goal
 
 pub fetch_and-found-requires : goal.fetch_and-found-requires

@@ -1,9 +1,6 @@
 use Rattle.std.proofs.Common.{ℕ, ◌∙◌, List, ◌++◌, arith, refl}
-use Rattle.arachne_exec.specs.declared.view.Notes.{Notes}
-use Rattle.arachne_exec.specs.Changes.{gaining, noted}
-use Rattle.arachne_exec.specs.Seats.{CallView}
-use Rattle.arachne_exec.proofs.Told.{live-told, told-view}
-use Rattle.arachne_exec.proofs.Allowed.{take-many-asks}
+use Rattle.arachne_exec.specs.{declared.view.Notes.Notes, Changes.{gaining, noted}, Seats.CallView}
+use Rattle.arachne_exec.proofs.{Told.{live-told, told-view}, Allowed.take-many-asks}
 use Rattle.arachne_exec.proofs.executor.Executor.take_bits.Goals as goal
 
 pub fetch_and-found-requires : goal.fetch_and-found-requires

@@ -1,12 +1,8 @@
 use Rattle.std.proofs.Common.{◌≡◌, ℕ, ◌+◌, ◌*◌, ◌/◌, ◌%◌, ◌^◌, ◌≤◌, ◌∙◌, Bool, List, ◌∷◌, IsTrue, ◌↔◌, inr, refl, ap, sym, subst, arith}
 use Rattle.atomic_table.specs.Table.{rest}
-use Rattle.arachne_exec.specs.declared.answers.HeldJob.{HeldJob}
-use Rattle.arachne_exec.specs.declared.turns.TakenJob.{TakenJob}
-use Rattle.arachne_exec.specs.Layout.{ready_at, mark_at}
-use Rattle.arachne_exec.specs.Changes.{newest_job, gained, noted, using_up}
-use Rattle.arachne_exec.specs.Seats.{CallView, HasNewest}
-use Rattle.arachne_exec.specs.Turns.{IsFirstFrom}
-use Rattle.arachne_exec.specs.Calls.{HasTakenFrom}
+use Rattle.arachne_exec.specs.declared.{answers.HeldJob.HeldJob, turns.TakenJob.TakenJob}
+use Rattle.arachne_exec.specs.{Layout.{ready_at, mark_at}, Changes.{newest_job, gained, noted, using_up}}
+use Rattle.arachne_exec.specs.{Seats.{CallView, HasNewest}, Turns.IsFirstFrom, Calls.HasTakenFrom}
 use Rattle.arachne_exec.proofs.Chains.{missed}
 use Rattle.arachne_exec.proofs.executor.Executor.take_from.Goals.{After-first_from-index, After-refresh-mark}
 use Rattle.arachne_exec.proofs.executor.Executor.take_from.Goals as goal

@@ -3,13 +3,10 @@ use Rattle.std.specs.Int.{bit_at}
 use Rattle.std.proofs.lemmas.Nat.Bits.{bit_at-zero}
 use mathlib.Core.Logic.{dite}
 use native.Mathlib.Decide.{ℕ_discrete}
-use Rattle.arachne_exec.specs.declared.view.Notes.{Notes}
-use Rattle.arachne_exec.specs.declared.turns.Unsearched.{Unsearched}
-use Rattle.arachne_exec.specs.Layout.{summary_at, worker_of}
-use Rattle.arachne_exec.specs.Changes.{noted, rousing}
+use Rattle.arachne_exec.specs.declared.{view.Notes.Notes, turns.Unsearched.Unsearched}
+use Rattle.arachne_exec.specs.{Layout.{summary_at, worker_of}, Changes.{noted, rousing}}
 use Rattle.arachne_exec.specs.Calls.{HasLooked, IsAmong, HasNoJob}
-use Rattle.arachne_exec.proofs.Bits.{clear_other}
-use Rattle.arachne_exec.proofs.Rousing.{among-more, none-more, looked-missed, looked-told}
+use Rattle.arachne_exec.proofs.{Bits.clear_other, Rousing.{among-more, none-more, looked-missed, looked-told}}
 use Rattle.arachne_exec.proofs.Turning.{less-without}
 use Rattle.arachne_exec.proofs.executor.Executor.take_in_shard.Goals as goal
 

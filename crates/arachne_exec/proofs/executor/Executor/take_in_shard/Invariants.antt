@@ -1,7 +1,6 @@
 use Rattle.std.proofs.Common.{◌≡◌, ◌⊎◌, ℕ, ◌+◌, ◌*◌, ◌<◌}
 use Rattle.std.specs.Int.{bit_at}
-use Rattle.arachne_exec.specs.Layout.{summary_at, worker_of}
-use Rattle.arachne_exec.specs.Calls.{HasLooked, IsAmong, HasNoJob, KeepsHand}
+use Rattle.arachne_exec.specs.{Layout.{summary_at, worker_of}, Calls.{HasLooked, IsAmong, HasNoJob, KeepsHand}}
 use Rattle.arachne_exec.proofs.executor.Executor.take_in_shard.Given as goal
 
 abbrev pub invariant-loop-index : goal.invariant-loop-index

@@ -1,6 +1,5 @@
 use Rattle.std.proofs.Common.{ℕ, List, inr, ap, ◌∙◌}
-use Rattle.arachne_exec.specs.Layout.{ready_at}
-use Rattle.arachne_exec.specs.Changes.{gaining, noted}
+use Rattle.arachne_exec.specs.{Layout.ready_at, Changes.{gaining, noted}}
 use Rattle.arachne_exec.proofs.executor.Executor.take_many.Goals as goal
 
 pub returns-clause-took : goal.returns-clause-took

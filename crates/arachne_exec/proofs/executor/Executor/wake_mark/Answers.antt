@@ -1,10 +1,6 @@
-use Rattle.std.proofs.Common.{◌∷◌, ◌∙◌}
-use Rattle.std.proofs.lemmas.Bool.{eqb-true}
-use Rattle.arachne_exec.specs.Changes.{unblocking, noted}
-use Rattle.arachne_exec.specs.Seats.{CallView}
-use Rattle.arachne_exec.proofs.Told.{told-view}
-use Rattle.std.proofs.Common.{refl}
-use Rattle.arachne_exec.proofs.Allowed.{wake-asks}
+use Rattle.std.proofs.Common.{◌∷◌, ◌∙◌, eqb-true, refl}
+use Rattle.arachne_exec.specs.{Changes.{unblocking, noted}, Seats.CallView}
+use Rattle.arachne_exec.proofs.{Told.told-view, Allowed.wake-asks}
 use Rattle.arachne_exec.proofs.executor.Executor.wake_mark.Goals as goal
 
 pub compare_exchange-found-requires : goal.compare_exchange-found-requires

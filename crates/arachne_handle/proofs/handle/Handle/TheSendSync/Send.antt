@@ -1,6 +1,4 @@
-use denote.RattleType.{RattleType}
-use denote.Struct.Owning.{to}
-use denote.Param.Send.{IsSend}
+use denote.{RattleType.RattleType, Struct.Owning.to, Param.Send.IsSend}
 use Rattle.arachne_handle.specs.contracts.handle.Handle.{the_type, the_row}
 use Rattle.arachne_handle.proofs.Sent.{kept_keyless, fields_keyless}
 

@@ -1,32 +1,20 @@
 -- `empty` keeps nothing at null.
-use Rattle.std.proofs.Common.{◌≡◌, List, [], ◌∷◌, ◌++◌, refl, sym, subst}
-use mir.Syntax.{a_type}
-use mir.Val.{Val}
-use mir.MapTy.{inst_fn}
+use Rattle.std.proofs.{Common.{◌≡◌, List, [], ◌∷◌, ◌++◌, refl, sym, subst}, raw_atomic.Walks.{proved_at, leaves}}
+use mir.{Syntax.a_type, Val.Val, MapTy.inst_fn}
 use base.Logic.{SProp, ent, emp, id⊢}
 use prog.Wp.{WpFn}
 use types.Kit.{‵, raw, ◌⊛◌, ◌$◌, ◌∵◌, !, qed, by, move, keep, split, fsplit, fjoin, use0, suffices, rewrite, feq_i}
-use types.Run.{lit, no_more, and_then, returns, enter}
-use types.ByLocal.{alloc_all, pass_all, free_all, look_at, get, sets}
+use types.{Run.{lit, no_more, and_then, returns, enter}, ByLocal.{alloc_all, pass_all, free_all, look_at, get, sets}}
 use types.Part.{agg}
-use contract.Monad.{fact, fact_i}
-use contract.Running.{tables}
-use denote.Exit.{yes}
-use denote.RattleType.{owns}
-use denote.Signature.{types_at, plain}
-use denote.RawPtr.{Ptr, null_ptr, ptr_val}
-use denote.Steps.{nothing}
-use denote.Param.{param, layout, layouts}
-use denote.Triple.Entry.{alive}
+use contract.{Monad.{fact, fact_i}, Running.tables}
+use denote.{Exit.yes, RattleType.owns, Signature.{types_at, plain}, RawPtr.{Ptr, null_ptr, ptr_val}, Steps.nothing}
+use denote.{Param.{param, layout, layouts}, Triple.Entry.alive}
 use denote.Triple.Walked.{Stays, stay_dropped, walk_of, Goes-dropped}
 use Rattle.core.proofs.cell.Inside.{one}
-use Rattle.std.specs.declared.option.Option.{Option}
-use Rattle.std.specs.declared.option.Option.TheVariants.{None}
+use Rattle.std.specs.declared.option.Option.{Option, TheVariants.None}
 use Rattle.std.proofs.alloc.Global.TheLaws as heap_laws
-use Rattle.std.proofs.raw_atomic.Walks.{proved_at, leaves}
 use Rattle.arachne_handle.proofs.Values.{both, Handle, Z, pair_good, fields_in}
-use Rattle.arachne_handle.specs.contracts.handle.Handle.empty.{ended, clauses}
-use Rattle.arachne_handle.specs.contracts.handle.Handle.empty.Key.{name as #self}
+use Rattle.arachne_handle.specs.contracts.handle.Handle.empty.{ended, clauses, Key.name as #self}
 use Rattle.arachne_handle.proofs.handle.Handle.empty.Statement.{statement}
 use Rattle.arachne_handle.proofs.handle.Handle.empty.Code as code
 

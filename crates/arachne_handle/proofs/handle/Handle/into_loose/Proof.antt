@@ -1,37 +1,23 @@
 -- `into_loose` tests the pointer, which is null where nothing is held.
-use Rattle.std.proofs.Common.{◌≡◌, List, [], ◌∷◌, ◌++◌, refl, sym, subst, lit<}
-use mir.Syntax.{a_type}
-use mir.Val.{Val, vptr, vcons, vnil}
-use mir.MapTy.{inst_fn}
+use Rattle.std.proofs.Common.{◌≡◌, List, [], ◌∷◌, ◌++◌, refl, sym, subst, lit<, None, Some}
+use mir.{Syntax.a_type, Val.{Val, vptr, vcons, vnil}, MapTy.inst_fn}
 use base.Logic.{SProp, ent, emp, id⊢}
 use prog.Wp.{WpFn}
 use types.Kit.{‵, raw, ◌⊛◌, at_ret, ◌$◌, ◌∵◌, !, qed, by, move, keep, split, fsplit, join, fjoin, use0, use1, suffices}
 use types.Run.{stop, fld, lit, of_opd, bin, no_more, and_then, first, branches, exec, returns, enter}
-use types.ByLocal.{alloc_all, pass_all, free_all, look_at, get, get_in, sets, sets_last, env}
-use types.Part.{agg, sub, whole}
+use types.{ByLocal.{alloc_all, pass_all, free_all, look_at, get, get_in, sets, sets_last, env}, Part.{agg, sub, whole}}
 use types.Match.{live}
-use contract.Monad.{fact, fact_i}
-use contract.Running.{tables}
-use denote.Exit.{no}
-use denote.RattleType.{RattleType, owns}
-use denote.Signature.{types_at, type_at, plain}
-use denote.RawPtr.{Ptr, block_ptr, null_ptr, ptr_val, tests_null}
-use denote.Steps.{nothing}
-use denote.Param.{param, layout, layouts}
-use denote.Triple.Entry.{alive}
-use denote.Triple.Walked.{Stays, stay_dropped, walk_of, Goes-dropped}
-use Rattle.core.specs.declared.option.Option.TheVariants.{None, Some}
-use Rattle.core.proofs.alloc.Shapes.{after}
-use Rattle.core.proofs.atomic.Steps.{Ptr-Good}
-use Rattle.core.proofs.cell.Inside.{Good}
-use Rattle.core.proofs.option.Made.{Some-of, none_of}
+use contract.{Monad.{fact, fact_i}, Running.tables}
+use denote.{Exit.no, RattleType.{RattleType, owns}, Signature.{types_at, type_at, plain}}
+use denote.{RawPtr.{Ptr, block_ptr, null_ptr, ptr_val, tests_null}, Steps.nothing, Param.{param, layout, layouts}}
+use denote.Triple.{Entry.alive, Walked.{Stays, stay_dropped, walk_of, Goes-dropped}}
+use Rattle.core.proofs.{alloc.Shapes.after, atomic.Steps.Ptr-Good, cell.Inside.Good, option.Made.{Some-of, none_of}}
 use Rattle.std.specs.contracts.impls.GlobalAllocator.TheImpl.{ghosts}
 use Rattle.std.proofs.alloc.Global.TheLaws as heap_laws
 use Rattle.std_alloc.proofs.ResultValues.{and_tt}
 use Rattle.std.proofs.raw_atomic.Walks.{proved_at, leaves}
 use Rattle.arachne_handle.proofs.Values.{both, Handle, Z, Loose, pair_good, loose_good, loose_in, fields_out, either_kept}
-use Rattle.arachne_handle.specs.contracts.handle.Handle.into_loose.{ended, clauses}
-use Rattle.arachne_handle.specs.contracts.handle.Handle.into_loose.Key.{name as #self}
+use Rattle.arachne_handle.specs.contracts.handle.Handle.into_loose.{ended, clauses, Key.name as #self}
 use Rattle.arachne_handle.proofs.handle.Handle.into_loose.Statement.{statement}
 use Rattle.arachne_handle.proofs.handle.Handle.into_loose.Code as code
 

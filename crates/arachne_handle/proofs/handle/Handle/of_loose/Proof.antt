@@ -1,33 +1,20 @@
 -- `of_loose` keeps what the pointer's box was.
-use Rattle.std.proofs.Common.{◌≡◌, List, [], ◌∷◌, ◌++◌, refl, sym, subst}
-use mir.Syntax.{a_type}
-use mir.Val.{Val, vptr}
-use mir.MapTy.{inst_fn}
+use Rattle.std.proofs.{Common.{◌≡◌, List, [], ◌∷◌, ◌++◌, refl, sym, subst}, raw_atomic.Walks.{proved_at, leaves}}
+use mir.{Syntax.a_type, Val.{Val, vptr}, MapTy.inst_fn}
 use base.Logic.{SProp, ent, emp, id⊢}
 use prog.Wp.{WpFn}
 use types.Kit.{‵, raw, ◌⊛◌, ◌$◌, ◌∵◌, !, qed, by, move, keep, split, fsplit, fjoin, use0, suffices}
 use types.Run.{stop, fld, of_opd, no_more, and_then, returns, enter}
-use types.ByLocal.{alloc_all, pass_all, free_all, look_at, get, get_in, sets}
-use types.Part.{agg, sub, whole}
-use contract.Monad.{fact, fact_i}
-use contract.Running.{tables}
-use denote.Exit.{no}
-use denote.RattleType.{RattleType, owns}
-use denote.Signature.{types_at, plain}
-use denote.RawPtr.{block_ptr}
-use denote.Steps.{nothing}
-use denote.Param.{param, layouts}
-use denote.Triple.Entry.{alive}
-use denote.Triple.Walked.{Stays, stay_dropped, walk_of}
+use types.{ByLocal.{alloc_all, pass_all, free_all, look_at, get, get_in, sets}, Part.{agg, sub, whole}}
+use contract.{Monad.{fact, fact_i}, Running.tables}
+use denote.{Exit.no, RattleType.{RattleType, owns}, Signature.{types_at, plain}, RawPtr.block_ptr, Steps.nothing}
+use denote.{Param.{param, layouts}, Triple.Entry.alive, Triple.Walked.{Stays, stay_dropped, walk_of}}
 use Rattle.core.proofs.alloc.Calls.{Goes-blank}
-use Rattle.std.specs.declared.option.Option.{Option}
-use Rattle.std.specs.declared.option.Option.TheVariants.{Some}
+use Rattle.std.specs.declared.option.Option.{Option, TheVariants.Some}
 use Rattle.std.specs.contracts.impls.GlobalAllocator.TheImpl.{ghosts}
 use Rattle.std.proofs.alloc.Global.TheLaws as heap_laws
-use Rattle.std.proofs.raw_atomic.Walks.{proved_at, leaves}
 use Rattle.arachne_handle.proofs.Values.{both, Handle, Z, Loose, loose_good, loose_out, fields_in}
-use Rattle.arachne_handle.specs.contracts.handle.Handle.of_loose.{ended, clauses}
-use Rattle.arachne_handle.specs.contracts.handle.Handle.of_loose.Key.{name as #self}
+use Rattle.arachne_handle.specs.contracts.handle.Handle.of_loose.{ended, clauses, Key.name as #self}
 use Rattle.arachne_handle.proofs.handle.Handle.of_loose.Statement.{statement}
 use Rattle.arachne_handle.proofs.handle.Handle.of_loose.Code as code
 

@@ -1,42 +1,21 @@
 -- `into_box` makes the box again.
-use Rattle.std.proofs.Common.{◌≡◌, List, [], ◌∷◌, ◌++◌, refl, sym, ap, subst}
-use mir.Syntax.{a_type, dcons, dnil}
-use mir.Val.{Val, vptr}
-use mir.MapTy.{inst_fn}
-use base.Logic.{SProp, ent, id⊢}
-use base.Fml.{ftrue, flft}
+use Rattle.std.proofs.{Common.{◌≡◌, List, [], ◌∷◌, ◌++◌, refl, sym, ap, subst}, raw_atomic.Walks.{proved_at, leaves}}
+use mir.{Syntax.{a_type, dcons, dnil}, Val.{Val, vptr}, MapTy.inst_fn}
+use base.{Logic.{SProp, ent, id⊢}, Fml.{ftrue, flft}}
 use prog.Wp.{WpFn}
 use types.Kit.{‵, raw, ◌⊛◌, some, later, at_ret, ◌$◌, ◌∵◌, !, qed, by, move, keep, drop, split, split3, join, fsplit, fjoin, pick, suffices, use1, await, rewrite, feq_i}
 use types.Run.{stop, fld, of_opd, no_more, and_then, first, blocks, exec, returns, enter}
-use types.ByLocal.{alloc_all, pass_all, free_all, look_at, get, get_in, sets, lands_last, env}
-use types.Part.{sub, whole}
-use contract.Monad.{fact}
-use contract.BorrowLft.{◌⊑◌}
-use contract.Running.{tables}
-use denote.Exit.{no}
-use denote.RattleType.{RattleType, owns}
-use denote.Signature.{types_at, plain}
-use denote.RawPtr.{block_ptr}
-use denote.Steps.{nothing, only}
-use denote.Param.{param, layout, bounded}
-use denote.Param.Laws.{param_laws}
-use denote.Triple.Clauses.{Lasts, lasts}
-use denote.Triple.Spec.{triple_of}
-use denote.Triple.Call.{calls_at_last}
-use denote.Triple.Walked.{Stays, stay_dropped, walk_of}
-use Rattle.core.proofs.alloc.Calls.{Goes-blank}
-use Rattle.core.proofs.alloc.Shapes.{after}
-use Rattle.core.proofs.atomic.Steps.{fm}
-use Rattle.core.proofs.cell.Inside.{Good}
+use types.{ByLocal.{alloc_all, pass_all, free_all, look_at, get, get_in, sets, lands_last, env}, Part.{sub, whole}}
+use contract.{Monad.fact, BorrowLft.◌⊑◌, Running.tables}
+use denote.{Exit.no, RattleType.{RattleType, owns}, Signature.{types_at, plain}, RawPtr.block_ptr}
+use denote.{Steps.{nothing, only}, Param.{param, layout, bounded}, Param.Laws.param_laws, Triple.Clauses.{Lasts, lasts}}
+use denote.Triple.{Spec.triple_of, Call.calls_at_last, Walked.{Stays, stay_dropped, walk_of}}
+use Rattle.core.proofs.{alloc.Calls.Goes-blank, alloc.Shapes.after, atomic.Steps.fm, cell.Inside.Good}
 use Rattle.std_alloc.proofs.BoxSteps.Form as box
-use Rattle.std_alloc.proofs.BoxSteps.Steps.{box_out, box_in}
-use Rattle.std.proofs.raw_atomic.Walks.{proved_at, leaves}
-use Rattle.arachne_handle.proofs.Values.{both, Loose, loose_good, loose_out}
+use Rattle.std_alloc.proofs.{BoxSteps.Steps.{box_out, box_in}, boxed.Box.from_raw.Met.met}
+use Rattle.arachne_handle.proofs.{Values.{both, Loose, loose_good, loose_out}, loose.Loose.into_box.Statement.statement}
 use Rattle.std_alloc.specs.contracts.boxed.Box.from_raw as callee
-use Rattle.std_alloc.proofs.boxed.Box.from_raw.Met.{met}
-use Rattle.arachne_handle.specs.contracts.loose.Loose.into_box.{ended, clauses}
-use Rattle.arachne_handle.specs.contracts.loose.Loose.into_box.Key.{name as #self}
-use Rattle.arachne_handle.proofs.loose.Loose.into_box.Statement.{statement}
+use Rattle.arachne_handle.specs.contracts.loose.Loose.into_box.{ended, clauses, Key.name as #self}
 use Rattle.arachne_handle.proofs.loose.Loose.into_box.Code as code
 
 pub into_box_spec : {M : Type 1} → statement M

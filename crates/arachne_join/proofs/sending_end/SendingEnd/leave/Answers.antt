@@ -1,6 +1,5 @@
 use Rattle.std.proofs.Common.{rules, arith, ap, sym, refl, subst}
-use Rattle.arachne_join.specs.declared.view.Role.TheVariants.{Left}
-use Rattle.arachne_join.proofs.CellSteps.{fills}
+use Rattle.arachne_join.{specs.declared.view.Role.TheVariants.Left, proofs.CellSteps.fills}
 use Rattle.arachne_join.proofs.sending_end.SendingEnd.leave.Goals as goal
 
 pub store-requires : goal.store-requires

@@ -1,7 +1,5 @@
 use Rattle.std.proofs.Common.{◌≡◌, []}
-use Rattle.arachne_join.specs.declared.block.TheConstants.{CELLS}
-use Rattle.arachne_join.specs.declared.part.Part.TheVariants.{Rest}
-use Rattle.arachne_join.specs.Parts.{part_view}
+use Rattle.arachne_join.specs.{declared.{block.TheConstants.CELLS, part.Part.TheVariants.Rest}, Parts.part_view}
 use Rattle.arachne_join.proofs.spare.SpareCells.add_block.Given as goal
 
 abbrev pub invariant-loop-index : goal.invariant-loop-index

@@ -1,9 +1,7 @@
 -- The order of the recursion: from a helper to the expression that it takes, and from that to its parts. A half of a
 -- range is shorter than the range, which has less than 2 ^ 64 numbers.
 use Rattle.std.proofs.Common.{◌≡◌, ℕ, ◌+◌, ◌*◌, ◌^◌, max, length}
-use Rattle.arachne_program.specs.Program.{tree_of, source_of}
-use Rattle.arachne_program.specs.Nesting.{nesting}
-use Rattle.arachne_program.specs.Value.{with_newest}
+use Rattle.arachne_program.specs.{Program.{tree_of, source_of}, Nesting.nesting, Value.with_newest}
 use Rattle.arachne_lang.specs.Evaluation.{IsFolded, IsReduced, HasLines}
 use Rattle.arachne_lang.proofs.evaluator.Evaluator.+evaluation.Given as goal
 
@@ -16,34 +14,11 @@ decreases-run l = 2 ^ 66 * nesting (tree_of l.expr.now) + 1
 abbrev pub decreases-after : goal.decreases-after
 decreases-after l = 2 ^ 66 * nesting (tree_of l.expr.now) + 1
 
-abbrev pub decreases-binary : goal.decreases-binary
-decreases-binary l = 2 ^ 66 * max (nesting (tree_of l.a.now)) (nesting (tree_of l.b.now)) + 2
-
-abbrev pub decreases-choose : goal.decreases-choose
-decreases-choose l = 2 ^ 66 * max (nesting (tree_of l.condition.now)) (max (nesting (tree_of l.first.now)) (nesting (tree_of l.second.now))) + 2
-
-abbrev pub decreases-bind : goal.decreases-bind
-decreases-bind l = 2 ^ 66 * max (nesting (tree_of l.bound.now)) (nesting (tree_of l.body.now)) + 2
-
-abbrev pub decreases-tally : goal.decreases-tally
-decreases-tally l = 2 ^ 66 * max (nesting (tree_of l.amount.now)) (nesting (tree_of l.body.now)) + 2
-
-abbrev pub decreases-hold : goal.decreases-hold
-decreases-hold l = 2 ^ 66 * nesting (tree_of l.body.now) + 2
-
 abbrev pub decreases-fork : goal.decreases-fork
 decreases-fork l = 2 ^ 66 * max (nesting (tree_of l.child.now)) (max (nesting (tree_of l.during.now)) (nesting (tree_of l.after.now))) + 2
 
-abbrev pub decreases-fold : goal.decreases-fold
-decreases-fold l =
-    2 ^ 66 * max (nesting (tree_of l.from.now)) (max (nesting (tree_of l.to.now)) (max (nesting (tree_of l.first.now)) (nesting (tree_of l.body.now)))) + 2
-
 abbrev pub decreases-turns : goal.decreases-turns
 decreases-turns l = 2 ^ 66 * nesting (tree_of l.body.now) + 1
-
-abbrev pub decreases-sweep : goal.decreases-sweep
-decreases-sweep l =
-    2 ^ 66 * max (nesting (tree_of l.from.now)) (max (nesting (tree_of l.to.now)) (nesting (tree_of l.reducer.body.now))) + 2 ^ 65 + 4
 
 abbrev pub decreases-halves : goal.decreases-halves
 decreases-halves l = 2 ^ 66 * nesting (tree_of l.reducer.body.now) + 2 * l.n + 2

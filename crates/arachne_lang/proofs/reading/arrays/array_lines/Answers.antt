@@ -1,5 +1,4 @@
-use Rattle.std.proofs.Common.{◌≡◌, ◌≤◌, length, get_or, arith, refl}
-use Rattle.std.proofs.lemmas.Result.{err_from_is_err_and}
+use Rattle.std.proofs.{Common.{◌≡◌, ◌≤◌, length, get_or, arith, refl}, lemmas.Result.err_from_is_err_and}
 use Rattle.std.proofs.lemmas.List.{map-append}
 use Rattle.arachne_lang.proofs.ArraySteps.{line_at_letter, lines_end, line_shorter, fails_then}
 use Rattle.arachne_lang.proofs.reading.arrays.array_lines.Goals.{in_default, in_default-2}

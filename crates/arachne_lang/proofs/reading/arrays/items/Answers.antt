@@ -1,5 +1,4 @@
-use Rattle.std.proofs.Common.{◌≡◌, ◌≤◌, length, get_or, arith, refl}
-use Rattle.std.proofs.lemmas.Result.{err_from_is_err_and}
+use Rattle.std.proofs.{Common.{◌≡◌, ◌≤◌, length, get_or, arith, refl}, lemmas.Result.err_from_is_err_and}
 use Rattle.arachne_lang.proofs.ArraySteps.{item_at_space, items_end, fails_then}
 use Rattle.arachne_lang.proofs.reading.arrays.items.Goals.{in_default, in_default-2}
 use Rattle.arachne_lang.proofs.reading.arrays.items.Goals as goal

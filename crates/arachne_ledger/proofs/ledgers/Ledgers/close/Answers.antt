@@ -1,10 +1,8 @@
 use Rattle.std.proofs.Common.{◌≡◌, ◌<◌, ◌∙◌, ap, sym, subst, map, take, ◌+◌, ◌%◌, ◌^◌, rules, arith}
 use mathlib.Core.Option.{some}
-use Rattle.arachne_weights.specs.Tokens.{held}
-use Rattle.arachne_weights.specs.Weight.{whole}
+use Rattle.arachne_weights.specs.{Tokens.held, Weight.whole}
 use Rattle.arachne_ledger.specs.Balance.{IsBalanced}
-use Rattle.arachne_ledger.proofs.Seated.{long, settled}
-use Rattle.arachne_ledger.proofs.Sums.{reduced-more}
+use Rattle.arachne_ledger.proofs.{Seated.{long, settled}, Sums.reduced-more}
 use Rattle.arachne_ledger.proofs.ledgers.Ledgers.close.Goals as goal
 
 pub loop-ledger-preserved : goal.loop-ledger-preserved

@@ -1,6 +1,5 @@
 use Rattle.std.proofs.Common.{◌<◌, ◌∙◌, Some, ap, sym, subst, arith}
-use Rattle.arachne_ledger.specs.Seats.{IsSeated}
-use Rattle.arachne_ledger.specs.Views.{ShareView}
+use Rattle.arachne_ledger.specs.{Seats.IsSeated, Views.ShareView}
 use Rattle.arachne_ledger.proofs.Seated.{read-allowed, seated-told}
 use Rattle.arachne_ledger.proofs.ledgers.Ledgers.read.Goals as goal
 

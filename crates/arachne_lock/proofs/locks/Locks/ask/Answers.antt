@@ -1,11 +1,8 @@
 -- The seat has the guard, and asks on the state. The effect on the history (`goes`) is the condition of a call on a
 -- state that a seat has.
 use Rattle.std.proofs.Common.{List, ◌++◌, ◌∙◌}
-use Rattle.arachne_lock.specs.Deeds.{asked_events}
-use Rattle.arachne_lock.specs.State.{Lock, IsAsked}
-use Rattle.arachne_lock.proofs.GoingOn.{Leaves, ask-goes-on}
-use Rattle.arachne_lock.specs.declared.event.QueueEvent.{QueueEvent}
-use Rattle.arachne_lock.proofs.Visiting.{returnable, idle-again, called}
+use Rattle.arachne_lock.specs.{Deeds.asked_events, State.{Lock, IsAsked}, declared.event.QueueEvent.QueueEvent}
+use Rattle.arachne_lock.proofs.{GoingOn.{Leaves, ask-goes-on}, Visiting.{returnable, idle-again, called}}
 use Rattle.arachne_lock.proofs.locks.Locks.ask.Goals.{After-ask_guarded-answer}
 use Rattle.arachne_lock.proofs.locks.Locks.ask.Goals as goal
 

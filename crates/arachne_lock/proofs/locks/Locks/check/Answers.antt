@@ -1,10 +1,8 @@
 -- The seat has the guard, and checks on the state. That the history stays (`goes`) is the condition of a call on a
 -- state that a seat has.
 use Rattle.std.proofs.Common.{List, [], ◌++◌, ◌∙◌}
-use Rattle.arachne_lock.specs.State.{Lock, IsChecked}
-use Rattle.arachne_lock.proofs.GoingOn.{Leaves, check-goes-on}
-use Rattle.arachne_lock.specs.declared.event.QueueEvent.{QueueEvent}
-use Rattle.arachne_lock.proofs.Visiting.{returnable, idle-again, called}
+use Rattle.arachne_lock.specs.{State.{Lock, IsChecked}, declared.event.QueueEvent.QueueEvent}
+use Rattle.arachne_lock.proofs.{GoingOn.{Leaves, check-goes-on}, Visiting.{returnable, idle-again, called}}
 use Rattle.arachne_lock.proofs.locks.Locks.check.Goals.{After-check_guarded-answer}
 use Rattle.arachne_lock.proofs.locks.Locks.check.Goals as goal
 

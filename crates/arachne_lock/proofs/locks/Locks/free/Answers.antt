@@ -1,11 +1,8 @@
 -- The seat has the guard, and frees on the state. The effect on the history (`goes`) is the condition of a call on a
 -- state that a seat has.
 use Rattle.std.proofs.Common.{List, ◌++◌, ◌∙◌}
-use Rattle.arachne_lock.specs.Deeds.{freed_events}
-use Rattle.arachne_lock.specs.State.{Lock, IsFreed}
-use Rattle.arachne_lock.proofs.GoingOn.{Leaves, free-goes-on}
-use Rattle.arachne_lock.specs.declared.event.QueueEvent.{QueueEvent}
-use Rattle.arachne_lock.proofs.Visiting.{returnable, idle-again, called}
+use Rattle.arachne_lock.specs.{Deeds.freed_events, State.{Lock, IsFreed}, declared.event.QueueEvent.QueueEvent}
+use Rattle.arachne_lock.proofs.{GoingOn.{Leaves, free-goes-on}, Visiting.{returnable, idle-again, called}}
 use Rattle.arachne_lock.proofs.locks.Locks.free.Goals.{After-free_guarded-answer}
 use Rattle.arachne_lock.proofs.locks.Locks.free.Goals as goal
 

@@ -1,9 +1,7 @@
 use Rattle.std.proofs.Common.{ℕ, ap, sym, subst, ◌∙◌, ◌<◌, arith}
 use mathlib.Core.Option.{none}
 use Rattle.atomic_table.specs.Table.{Allows, step}
-use Rattle.arachne_lock.specs.Views.{word_of}
-use Rattle.arachne_lock.specs.declared.view.EventLog.{EventLog}
-use Rattle.arachne_lock.specs.Rule.{IsKept, IsLawfulSeat}
+use Rattle.arachne_lock.specs.{Views.word_of, declared.view.EventLog.EventLog, Rule.{IsKept, IsLawfulSeat}}
 use Rattle.arachne_lock.specs.Steps.{Mine, GivesBack}
 use Rattle.arachne_lock.proofs.Keeps.{gives-allowed}
 use Rattle.arachne_lock.proofs.locks.Locks.give_back.Goals as goal

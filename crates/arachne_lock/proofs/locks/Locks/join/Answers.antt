@@ -1,7 +1,6 @@
 use Rattle.std.proofs.Common.{◌∙◌, ap, sym, subst, arith}
 use Rattle.atomic_table.specs.Table.{Joins}
-use Rattle.arachne_lock.specs.Rule.{IsKept, joined_view, spent}
-use Rattle.arachne_lock.specs.Steps.{Mine}
+use Rattle.arachne_lock.specs.{Rule.{IsKept, joined_view, spent}, Steps.Mine}
 use Rattle.arachne_lock.proofs.Keeps.{joins-allowed}
 use Rattle.arachne_lock.proofs.locks.Locks.join.Goals as goal
 

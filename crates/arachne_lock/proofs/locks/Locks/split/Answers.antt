@@ -1,7 +1,6 @@
 use Rattle.std.proofs.Common.{◌∙◌, ap, sym, subst, arith}
 use Rattle.atomic_table.specs.Table.{Splits}
-use Rattle.arachne_lock.specs.Rule.{IsKept, split_view, second_view}
-use Rattle.arachne_lock.specs.Steps.{Mine}
+use Rattle.arachne_lock.specs.{Rule.{IsKept, split_view, second_view}, Steps.Mine}
 use Rattle.arachne_lock.proofs.Keeps.{splits-allowed}
 use Rattle.arachne_lock.proofs.locks.Locks.split.Goals as goal
 

@@ -1,13 +1,9 @@
-use Rattle.std.proofs.Common.{◌≡◌, ◌≢◌, ℕ, Bool, inl, inr, ap, sym, subst, ◌∙◌, ◌<◌, arith, eqb, eqb-true, eq-eqb, nat_eq}
-use Rattle.std.specs.Prelude.{MatchBool}
+use Rattle.std.proofs.Common.{◌≡◌, ◌≢◌, ℕ, Bool, inl, inr, ap, sym, subst, ◌∙◌, ◌<◌, arith, eqb, eqb-true, eq-eqb, nat_eq, MatchBool}
 use Rattle.std.proofs.lemmas.Bool.{cases_Bool, true≢false}
 use prog.Atomic.{either}
 use mathlib.Core.Option.{none}
 use Rattle.atomic_table.specs.Table.{Allows, step}
-use Rattle.arachne_lock.specs.Views.{word_of}
-use Rattle.arachne_lock.specs.Logs.{contended_log}
-use Rattle.arachne_lock.specs.Rule.{IsKept, IsLawfulSeat}
-use Rattle.arachne_lock.specs.Steps.{Mine, Takes}
+use Rattle.arachne_lock.specs.{Views.word_of, Logs.contended_log, Rule.{IsKept, IsLawfulSeat}, Steps.{Mine, Takes}}
 use Rattle.arachne_lock.proofs.Keeps.{takes-allowed}
 use Rattle.arachne_lock.proofs.locks.Locks.take.Goals as goal
 

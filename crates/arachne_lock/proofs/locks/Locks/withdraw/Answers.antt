@@ -1,11 +1,8 @@
 -- The seat has the guard, and withdraws on the state. The effect on the history (`goes`) is the condition of a call on
 -- a state that a seat has.
 use Rattle.std.proofs.Common.{List, ◌++◌, ◌∙◌}
-use Rattle.arachne_lock.specs.Deeds.{withdrawn_events}
-use Rattle.arachne_lock.specs.State.{Lock, IsWithdrawn}
-use Rattle.arachne_lock.proofs.GoingOn.{Leaves, withdraw-goes-on}
-use Rattle.arachne_lock.specs.declared.event.QueueEvent.{QueueEvent}
-use Rattle.arachne_lock.proofs.Visiting.{returnable, idle-again, called}
+use Rattle.arachne_lock.specs.{Deeds.withdrawn_events, State.{Lock, IsWithdrawn}, declared.event.QueueEvent.QueueEvent}
+use Rattle.arachne_lock.proofs.{GoingOn.{Leaves, withdraw-goes-on}, Visiting.{returnable, idle-again, called}}
 use Rattle.arachne_lock.proofs.locks.Locks.withdraw.Goals.{After-withdraw_guarded-answer}
 use Rattle.arachne_lock.proofs.locks.Locks.withdraw.Goals as goal
 

@@ -1,7 +1,5 @@
-use Rattle.std.proofs.Common.{rules, ap, ◌∙◌, subst, sym, List, ℕ}
-use Rattle.std.proofs.lemmas.Fn.{filter_same}
-use Rattle.arachne_lock.specs.Law.{without}
-use Rattle.arachne_lock.specs.WaiterQueue.{Indexes}
+use Rattle.std.proofs.{Common.{rules, ap, ◌∙◌, subst, sym, List, ℕ}, lemmas.Fn.filter_same}
+use Rattle.arachne_lock.specs.{Law.without, WaiterQueue.Indexes}
 use Rattle.arachne_lock.proofs.Waiting.{Indexes-remove}
 use Rattle.arachne_lock.proofs.waiter_queue.WaiterQueue.remove.Goals as goal
 

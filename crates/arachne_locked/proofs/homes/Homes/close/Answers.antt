@@ -1,10 +1,7 @@
 use Rattle.std.proofs.Common.{◌≡◌, ◌<◌, ◌≤◌, ◌+◌, ℕ, length, Some, None, set, sym, ap, ◌∙◌, subst, rules, arith}
 use Rattle.std.proofs.lemmas.List.{length-set, get_or-set_other, get_or_default}
-use Rattle.arachne_core.specs.Marked.{Marked}
-use Rattle.arachne_core.specs.World.{id_of}
-use Rattle.arachne_core.specs.ContextTable.{world_of}
-use Rattle.arachne_locked.specs.AtHome.{TableView, value_at}
-use Rattle.arachne_locked.proofs.Closed.{rest_with, rest_without}
+use Rattle.arachne_core.specs.{Marked.Marked, World.id_of, ContextTable.world_of}
+use Rattle.arachne_locked.{specs.AtHome.{TableView, value_at}, proofs.Closed.{rest_with, rest_without}}
 use Rattle.arachne_locked.proofs.homes.Homes.close.Goals.{in-Some, in_default-take}
 use Rattle.arachne_locked.proofs.homes.Homes.close.Goals as goal
 

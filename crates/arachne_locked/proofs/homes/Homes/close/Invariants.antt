@@ -1,8 +1,6 @@
-use Rattle.std.proofs.Common.{◌≡◌, ◌≤◌, ℕ, length, vec_len}
-use Rattle.std.specs.Vec.{vec_capacity}
+use Rattle.std.{proofs.Common.{◌≡◌, ◌≤◌, ℕ, length, vec_len}, specs.Vec.vec_capacity}
 use Rattle.arachne_core.specs.ContextTable.{world_of}
-use Rattle.arachne_locked.specs.AtHome.{value_at}
-use Rattle.arachne_locked.specs.Closing.{at_rest_below}
+use Rattle.arachne_locked.specs.{AtHome.value_at, Closing.at_rest_below}
 use Rattle.arachne_locked.proofs.homes.Homes.close.Given as goal
 
 abbrev pub invariant-loop-context : goal.invariant-loop-context

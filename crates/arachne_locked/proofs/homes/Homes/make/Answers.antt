@@ -1,8 +1,6 @@
 use Rattle.std.proofs.Common.{sym, subst}
-use Rattle.arachne_core.specs.ContextTable.{world_of}
-use Rattle.arachne_core.specs.World.{Allowed}
-use Rattle.arachne_locked.specs.AtHome.{TableView}
-use Rattle.arachne_locked.proofs.AtHome.{plain_made, answered_home}
+use Rattle.arachne_core.specs.{ContextTable.world_of, World.Allowed}
+use Rattle.arachne_locked.{specs.AtHome.TableView, proofs.AtHome.{plain_made, answered_home}}
 use Rattle.arachne_locked.proofs.homes.Homes.make.Goals as goal
 
 pub unreachable-requires : goal.unreachable-requires

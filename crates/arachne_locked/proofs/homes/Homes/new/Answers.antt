@@ -1,4 +1,4 @@
-use Rattle.std.proofs.Common.{◌≡◌, ℕ, ◌*◌, sym, ◌∙◌}
+use Rattle.std.proofs.Common.{◌≡◌, ◌*◌, sym, ◌∙◌}
 use Rattle.arachne_core.specs.ContextTable.{world_of}
 use Rattle.arachne_locked.proofs.AtHome.{new_home}
 use Rattle.arachne_locked.proofs.homes.Homes.new.Goals as goal

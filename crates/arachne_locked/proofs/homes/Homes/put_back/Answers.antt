@@ -1,7 +1,6 @@
 use Rattle.std.proofs.Common.{sym, subst}
 use Rattle.arachne_core.specs.ContextTable.{world_of}
-use Rattle.arachne_locked.specs.AtHome.{TableView, HoldsThread}
-use Rattle.arachne_locked.proofs.AtHome.{rest_home}
+use Rattle.arachne_locked.{specs.AtHome.{TableView, HoldsThread}, proofs.AtHome.rest_home}
 use Rattle.arachne_locked.proofs.homes.Homes.put_back.Goals as goal
 
 pub invariant_of-self : goal.invariant_of-self

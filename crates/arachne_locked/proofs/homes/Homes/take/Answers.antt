@@ -1,7 +1,6 @@
 use Rattle.std.proofs.Common.{sym, subst, set}
 use Rattle.arachne_core.specs.ContextTable.{world_of}
-use Rattle.arachne_locked.specs.AtHome.{IsHome}
-use Rattle.arachne_locked.proofs.AtHome.{take_home}
+use Rattle.arachne_locked.{specs.AtHome.IsHome, proofs.AtHome.take_home}
 use Rattle.arachne_locked.proofs.homes.Homes.take.Goals as goal
 
 pub invariant_of-self : goal.invariant_of-self

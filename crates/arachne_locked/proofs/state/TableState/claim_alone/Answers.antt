@@ -1,6 +1,5 @@
 use Rattle.std.proofs.Common.{◌≡◌, inl, inr, refl, sym, ap, ◌∙◌, subst, rules}
-use Rattle.arachne_core.specs.Occupancy.{Occupancy}
-use Rattle.arachne_core.specs.ContextTable.{ShowsCore, world_of}
+use Rattle.arachne_core.specs.{Occupancy.Occupancy, ContextTable.{ShowsCore, world_of}}
 use Rattle.arachne_locked.proofs.Words.{in_use}
 use Rattle.arachne_locked.proofs.state.TableState.claim_alone.Goals.{then-is_exclusive-via-then-is_exclusive, then-is_exclusive-via-else-is_exclusive+then-not-is_empty}
 use Rattle.arachne_locked.proofs.state.TableState.claim_alone.Goals as goal

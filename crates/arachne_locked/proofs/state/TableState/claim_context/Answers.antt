@@ -1,8 +1,6 @@
 use Rattle.std.proofs.Common.{◌≡◌, ◌*◌, ap, ◌∙◌, arith}
-use Rattle.arachne_core.specs.ContextTable.{ContextTable, world_of}
-use Rattle.arachne_core.specs.World.{World, after}
-use Rattle.arachne_locked.specs.AtHome.{TableView}
-use Rattle.arachne_locked.proofs.Room.{claimed_room}
+use Rattle.arachne_core.specs.{ContextTable.{ContextTable, world_of}, World.{World, after}}
+use Rattle.arachne_locked.{specs.AtHome.TableView, proofs.Room.claimed_room}
 use Rattle.arachne_locked.proofs.state.TableState.claim_context.Goals as goal
 
 pub invariant_of-self-2 : goal.invariant_of-self-2

@@ -1,8 +1,7 @@
 use Rattle.std.proofs.Common.{◌≡◌, ◌*◌, sym, subst}
 use Rattle.arachne_core.specs.ContextTable.{world_of}
 use Rattle.arachne_contexts.specs.Answers.{IsByContext}
-use Rattle.arachne_locked.specs.AtHome.{TableView}
-use Rattle.arachne_locked.specs.Closing.{IsAccounted, at_rest_below}
+use Rattle.arachne_locked.specs.{AtHome.TableView, Closing.{IsAccounted, at_rest_below}}
 use Rattle.arachne_locked.proofs.Closed.{accounted, by_context}
 use Rattle.arachne_locked.proofs.state.TableState.close.Goals as goal
 

@@ -2,14 +2,10 @@
 -- event can be refused (`retire_made`, `release_made`), and each leaves enough reserved memory for the threads that are
 -- held (`spent_room`, `release_room`). A change of what an end does to a place changes `ends` in `Calls` and these
 -- lemmas of `Ends`.
-use Rattle.std.proofs.Common.{sym, ap, ◌∙◌, subst, rules}
-use Rattle.std.proofs.lemmas.Bool.{true≢false}
-use Rattle.arachne_core.specs.ContextTable.{ContextTable, world_of}
-use Rattle.arachne_core.specs.World.{HoldsIn}
-use Rattle.arachne_locked.specs.AtHome.{TableView}
-use Rattle.arachne_locked.specs.Calls.{Takes, ends}
+use Rattle.std.proofs.Common.{sym, ap, ◌∙◌, subst, rules, true≢false}
+use Rattle.arachne_core.specs.{ContextTable.{ContextTable, world_of}, World.HoldsIn}
+use Rattle.arachne_locked.specs.{AtHome.TableView, Calls.{Takes, ends}}
 use Rattle.arachne_locked.proofs.Ends.{retire_made, release_made, spent_ends, spent_room, may_release, release_ends, release_room}
-use Rattle.arachne_locked.proofs.state.TableState.end.Goals.{In-Ok-apply, In-Err-apply}
 use Rattle.arachne_locked.proofs.state.TableState.end.Goals as goal
 
 pub unreachable-requires : goal.unreachable-requires

@@ -1,7 +1,5 @@
-use Rattle.std.proofs.Common.{ℕ, ◌<◌, ◌^◌, inl, inr, sym, subst, ◌∙◌}
-use Rattle.std.proofs.lemmas.Bool.{cases_lt, eq-eqb, eqb-true}
-use Rattle.arachne_core.specs.declared.layout.TheConstants.{MASK_BITS}
-use Rattle.arachne_core.specs.ContextTable.{world_of}
+use Rattle.std.proofs.{Common.{ℕ, ◌<◌, ◌^◌, inl, inr, sym, subst, ◌∙◌}, lemmas.Bool.{cases_lt, eq-eqb, eqb-true}}
+use Rattle.arachne_core.specs.{declared.layout.TheConstants.MASK_BITS, ContextTable.world_of}
 use Rattle.arachne_locked.proofs.Words.{none_masked, all_free}
 use Rattle.arachne_locked.proofs.state.TableState.is_drained.Goals as goal
 

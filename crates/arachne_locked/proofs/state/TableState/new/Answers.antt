@@ -1,7 +1,5 @@
 use Rattle.std.proofs.Common.{◌*◌, sym, ap, subst, arith}
-use Rattle.arachne_core.specs.ContextTable.{ContextTable, world_of}
-use Rattle.arachne_core.specs.World.{World}
-use Rattle.arachne_core.specs.Run.{IsOpening}
+use Rattle.arachne_core.specs.{ContextTable.{ContextTable, world_of}, World.World, Run.IsOpening}
 use Rattle.arachne_locked.proofs.Room.{full_room}
 use Rattle.arachne_locked.proofs.state.TableState.new.Goals as goal
 

@@ -1,10 +1,7 @@
 use Rattle.std.proofs.Common.{◌≡◌, ap, ◌∙◌, subst, Err}
 use Rattle.arachne_core.specs.declared.event.Event.TheVariants as event
-use Rattle.arachne_core.specs.declared.event.NotApplied.{NotApplied}
-use Rattle.arachne_core.specs.World.{World}
-use Rattle.arachne_core.specs.ContextTable.{Answers, world_of}
-use Rattle.arachne_locked.specs.AtHome.{TableView}
-use Rattle.arachne_locked.proofs.Room.{event_room, posted_room, post_has_room}
+use Rattle.arachne_core.specs.{declared.event.NotApplied.NotApplied, World.World, ContextTable.{Answers, world_of}}
+use Rattle.arachne_locked.{specs.AtHome.TableView, proofs.Room.{event_room, posted_room, post_has_room}}
 use Rattle.arachne_locked.proofs.state.TableState.post.Goals as goal
 
 pub invariant_of-self : goal.invariant_of-self

@@ -4,11 +4,9 @@
 use Rattle.std.proofs.Common.{◌∷◌, [], sym, subst}
 use Rattle.arachne_core.specs.declared.event.Event.TheVariants as event
 use Rattle.arachne_core.specs.ContextTable.{world_of}
-use Rattle.arachne_locked.specs.AtHome.{TableView}
-use Rattle.arachne_locked.specs.Calls.{Takes, CanMove}
-use Rattle.arachne_locked.proofs.Moves.{allows_move, allows_release, move_takes, move_room}
+use Rattle.arachne_locked.{proofs.Moves.{allows_move, allows_release, move_takes, move_room}, specs.AtHome.TableView}
+use Rattle.arachne_locked.{proofs.state.TableState.swap.Goals.After-make, specs.Calls.{Takes, CanMove}}
 use Rattle.arachne_locked.proofs.state.TableState.swap.Given as given
-use Rattle.arachne_locked.proofs.state.TableState.swap.Goals.{After-make}
 use Rattle.arachne_locked.proofs.state.TableState.swap.Goals as goal
 
 may-move : (g : given.Over) (c : goal.After-make g) → CanMove (world_of c.self.inside.homes.table) c.args.from c.args.target

@@ -1,8 +1,6 @@
-use Rattle.std.proofs.Common.{rules, ◌≡◌, ◌+◌, ◌≤◌, ◌∷◌, ◌++◌, [], List, length, ap, ◌∙◌, arith, length-append}
-use Rattle.std.specs.Prelude.{vec_len, vec_capacity}
-use Rattle.arachne_machine.specs.declared.line.ThreadLine.{ThreadLine}
+use Rattle.std.proofs.Common.{rules, ◌≡◌, ◌+◌, ◌≤◌, ◌∷◌, ◌++◌, [], List, length, ap, ◌∙◌, arith, length-append, vec_len, vec_capacity}
 use Rattle.std.specs.Result.{is_ok}
-use Rattle.arachne_machine.specs.Lines.{Listed, lines_in}
+use Rattle.arachne_machine.specs.{declared.line.ThreadLine.ThreadLine, Lines.{Listed, lines_in}}
 use Rattle.arachne_machine.proofs.Listing.{behind_all, lines_in-behind, lines_in-push}
 use Rattle.arachne_machine.proofs.lines.Lines.append_many.Goals as goal
 

@@ -1,10 +1,8 @@
 use Rattle.std.proofs.Common.{◌≡◌, ◌+◌, ◌≤◌, ◌∷◌, ◌++◌, List, [], ap, ◌∙◌, arith, length, vec_len, vec_capacity}
 use Rattle.std.specs.Result.{is_ok}
-use Rattle.arachne_machine.specs.declared.line.ThreadLine.{ThreadLine}
-use Rattle.arachne_machine.specs.Lines.{Listed, lines_in}
-use Rattle.arachne_machine.proofs.Listing.{completed}
+use Rattle.arachne_machine.specs.{declared.line.ThreadLine.ThreadLine, Lines.{Listed, lines_in}}
+use Rattle.arachne_machine.proofs.{Listing.completed, lines.Lines.complete.Goals.After-push_reserved-2}
 use Rattle.arachne_machine.proofs.lines.Lines.complete.Goals as goal
-use Rattle.arachne_machine.proofs.lines.Lines.complete.Goals.{After-push_reserved-2}
 
 -- all lists together are the own line and the others
 all_in : (c : After-push_reserved-2) → lines_in c.push_reserved-2.new.self.items ≡ c.args.own.now ∷ c.args.self.now

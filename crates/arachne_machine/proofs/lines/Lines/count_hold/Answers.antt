@@ -1,8 +1,7 @@
 use Rattle.std.proofs.Common.{◌≡◌, ◌+◌, ◌-◌, ◌<◌, ◌≤◌, ◌++◌, List, length, get_or, refl, ap, sym, ◌∙◌, subst, arith}
 use Rattle.std.proofs.Math.ListN.{set}
 use Rattle.std.proofs.lemmas.List.{get_or-append-add, get_or_append_left, set-append_left, set-append_right}
-use Rattle.arachne_machine.specs.declared.line.ThreadLine.{ThreadLine}
-use Rattle.arachne_machine.specs.Lines.{HoldsOnceMore, lines_in}
+use Rattle.arachne_machine.specs.{declared.line.ThreadLine.ThreadLine, Lines.{HoldsOnceMore, lines_in}}
 use Rattle.arachne_machine.proofs.lines.Lines.count_hold.Goals as goal
 
 pub returns-then-place-self : goal.returns-then-place-self

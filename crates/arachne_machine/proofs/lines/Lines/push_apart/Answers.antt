@@ -1,10 +1,8 @@
 use Rattle.std.proofs.Common.{◌≡◌, ◌+◌, ℕ, List, [], ◌∷◌, ◌++◌, length, ap, ◌∙◌, arith, length-append}
 use Rattle.arachne_program.specs.Effects.{tabulated}
-use Rattle.arachne_machine.specs.declared.line.ThreadLine.{ThreadLine}
-use Rattle.arachne_machine.specs.Lines.{Listed, lines_in}
-use Rattle.arachne_machine.proofs.Listing.{lines_in-push}
+use Rattle.arachne_machine.specs.{declared.line.ThreadLine.ThreadLine, Lines.{Listed, lines_in}}
+use Rattle.arachne_machine.proofs.{Listing.lines_in-push, lines.Lines.push_apart.Goals.After-push_reserved}
 use Rattle.arachne_machine.proofs.lines.Lines.push_apart.Goals as goal
-use Rattle.arachne_machine.proofs.lines.Lines.push_apart.Goals.{After-push_reserved}
 
 -- the line that is appended
 abbrev line_of : After-push_reserved → ThreadLine
@@ -21,7 +19,7 @@ earlier c =
 last : (c : After-push_reserved) → c.replace-list.new.dest.lines ≡ line_of c ∷ []
 last c =
     let own : Listed → List ThreadLine = λ v. v.lines ++ record { name = c.args.name; tag = c.args.label.tag; holds = tabulated v.locks (λ lock. 0); ran = c.args.label.ran } ∷ [] in
-    ap (λ (v : Listed). v.lines) (c.replace-list.ensures.after ∙ c.in_ok-push.ensures.ok) ∙ ap own c.new-own.ensures
+    ap (λ (v : Listed). v.lines) (c.replace-list.ensures.after ∙ c.in_ok-push.ensures.ok) ∙ ap own c.for_tag-own.ensures
     ∙ ap (λ (n : ℕ). record { name = c.args.name; tag = c.args.label.tag; holds = tabulated n (λ lock. 0); ran = c.args.label.ran } ∷ []) c.from.ensures
 
 pub invariant_of-self-2 : goal.invariant_of-self-2

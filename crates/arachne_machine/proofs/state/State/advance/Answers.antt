@@ -1,14 +1,11 @@
 -- Each iteration of the loop is a step (`comes`) after those before it (`so_far`).
 use Rattle.std.proofs.Common.{true, ◌≡◌, ◌+◌, ◌-◌, None, subst, sym, arith}
-use Rattle.arachne_machine.specs.declared.state.Progress.{Progress}
-use Rattle.arachne_machine.specs.declared.state.Progress.TheVariants as way
-use Rattle.arachne_machine.specs.Steps.{top}
+use Rattle.arachne_machine.specs.{declared.state.Progress.Progress, Steps.top}
 use Rattle.arachne_machine.specs.Runs.{Advances, Comes, RunsOn, beginning_in, current_in}
-use Rattle.arachne_machine.proofs.Strides.{some_none}
-use Rattle.arachne_machine.proofs.Going.{as_is, runs_next, runs_nothing}
+use Rattle.arachne_machine.proofs.{Going.{as_is, runs_next, runs_nothing}, state.State.advance.Goals.After-make}
 use Rattle.arachne_machine.proofs.Lasting.{forks_next, pauses_next, refused_next, stopped_pending}
+use Rattle.arachne_machine.specs.declared.state.Progress.TheVariants as way
 use Rattle.arachne_machine.proofs.state.State.advance.Given as given
-use Rattle.arachne_machine.proofs.state.State.advance.Goals.{After-make}
 use Rattle.arachne_machine.proofs.state.State.advance.Goals as goal
 
 -- the steps before this one, which is subtracted already
@@ -44,7 +41,7 @@ loop-rest-preserved-in-Ok-Begin g c =
     record {
       makes = runs_next c.args.left.now (c.loop-rest.rest - 1) c.make.new.left c.args.self.now _ (beginning_in c.make.new.self arm.expr) (so_far g at)
           (comes g at _ (way.Begin arm.expr) arm.field-0-is arm.ensures.ok);
-      left_over = λ none. absurd (some_none arm.expr none);
+      left_over = λ none. cc;
     }
 
 pub loop-rest-preserved : goal.loop-rest-preserved

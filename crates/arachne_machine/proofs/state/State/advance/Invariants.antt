@@ -1,6 +1,5 @@
 use Rattle.std.proofs.Common.{true, ◌≡◌, None}
-use Rattle.arachne_machine.specs.Runs.{RunsOn, current_in}
-use Rattle.arachne_machine.specs.Steps.{IsLeftOver}
+use Rattle.arachne_machine.specs.{Runs.{RunsOn, current_in}, Steps.IsLeftOver}
 use Rattle.arachne_machine.proofs.state.State.advance.Given as goal
 
 abbrev pub invariant-loop-rest : goal.invariant-loop-rest

@@ -1,12 +1,9 @@
 -- The state advances. If no child was forked (`advances`), it goes on with one that was placed, or pauses.
 use Rattle.std.proofs.Common.{◌≡◌, true, None, refl, sym, subst, arith}
-use Rattle.arachne_machine.specs.Steps.{pending_of}
-use Rattle.arachne_machine.specs.Runs.{Advances}
-use Rattle.arachne_machine.specs.Kept.{AdvancesWith, TakesUp}
-use Rattle.arachne_machine.proofs.Lasting.{on_err}
 use Rattle.arachne_machine.proofs.Handed.{advanced_kept, all_fit, went_back, went_all, went_forked, went_nothing, went_paused, went_up}
+use Rattle.arachne_machine.proofs.{Lasting.on_err, state.State.advance_with.Goals.In_default}
+use Rattle.arachne_machine.specs.{Kept.{AdvancesWith, TakesUp}, Runs.Advances, Steps.pending_of}
 use Rattle.arachne_machine.proofs.state.State.advance_with.Given as given
-use Rattle.arachne_machine.proofs.state.State.advance_with.Goals.{In_default}
 use Rattle.arachne_machine.proofs.state.State.advance_with.Goals as goal
 
 -- the state has advanced, and forked no child

@@ -1,21 +1,16 @@
-use Rattle.std.proofs.Common.{rules, ◌∷◌, [], refl, arith, sym, ap, ◌∙◌}
-use Rattle.std.specs.Prelude.{slice_index}
+use Rattle.std.proofs.Common.{rules, ◌∷◌, [], refl, arith, sym, ap, ◌∙◌, slice_index}
 use Rattle.arachne_program.specs.Tree.{Number, Variable, Length, Item, Choose, Bind, Tally, Hold, Fold, Sweep}
 use Rattle.arachne_program.specs.Program.{source_of, tree_of}
 use Rattle.arachne_machine.specs.declared.frame.Frame.TheVariants.{Index, Branch, Extend, Amount, Release, FoldTo, SweepTo}
-use Rattle.arachne_machine.specs.declared.frame.Control.TheVariants.{Give, Asks}
+use Rattle.arachne_machine.specs.{declared.frame.Control.TheVariants.{Give, Asks}, Steps.{beginning, giving, top}}
+use Rattle.arachne_machine.{specs.Runs.{Comes, beginning_in}, proofs.Outlooks.{as_beginning, given}}
+use Rattle.arachne_machine.proofs.Openings.{begins_by, goes_to_value, open_number, open_variable, open_length, open_item, open_choice, open_binding, open_tally, open_hold, open_fold, open_sweep}
+use Rattle.arachne_machine.proofs.{Handings.once, Splitting.{goes_to_fork, places_fork}}
+use Rattle.arachne_machine.proofs.{Strides.{ok_both, reaches_value}, Levels.{changes_leave, top_becomes}}
+use Rattle.arachne_machine.proofs.Going.{comes_fork, comes_of, comes_stop, enters_begun, forks_begun, forks_part, leaves_begun, line_in, not_ended, number_fits, runs_place, spawns_begun, start_in}
+use Rattle.arachne_machine.proofs.Lasting.{enters, leaves_from, no_stop, ok_forked, ok_known}
 use Rattle.arachne_machine.specs.declared.pause.Pending.TheVariants as pause
 use Rattle.arachne_machine.specs.declared.state.Progress.TheVariants as way
-use Rattle.arachne_machine.specs.Steps.{beginning, giving, top}
-use Rattle.arachne_machine.specs.Runs.{Comes, beginning_in}
-use Rattle.arachne_machine.proofs.Outlooks.{as_beginning, given}
-use Rattle.arachne_machine.proofs.Openings.{begins_by, goes_to_value, goes_to_part, open_number, open_variable, open_length, open_item, open_choice, open_binding, open_tally, open_hold, open_fold, open_sweep}
-use Rattle.arachne_machine.proofs.Handings.{once}
-use Rattle.arachne_machine.proofs.Splitting.{goes_to_fork, places_fork}
-use Rattle.arachne_machine.proofs.Strides.{ok_both, reaches_value}
-use Rattle.arachne_machine.proofs.Levels.{changes_leave, top_becomes}
-use Rattle.arachne_machine.proofs.Going.{comes_enter, comes_fork, comes_of, comes_stop, enters_begun, forks_begun, forks_part, leaves_begun, line_in, not_ended, number_fits, runs_place, spawns_begun, start_in}
-use Rattle.arachne_machine.proofs.Lasting.{ask_is_no_join, leaves_from, no_stop, ok_forked, ok_known}
 use Rattle.arachne_machine.proofs.state.State.begin.Goals as goal
 
 pub operate-requires : goal.operate-requires
@@ -77,7 +72,7 @@ returns-in-Hold-clause-ok g c =
     let step = begins_by 1 (beginning (top t) e) (top new) e (Hold lock (tree_of body.now)) (Asks lock body) (Release lock ∷ []) refl
     (rw c.deref-in-Hold.ensures (ap tree_of c.in-Hold.is)) (top_becomes (beginning_in t e) new _ _ _ asked le) (λ fs. refl) refl
     (open_hold (source_of t.program.now) (top t).own.name t.environment.items lock body) in
-    comes_stop _ (beginning_in t e) new (pause.Asks lock) s refl (changes_leave (beginning_in t e) new _ _ _ asked le) (not_ended new (pause.Asks lock) tt) (λ e. absurd (ask_is_no_join lock e))
+    comes_stop _ (beginning_in t e) new (pause.Asks lock) s refl (changes_leave (beginning_in t e) new _ _ _ asked le) (not_ended new (pause.Asks lock) tt) (λ e. cc)
     (once (beginning (top t) e) _ step.goes, step.pending, step.locks ∙ ap (λ l. lock ∷ l) (sym step.old_locks)))
 
 pub returns-else-not-is_any-clause-ok : goal.returns-else-not-is_any-clause-ok
@@ -115,95 +110,41 @@ returns-in-Binary-clause-ok g c =
 pub returns-in-Item-clause-ok : goal.returns-in-Item-clause-ok
 returns-in-Item-clause-ok g c =
     let t = c.args.self.now in
-    let e = c.args.expr in
-    let b = beginning (top t) e in
-    let s = c.requires.sound in
-    let source = source_of t.program.now in
-    let name = (top t).own.name in
-    let env = t.environment.items in
     let part = c.deref.result in
-    let new = c.enter.new.self in
-    ok_known c.enter.result (way.Begin part) (λ p. Comes _ _ _ (beginning_in t e) p new) c.enter.ensures.begins c.enter.ensures.ok
-    (λ pushes. comes_enter _ _ t new e part _ s pushes
-    (λ on. goes_to_part 1 b (beginning (top new) part) e part (Item c.in-Item.array (tree_of part.now)) (Index c.in-Item.array) refl
-    (rw (c.deref.ensures) (ap tree_of c.in-Item.is)) on refl refl (open_item source name env c.in-Item.array part)))
+    enters _ _ t c.enter.new.self c.args.expr part (Item c.in-Item.array (tree_of part.now)) (Index c.in-Item.array) c.enter.result c.requires.sound c.enter.ensures.begins c.enter.ensures.ok
+    (rw (c.deref.ensures) (ap tree_of c.in-Item.is)) refl refl (open_item (source_of t.program.now) (top t).own.name t.environment.items c.in-Item.array part)
 
 pub returns-in-If-clause-ok : goal.returns-in-If-clause-ok
 returns-in-If-clause-ok g c =
     let t = c.args.self.now in
-    let e = c.args.expr in
-    let b = beginning (top t) e in
-    let s = c.requires.sound in
-    let source = source_of t.program.now in
-    let name = (top t).own.name in
-    let env = t.environment.items in
     let part = c.deref-in-If-3.result in
-    let new = c.enter-in-If.new.self in
-    ok_known c.enter-in-If.result (way.Begin part) (λ p. Comes _ _ _ (beginning_in t e) p new) c.enter-in-If.ensures.begins c.enter-in-If.ensures.ok
-    (λ pushes. comes_enter _ _ t new e part _ s pushes
-    (λ on. goes_to_part 1 b (beginning (top new) part) e part (Choose (tree_of part.now) (tree_of c.deref-in-If.result.now) (tree_of c.deref-in-If-2.result.now)) (Branch c.deref-in-If.result c.deref-in-If-2.result) refl
-    (rw (c.deref-in-If.ensures, c.deref-in-If-2.ensures, c.deref-in-If-3.ensures) (ap tree_of c.in-If.is)) on refl refl (open_choice source name env part c.deref-in-If.result c.deref-in-If-2.result)))
+    enters _ _ t c.enter-in-If.new.self c.args.expr part (Choose (tree_of part.now) (tree_of c.deref-in-If.result.now) (tree_of c.deref-in-If-2.result.now)) (Branch c.deref-in-If.result c.deref-in-If-2.result) c.enter-in-If.result c.requires.sound c.enter-in-If.ensures.begins c.enter-in-If.ensures.ok
+    (rw (c.deref-in-If.ensures, c.deref-in-If-2.ensures, c.deref-in-If-3.ensures) (ap tree_of c.in-If.is)) refl refl (open_choice (source_of t.program.now) (top t).own.name t.environment.items part c.deref-in-If.result c.deref-in-If-2.result)
 
 pub returns-in-Let-clause-ok : goal.returns-in-Let-clause-ok
 returns-in-Let-clause-ok g c =
     let t = c.args.self.now in
-    let e = c.args.expr in
-    let b = beginning (top t) e in
-    let s = c.requires.sound in
-    let source = source_of t.program.now in
-    let name = (top t).own.name in
-    let env = t.environment.items in
     let part = c.deref-in-Let-2.result in
-    let new = c.enter-in-Let.new.self in
-    ok_known c.enter-in-Let.result (way.Begin part) (λ p. Comes _ _ _ (beginning_in t e) p new) c.enter-in-Let.ensures.begins c.enter-in-Let.ensures.ok
-    (λ pushes. comes_enter _ _ t new e part _ s pushes
-    (λ on. goes_to_part 1 b (beginning (top new) part) e part (Bind (tree_of part.now) (tree_of c.deref-in-Let.result.now)) (Extend c.deref-in-Let.result) refl
-    (rw (c.deref-in-Let.ensures, c.deref-in-Let-2.ensures) (ap tree_of c.in-Let.is)) on refl refl (open_binding source name env part c.deref-in-Let.result)))
+    enters _ _ t c.enter-in-Let.new.self c.args.expr part (Bind (tree_of part.now) (tree_of c.deref-in-Let.result.now)) (Extend c.deref-in-Let.result) c.enter-in-Let.result c.requires.sound c.enter-in-Let.ensures.begins c.enter-in-Let.ensures.ok
+    (rw (c.deref-in-Let.ensures, c.deref-in-Let-2.ensures) (ap tree_of c.in-Let.is)) refl refl (open_binding (source_of t.program.now) (top t).own.name t.environment.items part c.deref-in-Let.result)
 
 pub returns-in-Tally-clause-ok : goal.returns-in-Tally-clause-ok
 returns-in-Tally-clause-ok g c =
     let t = c.args.self.now in
-    let e = c.args.expr in
-    let b = beginning (top t) e in
-    let s = c.requires.sound in
-    let source = source_of t.program.now in
-    let name = (top t).own.name in
-    let env = t.environment.items in
     let part = c.deref-in-Tally-2.result in
-    let new = c.enter-in-Tally.new.self in
-    ok_known c.enter-in-Tally.result (way.Begin part) (λ p. Comes _ _ _ (beginning_in t e) p new) c.enter-in-Tally.ensures.begins c.enter-in-Tally.ensures.ok
-    (λ pushes. comes_enter _ _ t new e part _ s pushes
-    (λ on. goes_to_part 1 b (beginning (top new) part) e part (Tally c.in-Tally.ledger (tree_of part.now) (tree_of c.deref-in-Tally.result.now)) (Amount c.in-Tally.ledger c.deref-in-Tally.result) refl
-    (rw (c.deref-in-Tally.ensures, c.deref-in-Tally-2.ensures) (ap tree_of c.in-Tally.is)) on refl refl (open_tally source name env c.in-Tally.ledger part c.deref-in-Tally.result)))
+    enters _ _ t c.enter-in-Tally.new.self c.args.expr part (Tally c.in-Tally.ledger (tree_of part.now) (tree_of c.deref-in-Tally.result.now)) (Amount c.in-Tally.ledger c.deref-in-Tally.result) c.enter-in-Tally.result c.requires.sound c.enter-in-Tally.ensures.begins c.enter-in-Tally.ensures.ok
+    (rw (c.deref-in-Tally.ensures, c.deref-in-Tally-2.ensures) (ap tree_of c.in-Tally.is)) refl refl (open_tally (source_of t.program.now) (top t).own.name t.environment.items c.in-Tally.ledger part c.deref-in-Tally.result)
 
 pub returns-in-Fold-clause-ok : goal.returns-in-Fold-clause-ok
 returns-in-Fold-clause-ok g c =
     let t = c.args.self.now in
-    let e = c.args.expr in
-    let b = beginning (top t) e in
-    let s = c.requires.sound in
-    let source = source_of t.program.now in
-    let name = (top t).own.name in
-    let env = t.environment.items in
     let part = c.deref-in-Fold-4.result in
-    let new = c.enter-in-Fold.new.self in
-    ok_known c.enter-in-Fold.result (way.Begin part) (λ p. Comes _ _ _ (beginning_in t e) p new) c.enter-in-Fold.ensures.begins c.enter-in-Fold.ensures.ok
-    (λ pushes. comes_enter _ _ t new e part _ s pushes
-    (λ on. goes_to_part 1 b (beginning (top new) part) e part (Fold (tree_of part.now) (tree_of c.deref-in-Fold.result.now) (tree_of c.deref-in-Fold-2.result.now) (tree_of c.deref-in-Fold-3.result.now)) (FoldTo c.deref-in-Fold.result c.deref-in-Fold-2.result c.deref-in-Fold-3.result) refl
-    (rw (c.deref-in-Fold.ensures, c.deref-in-Fold-2.ensures, c.deref-in-Fold-3.ensures, c.deref-in-Fold-4.ensures) (ap tree_of c.in-Fold.is)) on refl refl (open_fold source name env part c.deref-in-Fold.result c.deref-in-Fold-2.result c.deref-in-Fold-3.result)))
+    enters _ _ t c.enter-in-Fold.new.self c.args.expr part (Fold (tree_of part.now) (tree_of c.deref-in-Fold.result.now) (tree_of c.deref-in-Fold-2.result.now) (tree_of c.deref-in-Fold-3.result.now)) (FoldTo c.deref-in-Fold.result c.deref-in-Fold-2.result c.deref-in-Fold-3.result) c.enter-in-Fold.result c.requires.sound c.enter-in-Fold.ensures.begins c.enter-in-Fold.ensures.ok
+    (rw (c.deref-in-Fold.ensures, c.deref-in-Fold-2.ensures, c.deref-in-Fold-3.ensures, c.deref-in-Fold-4.ensures) (ap tree_of c.in-Fold.is)) refl refl (open_fold (source_of t.program.now) (top t).own.name t.environment.items part c.deref-in-Fold.result c.deref-in-Fold-2.result c.deref-in-Fold-3.result)
 
 pub returns-in-Sweep-clause-ok : goal.returns-in-Sweep-clause-ok
 returns-in-Sweep-clause-ok g c =
     let t = c.args.self.now in
-    let e = c.args.expr in
-    let b = beginning (top t) e in
-    let s = c.requires.sound in
-    let source = source_of t.program.now in
-    let name = (top t).own.name in
-    let env = t.environment.items in
     let part = c.deref-in-Sweep-3.result in
-    let new = c.enter-in-Sweep.new.self in
-    ok_known c.enter-in-Sweep.result (way.Begin part) (λ p. Comes _ _ _ (beginning_in t e) p new) c.enter-in-Sweep.ensures.begins c.enter-in-Sweep.ensures.ok
-    (λ pushes. comes_enter _ _ t new e part _ s pushes
-    (λ on. goes_to_part 1 b (beginning (top new) part) e part (Sweep c.in-Sweep.reduction c.in-Sweep.grain (tree_of part.now) (tree_of c.deref-in-Sweep.result.now) (tree_of c.deref-in-Sweep-2.result.now)) (SweepTo c.in-Sweep.reduction c.in-Sweep.grain c.deref-in-Sweep.result c.deref-in-Sweep-2.result) refl
-    (rw (c.deref-in-Sweep.ensures, c.deref-in-Sweep-2.ensures, c.deref-in-Sweep-3.ensures) (ap tree_of c.in-Sweep.is)) on refl refl (open_sweep source name env c.in-Sweep.reduction c.in-Sweep.grain part c.deref-in-Sweep.result c.deref-in-Sweep-2.result)))
+    enters _ _ t c.enter-in-Sweep.new.self c.args.expr part (Sweep c.in-Sweep.reduction c.in-Sweep.grain (tree_of part.now) (tree_of c.deref-in-Sweep.result.now) (tree_of c.deref-in-Sweep-2.result.now)) (SweepTo c.in-Sweep.reduction c.in-Sweep.grain c.deref-in-Sweep.result c.deref-in-Sweep-2.result) c.enter-in-Sweep.result c.requires.sound c.enter-in-Sweep.ensures.begins c.enter-in-Sweep.ensures.ok
+    (rw (c.deref-in-Sweep.ensures, c.deref-in-Sweep-2.ensures, c.deref-in-Sweep-3.ensures) (ap tree_of c.in-Sweep.is)) refl refl (open_sweep (source_of t.program.now) (top t).own.name t.environment.items c.in-Sweep.reduction c.in-Sweep.grain part c.deref-in-Sweep.result c.deref-in-Sweep-2.result)

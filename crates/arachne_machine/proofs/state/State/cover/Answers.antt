@@ -1,15 +1,10 @@
-use Rattle.std.proofs.Common.{rules, ◌≤◌, ◌<◌, ◌+◌, ◌-◌, ◌/◌, ap, subst, sym, arith}
-use Rattle.std.specs.Prelude.{max}
+use Rattle.std.proofs.Common.{rules, ◌≤◌, ◌<◌, ◌+◌, ◌-◌, ◌/◌, ap, subst, sym, arith, max}
 use Rattle.arachne_program.specs.declared.program.Class.TheVariants.{Normal}
-use Rattle.arachne_machine.specs.Ending.{fork_awaited}
-use Rattle.arachne_machine.specs.declared.state.Progress.TheVariants as way
-use Rattle.arachne_machine.specs.Runs.{Comes}
-use Rattle.arachne_machine.specs.Steps.{IsLeftOver, pending_of, top}
-use Rattle.arachne_machine.proofs.Handings.{covers}
-use Rattle.arachne_machine.proofs.Splitting.{goes_to_half, places_half}
-use Rattle.arachne_machine.proofs.Turning.{makes_once}
+use Rattle.arachne_machine.specs.{Ending.fork_awaited, Runs.Comes, Steps.{IsLeftOver, pending_of, top}}
+use Rattle.arachne_machine.proofs.{Handings.covers, Splitting.{goes_to_half, places_half}, Turning.makes_once}
 use Rattle.arachne_machine.proofs.Going.{comes_fork, comes_of, leaves_on, leaves_same, line_in, number_fits, runs_place, start_in, start_same, top_same}
 use Rattle.arachne_machine.proofs.Lasting.{no_stop, ok_forked, ok_known}
+use Rattle.arachne_machine.specs.declared.state.Progress.TheVariants as way
 use Rattle.arachne_machine.proofs.state.State.cover.Goals as goal
 
 pub halve_here-requires : goal.halve_here-requires

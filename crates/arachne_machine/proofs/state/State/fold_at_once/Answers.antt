@@ -1,8 +1,6 @@
 use Rattle.std.proofs.Common.{ap, arith, sym}
-use Rattle.arachne_program.specs.Program.{source_of, tree_of}
-use Rattle.arachne_program.specs.Value.{with_newest}
-use Rattle.arachne_machine.specs.Steps.{top}
-use Rattle.arachne_machine.proofs.Turning.{fold_goes_on, same_then, worth_same}
+use Rattle.arachne_program.specs.{Program.{source_of, tree_of}, Value.with_newest}
+use Rattle.arachne_machine.{specs.Steps.top, proofs.Turning.{fold_goes_on, same_then, worth_same}}
 use Rattle.arachne_machine.proofs.state.State.fold_at_once.Goals as goal
 
 pub loop-next-preserved : goal.loop-next-preserved

@@ -1,9 +1,6 @@
-use Rattle.std.proofs.Common.{◌≡◌, ◌≤◌, ◌-◌, ◌+◌}
-use Rattle.std.specs.Prelude.{vec_len, vec_capacity}
-use Rattle.std.specs.Borrow.{Bor}
+use Rattle.std.{proofs.Common.{◌≡◌, ◌≤◌, ◌-◌, ◌+◌, vec_len, vec_capacity}, specs.Borrow.Bor}
 use Rattle.arachne_program.specs.declared.program.Expr.{Expr}
-use Rattle.arachne_machine.specs.Steps.{ComesToFold, IsSame, top}
-use Rattle.arachne_machine.specs.Strands.{Strand}
+use Rattle.arachne_machine.specs.{Steps.{ComesToFold, IsSame, top}, Strands.Strand}
 use Rattle.arachne_machine.proofs.state.State.fold_at_once.Given as goal
 
 abbrev pub invariant-loop-next : goal.invariant-loop-next

@@ -1,7 +1,5 @@
 use Rattle.std.proofs.Common.{rules, ◌+◌, ◌≤◌, vec_len, vec_capacity, refl, sym, subst, ◌∙◌, arith}
-use Rattle.arachne_machine.specs.declared.state.State.{State}
-use Rattle.arachne_machine.specs.Steps.{IsSame}
-use Rattle.arachne_machine.specs.Runs.{Comes, RunsOn, giving_in}
+use Rattle.arachne_machine.specs.{declared.state.State.State, Steps.IsSame, Runs.{Comes, RunsOn, giving_in}}
 use Rattle.arachne_machine.proofs.Going.{comes_more, runs_more, runs_nothing}
 use Rattle.arachne_machine.proofs.Lasting.{nearer_value, on_err, without_value}
 use Rattle.arachne_machine.proofs.state.State.give.Goals as goal
@@ -10,17 +8,7 @@ pub returns-then-is_err-clause-err : goal.returns-then-is_err-clause-err
 returns-then-is_err-clause-err g c =
     let t = c.args.self.now in
     let turns = c.refused.ensures.turns in
-    let same : IsSame (giving_in t c.args.value) c.refused.new.self = record {
-      program = turns.program;
-      own = turns.own;
-      lines = turns.lines;
-      sums = turns.sums;
-      parents = turns.parents;
-      level = turns.level;
-      environment_is = turns.environment_is ∙ c.try_reserve.ensures.items;
-      frames_are = turns.frames_are;
-      control_is = turns.control_is;
-    } in
+    let same : IsSame (giving_in t c.args.value) c.refused.new.self = assumption (turns.environment_is ∙ c.try_reserve.ensures.items) in
     on_err c.refused.result _ (runs_nothing _ (giving_in t c.args.value) c.refused.new.self c.requires.sound same refl)
 
 pub loop-next-init : goal.loop-next-init

@@ -1,8 +1,7 @@
 use Rattle.std.proofs.Common.{rules, ◌≡◌, ◌≤◌, ◌+◌, length, vec_len, vec_capacity, ap, subst, sym, arith}
 use Rattle.arachne_machine.specs.declared.frame.Control.TheVariants.{Awaits, AwaitsHalf}
 use Rattle.arachne_machine.specs.Runs.{BeginsHere, IsPoppedIn, giving_in}
-use Rattle.arachne_machine.proofs.Going.{comes_half_here, comes_join_here, comes_popped}
-use Rattle.arachne_machine.proofs.Lasting.{on_value}
+use Rattle.arachne_machine.proofs.{Going.{comes_half_here, comes_join_here, comes_popped}, Lasting.on_value}
 use Rattle.arachne_machine.proofs.state.State.hand.Goals as goal
 
 pub stand_before-requires : goal.stand_before-requires

@@ -1,9 +1,6 @@
-use Rattle.std.proofs.Common.{◌≡◌, length, [], vec_len, ap, refl, sym, ◌∙◌, arith}
-use Rattle.std.proofs.lemmas.List.{nil_from_length}
-use Rattle.arachne_machine.specs.Runs.{giving_in}
-use Rattle.arachne_machine.proofs.Strides.{ok_then}
-use Rattle.arachne_machine.proofs.Going.{comes_end, comes_join, start_in}
-use Rattle.arachne_machine.proofs.Lasting.{has_parent, is_none, is_some}
+use Rattle.std.proofs.{Common.{◌≡◌, length, [], vec_len, ap, refl, sym, ◌∙◌, arith}, lemmas.List.nil_from_length}
+use Rattle.arachne_machine.{specs.Runs.giving_in, proofs.Strides.ok_then}
+use Rattle.arachne_machine.proofs.{Going.{comes_end, comes_join, start_in}, Lasting.{has_parent, is_none, is_some}}
 use Rattle.arachne_machine.proofs.state.State.hand_newest.Goals as goal
 
 pub returns-then-is_empty-clause-ok : goal.returns-then-is_empty-clause-ok

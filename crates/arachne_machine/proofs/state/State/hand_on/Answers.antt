@@ -1,9 +1,7 @@
 use Rattle.std.proofs.Common.{refl, subst}
 use Rattle.arachne_machine.specs.declared.pause.Pending.TheVariants as pause
-use Rattle.arachne_machine.specs.Steps.{IsPopped, giving, top}
-use Rattle.arachne_machine.proofs.Outlooks.{given_from}
-use Rattle.arachne_machine.proofs.Handings.{hand_amount, hand_release, hand_join, hand_merge}
-use Rattle.arachne_machine.proofs.Strides.{reaches_stop}
+use Rattle.arachne_machine.{specs.Steps.{IsPopped, giving, top}, proofs.Outlooks.given_from}
+use Rattle.arachne_machine.proofs.{Handings.{hand_amount, hand_release, hand_join, hand_merge}, Strides.reaches_stop}
 use Rattle.arachne_machine.proofs.state.State.hand_on.Goals as goal
 
 pub returns-in-Amount-clause-made : goal.returns-in-Amount-clause-made

@@ -1,13 +1,9 @@
 use Rattle.std.proofs.Common.{refl, subst}
-use Rattle.arachne_machine.specs.declared.state.Progress.TheVariants.{Goes}
-use Rattle.arachne_machine.specs.declared.frame.Control.TheVariants.{Cover}
-use Rattle.arachne_machine.specs.Steps.{IsPopped, beginning, giving, top}
-use Rattle.arachne_machine.proofs.Outlooks.{as_giving, begins_with, given_from}
 use Rattle.arachne_machine.proofs.Handings.{hand_fold_to, hand_fold_first, hand_fold_start, fold_giving, hand_sweep_to, hand_sweep_start}
-use Rattle.arachne_machine.proofs.Strides.{reaches_once, reaches_part}
-use Rattle.arachne_machine.proofs.Levels.{changes_leave, top_becomes}
-use Rattle.arachne_machine.proofs.Turning.{makes_once}
-use Rattle.arachne_machine.proofs.Lasting.{begins_no_stop, no_stop}
+use Rattle.arachne_machine.proofs.{Lasting.{begins_no_stop, no_stop}, Levels.{changes_leave, top_becomes}}
+use Rattle.arachne_machine.proofs.{Outlooks.{as_giving, begins_with, given_from}, Strides.{reaches_once, reaches_part}}
+use Rattle.arachne_machine.{proofs.Turning.makes_once, specs.Steps.{IsPopped, beginning, giving, top}}
+use Rattle.arachne_machine.specs.declared.{frame.Control.TheVariants.Cover, state.Progress.TheVariants.Goes}
 use Rattle.arachne_machine.proofs.state.State.hand_to_range.Goals as goal
 
 pub returns-in-FoldTo-clause-made : goal.returns-in-FoldTo-clause-made

@@ -1,14 +1,11 @@
 use Rattle.std.proofs.Common.{true, false, refl, ap, ◌∙◌, subst}
 use Rattle.arachne_program.specs.Value.{apply}
-use Rattle.arachne_machine.specs.Steps.{IsPopped, beginning, giving, top}
-use Rattle.arachne_machine.proofs.Outlooks.{as_giving, begins_with, given_from}
+use Rattle.arachne_machine.{specs.Steps.{IsPopped, beginning, giving, top}, proofs.Levels.{changes_leave, top_becomes}}
+use Rattle.arachne_machine.proofs.{Outlooks.{as_giving, begins_with, given_from}, Turning.makes_once}
 use Rattle.arachne_machine.proofs.Handings.{hand_index, hand_right, hand_apply, hand_branch, is_zero, is_not_zero, hand_extend, hand_restore, hand_fold_turn, hand_sweep_turn}
-use Rattle.arachne_machine.proofs.Strides.{part_begun, reaches_part, reaches_value}
+use Rattle.arachne_machine.proofs.{Strides.{part_begun, reaches_part, reaches_value}, Lasting.{begins_no_stop, no_stop}}
 use Rattle.arachne_machine.proofs.state.State.hand_within.Goals.{then-value-eq0, else-value-eq0}
-use Rattle.arachne_machine.proofs.Turning.{makes_once}
-use Rattle.arachne_machine.proofs.Levels.{changes_leave, top_becomes}
 use Rattle.arachne_machine.proofs.Going.{as_is, leaves_on, leaves_same, start_same, top_same}
-use Rattle.arachne_machine.proofs.Lasting.{begins_no_stop, no_stop}
 use Rattle.arachne_machine.proofs.state.State.hand_within.Goals as goal
 
 pub returns-in-Index-clause-made : goal.returns-in-Index-clause-made

@@ -1,8 +1,6 @@
-use Rattle.std.proofs.Common.{rules, ◌≡◌, [], refl, sym, ◌∙◌, subst}
-use Rattle.std.proofs.lemmas.List.{append-nil}
+use Rattle.std.proofs.Common.{rules, ◌≡◌, [], refl, sym, ◌∙◌, subst, append-nil}
 use Rattle.arachne_program.specs.Value.{apply, operation_of}
-use Rattle.arachne_machine.specs.declared.state.State.{State}
-use Rattle.arachne_machine.specs.Runs.{HandsResult, JoinsHere}
+use Rattle.arachne_machine.specs.{declared.state.State.State, Runs.{HandsResult, JoinsHere}}
 use Rattle.arachne_machine.proofs.Levels.{resumes_half}
 use Rattle.arachne_machine.proofs.state.State.join_here.Goals as goal
 

@@ -1,8 +1,6 @@
 use Rattle.std.proofs.Common.{subst, sym}
-use Rattle.arachne_machine.specs.Steps.{IsSame}
-use Rattle.arachne_machine.specs.Runs.{Comes, RunsOn, current_in, giving_in}
-use Rattle.arachne_machine.proofs.Strides.{ok_then}
-use Rattle.arachne_machine.proofs.Going.{comes_more, runs_more, runs_nothing}
+use Rattle.arachne_machine.specs.{Steps.IsSame, Runs.{Comes, RunsOn, current_in, giving_in}}
+use Rattle.arachne_machine.proofs.{Strides.ok_then, Going.{comes_more, runs_more, runs_nothing}}
 use Rattle.arachne_machine.proofs.Lasting.{current_running, current_same, err_then}
 use Rattle.arachne_machine.proofs.state.State.make.Goals as goal
 

@@ -1,14 +1,10 @@
 use Rattle.std.proofs.Common.{◌-◌, refl, sym, subst, arith}
-use Rattle.arachne_program.specs.Tree.{Binary}
-use Rattle.arachne_program.specs.Program.{source_of, tree_of}
-use Rattle.arachne_machine.specs.declared.frame.Frame.TheVariants.{Right}
-use Rattle.arachne_machine.specs.declared.state.Progress.TheVariants as part
+use Rattle.arachne_program.specs.{Tree.Binary, Program.{source_of, tree_of}}
+use Rattle.arachne_machine.proofs.{Openings.{begins_both, begins_right, goes_to_part, open_binary}, Lasting.ok_known}
 use Rattle.arachne_machine.specs.Steps.{LeavesOthers, OnStops, Reaches, beginning, giving, top}
-use Rattle.arachne_machine.proofs.Outlooks.{as_beginning, begins_with, given}
-use Rattle.arachne_machine.proofs.Openings.{begins_both, begins_right, goes_to_part, open_binary}
-use Rattle.arachne_machine.proofs.Lasting.{ok_known}
-use Rattle.arachne_machine.proofs.Levels.{changes_leave, top_becomes}
-use Rattle.arachne_machine.proofs.Going.{as_is, leaves_same}
+use Rattle.arachne_machine.proofs.{Outlooks.{as_beginning, begins_with, given}, Levels.{changes_leave, top_becomes}}
+use Rattle.arachne_machine.{specs.declared.frame.Frame.TheVariants.Right, proofs.Going.{as_is, leaves_same}}
+use Rattle.arachne_machine.specs.declared.state.Progress.TheVariants as part
 use Rattle.arachne_machine.proofs.state.State.operate.Goals as goal
 
 pub returns-in-Some-leaf-clause-ok : goal.returns-in-Some-leaf-clause-ok

@@ -5,7 +5,7 @@ pub returns : goal.returns
 returns c = record {
   program_is = refl;
   own_is = refl;
-  lines = c.new.ensures;
+  lines = c.clear-4.ensures;
   sums_are = refl;
   parents = search rules;
   level = c.outermost-self.ensures;

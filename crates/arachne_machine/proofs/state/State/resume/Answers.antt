@@ -1,7 +1,5 @@
 use Rattle.std.proofs.Common.{refl, ap, sym}
-use Rattle.arachne_machine.specs.Steps.{pending_of}
-use Rattle.arachne_machine.specs.Runs.{giving_in}
-use Rattle.arachne_machine.proofs.Going.{runs_nothing}
+use Rattle.arachne_machine.{specs.{Steps.pending_of, Runs.giving_in}, proofs.Going.runs_nothing}
 use Rattle.arachne_machine.proofs.state.State.resume.Goals as goal
 
 pub returns-in-Give-clause-ok : goal.returns-in-Give-clause-ok

@@ -1,7 +1,6 @@
 use Rattle.std.proofs.Common.{refl, ap, sym, ◌∙◌, subst}
 use Rattle.arachne_program.specs.Value.{apply}
-use Rattle.arachne_machine.specs.declared.frame.Control.TheVariants.{Begin, Give}
-use Rattle.arachne_machine.specs.declared.state.State.{State}
+use Rattle.arachne_machine.specs.declared.{frame.Control.TheVariants.{Begin, Give}, state.State.State}
 use Rattle.arachne_machine.specs.Runs.{ResumesAs}
 use Rattle.arachne_machine.proofs.state.State.resume_joined.Goals as goal
 

@@ -1,10 +1,6 @@
-use Rattle.std.proofs.Common.{◌≡◌, [], ◌∷◌, ◌++◌, length, vec_len, refl, ap, sym, ◌∙◌, arith}
-use Rattle.std.specs.Prelude.{reverse}
-use Rattle.std.proofs.lemmas.Bool.{eqb-false}
-use Rattle.std.proofs.lemmas.List.{reverse-append}
-use Rattle.std.proofs.lemmas.Map.Views.{exact_unsigned_eq}
-use Rattle.arachne_machine.specs.declared.level.Parent.{Parent}
-use Rattle.arachne_machine.specs.Strands.{moved_level, moved_parents}
+use Rattle.std.proofs.Common.{◌≡◌, [], ◌∷◌, ◌++◌, length, vec_len, refl, ap, sym, ◌∙◌, arith, reverse}
+use Rattle.std.proofs.lemmas.{Bool.eqb-false, List.reverse-append, Map.Views.exact_unsigned_eq}
+use Rattle.arachne_machine.specs.{declared.level.Parent.Parent, Strands.{moved_level, moved_parents}}
 use Rattle.arachne_machine.proofs.Moving.{fits_top, moved_is, no_parents, some_parents}
 use Rattle.arachne_machine.proofs.state.State.take_levels.Goals as goal
 

@@ -1,6 +1,5 @@
 use Rattle.std.proofs.Common.{rules, Some, refl, ap, ◌∙◌, subst}
-use Rattle.arachne_machine.specs.Steps.{HasRoom, IsSame}
-use Rattle.arachne_machine.specs.Runs.{LooksSame, TakesIn}
+use Rattle.arachne_machine.specs.{Steps.{HasRoom, IsSame}, Runs.{LooksSame, TakesIn}}
 use Rattle.arachne_machine.proofs.state.State.take_newest.Goals as goal
 
 pub stand_before_join-requires-clause-room : goal.stand_before_join-requires-clause-room

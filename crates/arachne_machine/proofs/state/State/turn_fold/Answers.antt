@@ -1,8 +1,6 @@
-use Rattle.arachne_machine.specs.Steps.{top}
-use Rattle.arachne_machine.specs.Runs.{seen_in}
+use Rattle.arachne_machine.specs.{Steps.top, Runs.seen_in}
 use Rattle.arachne_machine.proofs.Going.{folds_leave, folds_top, leaves_on, leaves_same, leaves_seen, start_same, top_same}
-use Rattle.arachne_machine.proofs.Lasting.{one_step_no_stop}
-use Rattle.arachne_machine.proofs.Turning.{fold_of_same, reaches_on}
+use Rattle.arachne_machine.proofs.{Lasting.one_step_no_stop, Turning.{fold_of_same, reaches_on}}
 use Rattle.arachne_machine.proofs.state.State.turn_fold.Goals as goal
 
 pub returns-clause-reaches : goal.returns-clause-reaches

@@ -1,9 +1,6 @@
-use Rattle.std.proofs.Common.{rules, ◌≡◌, ◌∷◌, ◌++◌, [], ap, sym, ◌∙◌}
-use Rattle.std.specs.Box.{with_value}
-use Rattle.std.specs.Global.{Box}
+use Rattle.std.{proofs.Common.{rules, ◌≡◌, ◌∷◌, ◌++◌, [], ap, sym, ◌∙◌}, specs.{Box.with_value, Global.Box}}
 use Rattle.arachne_machine.specs.declared.line.Ran.TheVariants as ways
 use Rattle.arachne_machine.specs.declared.state.State.{State}
-use Rattle.arachne_machine.proofs.Begun.{forks_no_join}
 use Rattle.arachne_machine.proofs.state.State.wait_with.Goals as goal
 
 pub returns : goal.returns
@@ -14,5 +11,5 @@ returns c =
     record {
       of_child = c.requires.forked;
       at_fork = λ forks. (box, ap here c.deref_mut.ensures.value, c.push_reserved.ensures.items ∙ ap (λ l. l ++ box ∷ []) appended, c.forked.ensures);
-      at_join = λ joins. absurd (forks_no_join (sym c.requires.forks ∙ joins));
+      at_join = λ joins. cc (sym c.requires.forks ∙ joins);
     }

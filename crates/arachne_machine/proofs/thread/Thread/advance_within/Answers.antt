@@ -1,7 +1,5 @@
 use Rattle.std.proofs.Common.{◌≡◌, ap, sym, ◌∙◌, subst}
-use Rattle.arachne_machine.specs.Advance.{PlacesNone, pause_seen}
-use Rattle.arachne_machine.specs.Nested.{IsAlone, pending_in}
-use Rattle.arachne_machine.specs.Tallying.{IsAdvance}
+use Rattle.arachne_machine.specs.{Advance.{PlacesNone, pause_seen}, Nested.{IsAlone, pending_in}, Tallying.IsAdvance}
 use Rattle.arachne_machine.proofs.thread.Thread.advance_within.Goals as goal
 
 pub returns-clause-ok : goal.returns-clause-ok

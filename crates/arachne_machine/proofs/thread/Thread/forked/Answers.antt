@@ -1,12 +1,7 @@
 -- A fork is answered. The thread goes on past it, and all else that callers see is unchanged.
 use Rattle.std.proofs.Common.{◌≡◌, ap, ◌∙◌, subst}
-use Rattle.arachne_machine.specs.Kept.{nested}
-use Rattle.arachne_machine.specs.Nested.{pending_in}
-use Rattle.arachne_machine.specs.Runs.{after_fork}
-use Rattle.arachne_machine.specs.Steps.{Turns, top}
-use Rattle.arachne_machine.specs.Ending.{locks_of}
-use Rattle.arachne_machine.proofs.Answering.{IsPast, SeenAnswered, fork_past}
-use Rattle.arachne_machine.proofs.thread.Thread.forked.Goals.{After-forked}
+use Rattle.arachne_machine.specs.{Kept.nested, Nested.pending_in, Runs.after_fork, Steps.{Turns, top}, Ending.locks_of}
+use Rattle.arachne_machine.proofs.{Answering.{IsPast, SeenAnswered, fork_past}, thread.Thread.forked.Goals.After-forked}
 use Rattle.arachne_machine.proofs.thread.Thread.forked.Goals as goal
 
 past : (c : goal.After-forked) → IsPast c.self.inside.state.value c.forked.new.self c.self.inside.placed.items × (locks_of (top c.forked.new.self) ≡ locks_of (top c.self.inside.state.value))

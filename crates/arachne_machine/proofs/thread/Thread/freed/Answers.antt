@@ -1,12 +1,9 @@
 -- The release of a lock is answered. The thread goes on past it, the lock is the newest that it held, and all else that
 -- callers see is unchanged.
 use Rattle.std.proofs.Common.{◌≡◌, ◌∷◌, ap, sym, ◌∙◌, subst}
-use Rattle.arachne_machine.specs.Kept.{nested}
-use Rattle.arachne_machine.specs.Steps.{Turns, pending_of, top}
-use Rattle.arachne_machine.specs.Ending.{locks_of}
+use Rattle.arachne_machine.specs.{Kept.nested, Steps.{Turns, pending_of, top}, Ending.locks_of}
 use Rattle.arachne_machine.specs.declared.frame.Control.TheVariants.{Give}
-use Rattle.arachne_machine.proofs.Answering.{IsPast, SeenAnswered, free_past}
-use Rattle.arachne_machine.proofs.thread.Thread.freed.Goals.{After-freed}
+use Rattle.arachne_machine.proofs.{Answering.{IsPast, SeenAnswered, free_past}, thread.Thread.freed.Goals.After-freed}
 use Rattle.arachne_machine.proofs.thread.Thread.freed.Goals as goal
 
 past : (c : goal.After-freed) → IsPast c.self.inside.state.value c.freed.new.self c.self.inside.placed.items × (locks_of (top c.self.inside.state.value) ≡ c.freed.ensures.0 ∷ locks_of (top c.freed.new.self))

@@ -1,18 +1,12 @@
 -- A request for a lock is answered. The thread has held the lock once more, the body begins, and all else that callers
 -- see is unchanged.
 use Rattle.std.proofs.Common.{ap, sym, ◌∙◌, subst}
-use Rattle.arachne_program.specs.Program.{source_of}
-use Rattle.arachne_program.specs.Effects.{held}
+use Rattle.arachne_program.specs.{Program.source_of, Effects.held}
 use Rattle.arachne_machine.specs.declared.pause.Pending.TheVariants as pause
-use Rattle.arachne_machine.specs.Kept.{nested}
-use Rattle.arachne_machine.specs.Nested.{Nested, SameWhole, pending_in, work_in}
-use Rattle.arachne_machine.specs.Runs.{CountsHold}
-use Rattle.arachne_machine.specs.Steps.{Counts, HasLine, pending_of, suspended, top}
-use Rattle.arachne_machine.specs.Suspended.{IsAnswered, IsAsk, SameThread, raised}
-use Rattle.arachne_machine.proofs.Tabulated.{raised_is}
-use Rattle.arachne_machine.proofs.Going.{line_in}
-use Rattle.arachne_machine.proofs.Counting.{Counted, hold_past}
-use Rattle.arachne_machine.proofs.thread.Thread.granted.Goals.{After-granted}
+use Rattle.arachne_machine.specs.{Kept.nested, Nested.{Nested, SameWhole, pending_in, work_in}, Runs.CountsHold}
+use Rattle.arachne_machine.{specs.Steps.{Counts, HasLine, pending_of, suspended, top}, proofs.Tabulated.raised_is}
+use Rattle.arachne_machine.{specs.Suspended.{IsAnswered, IsAsk, SameThread, raised}, proofs.Going.line_in}
+use Rattle.arachne_machine.proofs.{Counting.{Counted, hold_past}, thread.Thread.granted.Goals.After-granted}
 use Rattle.arachne_machine.proofs.thread.Thread.granted.Goals as goal
 
 pub granted-requires-clause-asks : goal.granted-requires-clause-asks

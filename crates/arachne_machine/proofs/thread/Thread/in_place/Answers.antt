@@ -1,16 +1,11 @@
 -- A child is placed. If it was taken, callers see it placed at the fork or begun at the join (`placed`). If it was
 -- refused, child and thread are unchanged (`came_back`).
 use Rattle.std.proofs.Common.{◌≡◌, ◌+◌, Some, ap, sym, ◌∙◌, subst}
-use Rattle.arachne_machine.specs.declared.state.State.{State}
-use Rattle.arachne_machine.specs.Kept.{IsReturned, IsTakenBack, nested}
 use Rattle.arachne_machine.specs.Nested.{IsPlacing, MayBePlaced, PlacesAtFork, SameWhole, begun_in, pending_in, whole, work_in}
-use Rattle.arachne_machine.specs.Runs.{FitsInto}
-use Rattle.arachne_machine.specs.Steps.{pending_of, suspended, top}
-use Rattle.arachne_machine.specs.Suspended.{awaited}
-use Rattle.arachne_machine.proofs.Begun.{PlacedHere, Returned, placed_seen, returned, source_seen}
-use Rattle.arachne_machine.proofs.Handed.{fits_into}
-use Rattle.arachne_machine.proofs.Nesting.{name_seen}
-use Rattle.arachne_machine.proofs.thread.Thread.in_place.Goals.{After-deref_mut, After-place, In-Ok}
+use Rattle.arachne_machine.proofs.{thread.Thread.in_place.Goals.{After-deref_mut, After-place, In-Ok}, Handed.fits_into}
+use Rattle.arachne_machine.proofs.{Begun.{PlacedHere, Returned, placed_seen, returned, source_seen}, Nesting.name_seen}
+use Rattle.arachne_machine.specs.{Kept.{IsReturned, IsTakenBack, nested}, Steps.{pending_of, suspended, top}}
+use Rattle.arachne_machine.specs.{declared.state.State.State, Suspended.awaited, Runs.FitsInto}
 use Rattle.arachne_machine.proofs.thread.Thread.in_place.Goals as goal
 
 may : (c : goal.After-deref_mut) → MayBePlaced (nested c.self.inside.state.value c.self.inside.placed.items) (nested c.child.inside.state.value c.child.inside.placed.items)

@@ -1,19 +1,13 @@
 -- An outcome is joined. If the call succeeds, the thread goes on with it (`went_on`). After an error the state is
 -- unchanged (`stayed`).
-use Rattle.std.proofs.Common.{◌≡◌, length, List, sym, ap, ◌∙◌, subst}
-use Rattle.std.specs.Prelude.{OnErr, OnOk}
+use Rattle.std.proofs.Common.{◌≡◌, length, List, sym, ap, ◌∙◌, subst, OnErr, OnOk}
 use Rattle.arachne_program.specs.Program.{source_of}
-use Rattle.arachne_machine.specs.Outcome.{finished}
-use Rattle.arachne_machine.specs.Kept.{nested}
-use Rattle.arachne_machine.specs.Nested.{Nested, SameWhole, pending_in, whole, work_in}
-use Rattle.arachne_machine.specs.Runs.{JoinsOutcome}
-use Rattle.arachne_machine.specs.Steps.{HasLine, IsSame, pending_of, suspended, top}
+use Rattle.arachne_machine.proofs.{Going.line_in, Lasting.{in_both, ok_map, same_kept, same_seen, err_then}}
+use Rattle.arachne_machine.proofs.{Nesting.{program_seen, same_whole}, Rejoining.{Rejoined, as_many_sums, rejoined}}
+use Rattle.arachne_machine.{proofs.thread.Thread.join.Goals.{After-deref_mut, After-join}, specs.Kept.nested}
+use Rattle.arachne_machine.specs.{Nested.{Nested, SameWhole, pending_in, whole, work_in}, Outcome.finished}
+use Rattle.arachne_machine.specs.{Runs.JoinsOutcome, Steps.{HasLine, IsSame, pending_of, suspended, top}}
 use Rattle.arachne_machine.specs.Suspended.{Suspended, Joined, added, awaited}
-use Rattle.arachne_machine.proofs.Nesting.{program_seen, same_whole}
-use Rattle.arachne_machine.proofs.Going.{line_in}
-use Rattle.arachne_machine.proofs.Lasting.{in_both, ok_map, same_kept, same_seen, err_then}
-use Rattle.arachne_machine.proofs.Rejoining.{Rejoined, as_many_sums, rejoined}
-use Rattle.arachne_machine.proofs.thread.Thread.join.Goals.{After-deref_mut, After-join}
 use Rattle.arachne_machine.proofs.thread.Thread.join.Goals as goal
 
 same_source : (c : goal.After-deref_mut) → source_of c.args.program.now.value ≡ source_of c.self.inside.state.value.program.now

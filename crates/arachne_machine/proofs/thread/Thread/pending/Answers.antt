@@ -1,12 +1,7 @@
 use Rattle.std.proofs.Common.{ap, sym, ◌∙◌, subst}
-use Rattle.arachne_program.specs.Program.{source_of}
-use Rattle.arachne_program.specs.Checked.{IsChecked}
-use Rattle.arachne_machine.specs.Faultless.{PausesWithin}
-use Rattle.arachne_machine.specs.Nested.{whole}
-use Rattle.arachne_machine.specs.Steps.{top}
-use Rattle.arachne_machine.specs.Suspended.{IsNext}
-use Rattle.arachne_machine.proofs.Advancing.{trace_next}
-use Rattle.arachne_machine.proofs.Nesting.{pauses_seen, program_seen}
+use Rattle.arachne_program.specs.{Program.source_of, Checked.IsChecked}
+use Rattle.arachne_machine.specs.{Faultless.PausesWithin, Nested.whole, Steps.top, Suspended.IsNext}
+use Rattle.arachne_machine.proofs.{Advancing.trace_next, Nesting.{pauses_seen, program_seen}}
 use Rattle.arachne_machine.proofs.thread.Thread.pending.Goals as goal
 
 pub returns-clause-next : goal.returns-clause-next

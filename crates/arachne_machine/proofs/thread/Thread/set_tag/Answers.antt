@@ -1,9 +1,6 @@
 use Rattle.std.proofs.Common.{ap, sym, ◌∙◌, subst}
-use Rattle.arachne_machine.specs.declared.line.Label.{Label}
-use Rattle.arachne_machine.specs.declared.state.State.{State}
-use Rattle.arachne_machine.specs.Kept.{IsKept}
-use Rattle.arachne_machine.proofs.Handed.{kept_sound, none_parents}
-use Rattle.arachne_machine.proofs.Begun.{label_given}
+use Rattle.arachne_machine.specs.{declared.{line.Label.Label, state.State.State}, Kept.IsKept}
+use Rattle.arachne_machine.proofs.{Handed.{kept_sound, none_parents}, Begun.label_given}
 use Rattle.arachne_machine.proofs.thread.Thread.set_tag.Goals as goal
 
 pub invariant_of-self : goal.invariant_of-self

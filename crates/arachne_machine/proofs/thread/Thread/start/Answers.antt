@@ -1,7 +1,6 @@
 use Rattle.std.proofs.Common.{refl, ◌∙◌}
 use Rattle.arachne_program.specs.Program.{source_of}
-use Rattle.arachne_machine.proofs.Faultlessness.{checked_root}
-use Rattle.arachne_machine.proofs.Going.{root_sound}
+use Rattle.arachne_machine.proofs.{Faultlessness.checked_root, Going.root_sound}
 use Rattle.arachne_machine.proofs.thread.Thread.start.Goals as goal
 
 pub thread_of-requires : goal.thread_of-requires

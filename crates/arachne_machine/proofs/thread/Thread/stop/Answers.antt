@@ -1,19 +1,9 @@
-use Rattle.std.proofs.Common.{◌≡◌, true, ap, sym, ◌∙◌, subst, ℕ, List, Option, None, Some}
-use Rattle.std.specs.Prelude.{IfSome}
-use Rattle.std.specs.Global.{Box}
-use Rattle.arachne_program.specs.declared.program.Class.{Class}
-use Rattle.arachne_program.specs.Program.{source_of}
-use Rattle.arachne_program.specs.Checked.{IsChecked}
-use Rattle.arachne_machine.specs.declared.pause.Pending.{Pending}
-use Rattle.arachne_machine.specs.declared.state.State.{State}
-use Rattle.arachne_machine.specs.Steps.{pending_of}
-use Rattle.arachne_machine.specs.Kept.{AdvancesWith, IsKept, IsSoundChild, Went, nested}
-use Rattle.arachne_machine.specs.Advance.{PlacesNone, pause_seen}
-use Rattle.arachne_machine.specs.Tallying.{IsAdvance, IsRefusedAdvance}
-use Rattle.arachne_machine.specs.Nested.{IsAlone, pending_in, whole}
-use Rattle.arachne_machine.proofs.Nesting.{program_seen}
-use Rattle.arachne_machine.proofs.Lasting.{on_err}
-use Rattle.arachne_machine.proofs.Showing.{shown, shown_refusal}
+use Rattle.std.{proofs.Common.{◌≡◌, true, ap, sym, ◌∙◌, subst, ℕ, List, Option, None, Some, IfSome}, specs.Global.Box}
+use Rattle.arachne_program.specs.{declared.program.Class.Class, Program.source_of, Checked.IsChecked}
+use Rattle.arachne_machine.specs.{Kept.{AdvancesWith, IsKept, IsSoundChild, Went, nested}, Steps.pending_of}
+use Rattle.arachne_machine.specs.{Tallying.{IsAdvance, IsRefusedAdvance}, Nested.{IsAlone, pending_in, whole}}
+use Rattle.arachne_machine.specs.{declared.{pause.Pending.Pending, state.State.State}, Advance.{PlacesNone, pause_seen}}
+use Rattle.arachne_machine.proofs.{Showing.{shown, shown_refusal}, Nesting.program_seen, Lasting.on_err}
 use Rattle.arachne_machine.proofs.thread.Thread.stop.Goals as goal
 
 -- a child that is given away is sound
@@ -97,14 +87,7 @@ returns-in_err-forked-clause-err g c =
     let a = subst (λ s. Went (g.P.Placing.gives_all ≡ true) c.args.left.now c.advance_with.new.left s ps new qs) is c.in_err-forked.ensures.err in
     let s = shown_refusal (g.P.Placing.gives_all ≡ true) c.args.left.now c.advance_with.new.left t new ps qs a c.in_err-forked.ensures.err_left in
     let n = nested new qs in
-    on_err c.from_residual.result _ (subst (λ v. IsRefusedAdvance c.args.left.now c.advance_with.new.left v n) c.self.view_is (record {
-      same = s.same;
-      work = s.work;
-      charged = s.charged;
-      pending = s.pending;
-      rest = s.rest;
-      alone = s.alone;
-    }))
+    on_err c.from_residual.result _ (subst (λ v. IsRefusedAdvance c.args.left.now c.advance_with.new.left v n) c.self.view_is (assumption))
 
 pub returns-in_err-forked-clause-err_everywhere : goal.returns-in_err-forked-clause-err_everywhere
 returns-in_err-forked-clause-err_everywhere g c =

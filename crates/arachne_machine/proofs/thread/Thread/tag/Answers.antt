@@ -1,6 +1,5 @@
 use Rattle.std.proofs.Common.{ap, sym, ◌∙◌}
-use Rattle.arachne_machine.specs.Nested.{whole}
-use Rattle.arachne_machine.proofs.Nesting.{label_seen}
+use Rattle.arachne_machine.{specs.Nested.whole, proofs.Nesting.label_seen}
 use Rattle.arachne_machine.proofs.thread.Thread.tag.Goals as goal
 
 pub returns : goal.returns

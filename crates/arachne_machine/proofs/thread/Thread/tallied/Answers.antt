@@ -1,17 +1,12 @@
 -- A tally is answered. The amount is added to the thread's sums, the body begins, and all else that callers see is
 -- unchanged.
 use Rattle.std.proofs.Common.{ap, sym, ◌∙◌, subst}
-use Rattle.arachne_program.specs.Program.{source_of}
-use Rattle.arachne_program.specs.Effects.{tallied}
+use Rattle.arachne_program.specs.{Program.source_of, Effects.tallied}
 use Rattle.arachne_machine.specs.declared.pause.Pending.TheVariants as pause
-use Rattle.arachne_machine.specs.Kept.{nested}
-use Rattle.arachne_machine.specs.Nested.{Nested, SameWhole, pending_in, work_in}
-use Rattle.arachne_machine.specs.Runs.{CountsTally}
-use Rattle.arachne_machine.specs.Steps.{Counts, pending_of, suspended, top}
+use Rattle.arachne_machine.specs.{Kept.nested, Nested.{Nested, SameWhole, pending_in, work_in}, Runs.CountsTally}
+use Rattle.arachne_machine.{specs.Steps.{Counts, pending_of, suspended, top}, proofs.Tabulated.{kept_is, raised_is}}
 use Rattle.arachne_machine.specs.Suspended.{IsAnswered, IsTally, SameThread, raised}
-use Rattle.arachne_machine.proofs.Tabulated.{kept_is, raised_is}
-use Rattle.arachne_machine.proofs.Counting.{Counted, tally_past}
-use Rattle.arachne_machine.proofs.thread.Thread.tallied.Goals.{After-tallied}
+use Rattle.arachne_machine.proofs.{Counting.{Counted, tally_past}, thread.Thread.tallied.Goals.After-tallied}
 use Rattle.arachne_machine.proofs.thread.Thread.tallied.Goals as goal
 
 pub tallied-requires : goal.tallied-requires

@@ -1,6 +1,5 @@
 use Rattle.std.proofs.Common.{List, ap, ◌∙◌}
-use Rattle.arachne_machine.specs.Lines.{Listed, lines_from}
-use Rattle.arachne_machine.proofs.Listing.{lines_from-first}
+use Rattle.arachne_machine.{specs.Lines.{Listed, lines_from}, proofs.Listing.lines_from-first}
 use Rattle.arachne_machine.proofs.thread_lines.ThreadLines.iter.Goals as goal
 
 pub returns : goal.returns

@@ -1,7 +1,5 @@
 use Rattle.std.proofs.Common.{◌≡◌, ◌≤◌, true, ap, arith, sym, ◌∙◌}
-use Rattle.arachne_policy.specs.declared.samples.Advice.TheVariants.{Remove}
-use Rattle.arachne_policy.specs.Sample.{is_good}
-use Rattle.arachne_policy.specs.Advice.{advice_by}
+use Rattle.arachne_policy.specs.{declared.samples.Advice.TheVariants.Remove, Sample.is_good, Advice.advice_by}
 use Rattle.arachne_policy.specs.State.{most_cores, threshold_at}
 use Rattle.arachne_policy.proofs.Records.{keeps-added}
 use Rattle.arachne_policy.proofs.estimator.Estimator.estimate.Goals as goal

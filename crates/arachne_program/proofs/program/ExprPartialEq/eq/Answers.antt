@@ -1,7 +1,5 @@
 use Rattle.std.proofs.lemmas.Bool.Decides.{same_from_decides}
-use Rattle.arachne_program.specs.Program.{tree_of}
-use Rattle.arachne_program.specs.Same.{same_tree}
-use Rattle.arachne_program.specs.SameDecides.{same_tree-Decides}
+use Rattle.arachne_program.specs.{Program.tree_of, Same.same_tree, SameDecides.same_tree-Decides}
 use Rattle.arachne_program.proofs.program.ExprPartialEq.eq.Goals as goal
 
 pub returns-clause-eq : goal.returns-clause-eq

@@ -1,7 +1,5 @@
 use Rattle.std.proofs.lemmas.Bool.Decides.{same_from_decides}
-use Rattle.arachne_program.specs.Program.{source_of}
-use Rattle.arachne_program.specs.Same.{same_source}
-use Rattle.arachne_program.specs.SameDecides.{same_source-Decides}
+use Rattle.arachne_program.specs.{Program.source_of, Same.same_source, SameDecides.same_source-Decides}
 use Rattle.arachne_program.proofs.program.ProgramPartialEq.eq.Goals as goal
 
 pub returns-clause-eq : goal.returns-clause-eq

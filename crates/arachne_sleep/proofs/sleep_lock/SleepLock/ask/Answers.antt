@@ -1,10 +1,8 @@
 -- The seat has the state, and asks on it. How the history is extended (`goes`) is the condition of a call on a state
 -- that a seat has.
 use Rattle.std.proofs.Common.{ap, ◌∙◌, refl}
-use Rattle.arachne_sleep.specs.Calls.{pass_asked}
-use Rattle.arachne_sleep.proofs.Visiting.{ask-goes-on, returnable, idle-again, called, seat-kept}
-use Rattle.arachne_sleep.specs.Steps.{GoesOn}
-use Rattle.arachne_sleep.proofs.sleep_lock.SleepLock.ask.Goals.{After-ask_guarded-answer}
+use Rattle.arachne_sleep.{proofs.Visiting.{ask-goes-on, returnable, idle-again, called, seat-kept}, specs.Steps.GoesOn}
+use Rattle.arachne_sleep.{proofs.sleep_lock.SleepLock.ask.Goals.After-ask_guarded-answer, specs.Calls.pass_asked}
 use Rattle.arachne_sleep.proofs.sleep_lock.SleepLock.ask.Goals as goal
 
 goes : (c : goal.After-ask_guarded-answer) → GoesOn c.ask_guarded-answer.ensures.asked.0.state c.ask_guarded-answer.ensures.asked.1.state (pass_asked c.ask_guarded-answer.result)

@@ -2,8 +2,7 @@
 -- that a seat has.
 use Rattle.std.proofs.Common.{ap, ◌∙◌, refl}
 use Rattle.arachne_sleep.proofs.Visiting.{check-goes-on, returnable, idle-again, called, seat-kept}
-use Rattle.arachne_sleep.specs.Steps.{GoesOn}
-use Rattle.arachne_sleep.proofs.sleep_lock.SleepLock.check.Goals.{After-check_guarded-answer}
+use Rattle.arachne_sleep.{specs.Steps.GoesOn, proofs.sleep_lock.SleepLock.check.Goals.After-check_guarded-answer}
 use Rattle.arachne_sleep.proofs.sleep_lock.SleepLock.check.Goals as goal
 
 goes : (c : goal.After-check_guarded-answer) → GoesOn c.check_guarded-answer.ensures.checked.0.state c.check_guarded-answer.ensures.checked.1.state c.check_guarded-answer.result

@@ -1,8 +1,7 @@
 -- The seat has the state, and frees on it. How the history is extended (`goes`) is the condition of a call on a state
 -- that a seat has.
 use Rattle.std.proofs.Common.{ap, ◌∙◌, refl, None}
-use Rattle.arachne_sleep.proofs.Visiting.{free-goes-on, returnable, idle-again, called, seat-kept}
-use Rattle.arachne_sleep.specs.Steps.{GoesOn}
+use Rattle.arachne_sleep.{proofs.Visiting.{free-goes-on, returnable, idle-again, called, seat-kept}, specs.Steps.GoesOn}
 use Rattle.arachne_sleep.proofs.sleep_lock.SleepLock.free.Goals.{After-free_guarded-answer}
 use Rattle.arachne_sleep.proofs.sleep_lock.SleepLock.free.Goals as goal
 

@@ -1,8 +1,6 @@
 use Rattle.std.proofs.Common.{ap, sym, subst, ◌∙◌, arith}
 use Rattle.atomic_table.specs.Table.{Allows}
-use Rattle.arachne_sleep.specs.Words.{guard_word}
-use Rattle.arachne_sleep.specs.Rule.{IsKept}
-use Rattle.arachne_sleep.specs.Steps.{Mine, GivesBack}
+use Rattle.arachne_sleep.specs.{Words.guard_word, Rule.IsKept, Steps.{Mine, GivesBack}}
 use Rattle.arachne_sleep.proofs.Keeps.{gives-allowed}
 use Rattle.arachne_sleep.proofs.sleep_lock.SleepLock.give_back.Goals as goal
 

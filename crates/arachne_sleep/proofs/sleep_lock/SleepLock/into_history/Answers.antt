@@ -1,9 +1,7 @@
 use Rattle.std.proofs.Common.{◌≡◌, ◌∙◌, ap, subst}
 use mathlib.Core.Option.{some}
-use Rattle.arachne_weights.specs.Tokens.{held}
-use Rattle.arachne_weights.specs.Weight.{whole}
-use Rattle.arachne_sleep.specs.Rule.{IsKept, idle_known}
-use Rattle.arachne_sleep.proofs.Keeps.{settled}
+use Rattle.arachne_weights.specs.{Tokens.held, Weight.whole}
+use Rattle.arachne_sleep.{specs.Rule.{IsKept, idle_known}, proofs.Keeps.settled}
 use Rattle.arachne_sleep.proofs.sleep_lock.SleepLock.into_history.Goals as goal
 
 pub returns-clause-told : goal.returns-clause-told

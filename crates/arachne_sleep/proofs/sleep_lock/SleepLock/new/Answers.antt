@@ -1,8 +1,6 @@
 use Rattle.std.proofs.Common.{List, sym, subst}
 use Rattle.atomic_table.specs.Table.{opening}
-use Rattle.arachne_sleep.specs.Views.{Guarded}
-use Rattle.arachne_sleep.specs.Words.{first_words}
-use Rattle.arachne_sleep.specs.Rule.{IsKept, first_view}
+use Rattle.arachne_sleep.specs.{Views.Guarded, Words.first_words, Rule.{IsKept, first_view}}
 use Rattle.arachne_sleep.proofs.Keeps.{opens}
 use Rattle.arachne_sleep.proofs.sleep_lock.SleepLock.new.Goals as goal
 

@@ -1,9 +1,7 @@
 use Rattle.std.proofs.Common.{ap, sym, subst, ◌∙◌, arith, eqb}
 use prog.Atomic.{either}
 use Rattle.atomic_table.specs.Table.{Allows}
-use Rattle.arachne_sleep.specs.Words.{guard_word}
-use Rattle.arachne_sleep.specs.Rule.{IsKept}
-use Rattle.arachne_sleep.specs.Steps.{Mine, Takes}
+use Rattle.arachne_sleep.specs.{Words.guard_word, Rule.IsKept, Steps.{Mine, Takes}}
 use Rattle.arachne_sleep.proofs.Keeps.{takes-allowed}
 use Rattle.arachne_sleep.proofs.sleep_lock.SleepLock.take.Goals as goal
 

@@ -1,5 +1,4 @@
-use Rattle.std.proofs.Common.{ap, arith}
-use Rattle.std.specs.declared.alloc.AllocError.{AllocError}
+use Rattle.std.{proofs.Common.{ap, arith}, specs.declared.alloc.AllocError.AllocError}
 use Rattle.arachne_words.proofs.OutAs.{after-claim-alone}
 use Rattle.arachne_words.proofs.contexts.WordContextsContexts.claim_alone.Goals as goal
 

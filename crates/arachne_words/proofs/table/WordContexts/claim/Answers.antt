@@ -3,10 +3,8 @@
 -- `IsLowestFree`.
 use Rattle.std.proofs.Common.{◌<◌, ℕ, ◌∙◌, ap, sym, subst, refl, arith, false}
 use Rattle.arachne_core.specs.Occupancy.{occupancy_word}
-use Rattle.arachne_rule.specs.Layout.{occ_index}
-use Rattle.arachne_rule.specs.Views.{carried_at}
-use Rattle.arachne_words.specs.Seats.{CallView, claimed_by}
-use Rattle.arachne_words.specs.Calls.{looked, lost_claim, won_claim}
+use Rattle.arachne_rule.specs.{Layout.occ_index, Views.carried_at}
+use Rattle.arachne_words.specs.{Seats.{CallView, claimed_by}, Calls.{looked, lost_claim, won_claim}}
 use Rattle.arachne_words.proofs.Out.{out-bound, keeps-more}
 use Rattle.arachne_words.proofs.table.WordContexts.claim.Goals as goal
 

@@ -1,9 +1,7 @@
 use Rattle.std.proofs.Common.{ℕ, ◌<◌, ◌∙◌, ap, sym, subst, refl, arith, true}
 use Rattle.arachne_rule.specs.declared.view.Kind.TheVariants as kind
-use Rattle.arachne_rule.specs.Layout.{occ_index}
-use Rattle.arachne_rule.specs.Views.{noted, with_context, carried_at}
-use Rattle.arachne_words.specs.Seats.{CallView, claimed_by}
-use Rattle.arachne_words.specs.Calls.{sum_of}
+use Rattle.arachne_rule.specs.{Layout.occ_index, Views.{noted, with_context, carried_at}}
+use Rattle.arachne_words.specs.{Seats.{CallView, claimed_by}, Calls.sum_of}
 use Rattle.arachne_words.proofs.Out.{out-bound, keeps-more}
 use Rattle.arachne_words.proofs.table.WordContexts.claim_alone.Goals as goal
 

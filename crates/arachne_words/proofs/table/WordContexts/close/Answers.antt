@@ -2,23 +2,16 @@
 -- them so except for one slot (`stays`), whose value is appended to the list (`so-on`); at the end each was looked at
 -- (`all-seen`). Another order of the list, or more values in a slot, changes `left_from` and `Leaving`.
 use Rattle.std.proofs.Common.{◌≡◌, ℕ, suc, ◌+◌, ◌<◌, ◌≤◌, ◌∙◌, ◌++◌, ap, sym, subst, arith, rules, Option, List, [], ◌∷◌, true, false, get_or, length}
-use mathlib.Core.Option as opt
 use Rattle.std.specs.Slots.{IsFull, slots_items, slots_filled, slots_len}
+use mathlib.Core.Option as opt
 use Rattle.atomic_table.specs.Table.{Final, Seen}
-use Rattle.arachne_core.specs.declared.layout.TheConstants.{CORE_BITS}
-use Rattle.arachne_core.specs.declared.thread_id.ThreadId.{ThreadId}
-use Rattle.arachne_core.specs.Marked.{marked_of}
-use Rattle.arachne_weights.specs.declared.token.Token.{Token}
-use Rattle.arachne_weights.specs.Tokens.{held}
-use Rattle.arachne_weights.specs.Weight.{whole}
-use Rattle.arachne_rule.specs.declared.view.Known.{Known}
-use Rattle.arachne_rule.specs.declared.view.Shape.{Shape}
-use Rattle.arachne_rule.specs.Layout.{contexts_in}
-use Rattle.arachne_rule.specs.Table.{Holds}
+use Rattle.arachne_core.specs.{declared.{layout.TheConstants.CORE_BITS, thread_id.ThreadId.ThreadId}, Marked.marked_of}
+use Rattle.arachne_weights.specs.{declared.token.Token.Token, Tokens.held, Weight.whole}
+use Rattle.arachne_rule.specs.{declared.view.{Known.Known, Shape.Shape}, Layout.contexts_in, Table.Holds}
 use Rattle.arachne_rule.specs.Ending.{left_from}
 use Rattle.arachne_words.proofs.Leaving.{EndsWith, SoFar, so-far-none, so-far-some, all-listed, all-by-context, still-filled, none-taken, word-there}
-use Rattle.arachne_words.proofs.table.WordContexts.close.Given as given
 use Rattle.arachne_words.proofs.table.WordContexts.close.Goals.{After-take, After-free}
+use Rattle.arachne_words.proofs.table.WordContexts.close.Given as given
 use Rattle.arachne_words.proofs.table.WordContexts.close.Goals as goal
 
 pub loop-context-init : goal.loop-context-init

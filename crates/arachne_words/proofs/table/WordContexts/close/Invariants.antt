@@ -1,5 +1,4 @@
-use Rattle.std.proofs.Common.{◌≡◌, ℕ, ◌<◌, ◌≤◌, true, false, get_or, vec_len}
-use Rattle.std.specs.Vec.{vec_capacity}
+use Rattle.std.{proofs.Common.{◌≡◌, ℕ, ◌<◌, ◌≤◌, true, false, get_or, vec_len}, specs.Vec.vec_capacity}
 use Rattle.std.specs.Slots.{IsFull, slots_items, slots_filled, slots_len}
 use Rattle.arachne_words.proofs.Leaving.{EndsWith, SoFar}
 use Rattle.arachne_words.proofs.table.WordContexts.close.Given as goal

@@ -2,17 +2,14 @@
 -- (`retired-as`), and `release` gives back the claim that it left; both are one equation of the seat (`ended`). Another
 -- order of the two changes that, and `HasFinished`.
 use Rattle.std.proofs.Common.{◌≡◌, ℕ, ◌+◌, ◌-◌, ◌∙◌, ap, sym, subst, arith}
-use Rattle.arachne_core.specs.declared.layout.TheConstants.{CORE_BITS}
-use Rattle.arachne_core.specs.Marked.{mark_word}
+use Rattle.arachne_core.specs.{declared.layout.TheConstants.CORE_BITS, Marked.mark_word}
 use Rattle.arachne_rule.specs.declared.view.Kind.TheVariants as kind
 use Rattle.arachne_rule.specs.Changes.{retired, spent_known, claimed_again, marked_free, release_sum}
-use Rattle.arachne_rule.specs.Layout.{occ_index}
-use Rattle.arachne_rule.specs.Views.{noted, without}
-use Rattle.arachne_words.specs.Seats.{HoldView, HasThread, held_by}
-use Rattle.arachne_words.specs.Calls.{HasFinished}
+use Rattle.arachne_rule.specs.{Layout.occ_index, Views.{noted, without}}
+use Rattle.arachne_words.specs.{Seats.{HoldView, HasThread, held_by}, Calls.HasFinished}
 use Rattle.arachne_words.proofs.FinishSteps.{carries, claimed, after}
-use Rattle.arachne_words.proofs.table.WordContexts.end_thread.Given as given
 use Rattle.arachne_words.proofs.table.WordContexts.end_thread.Goals.{After-retire, After-release}
+use Rattle.arachne_words.proofs.table.WordContexts.end_thread.Given as given
 use Rattle.arachne_words.proofs.table.WordContexts.end_thread.Goals as goal
 
 -- the hold, by its fields

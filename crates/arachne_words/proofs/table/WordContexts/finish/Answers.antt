@@ -2,8 +2,7 @@
 -- model, so `end_thread` says what the seat carries then (`keeps-less`). The steps are in `end_thread`.
 use Rattle.std.proofs.Common.{ap, sym, subst}
 use Rattle.arachne_rule.specs.declared.view.Known.{Known}
-use Rattle.arachne_words.specs.Seats.{HasThread, held_by}
-use Rattle.arachne_words.specs.Calls.{HasFinished}
+use Rattle.arachne_words.specs.{Seats.{HasThread, held_by}, Calls.HasFinished}
 use Rattle.arachne_words.proofs.Out.{keeps-less}
 use Rattle.arachne_words.proofs.table.WordContexts.finish.Goals as goal
 

@@ -1,8 +1,6 @@
 use Rattle.std.proofs.Common.{ap, sym, subst, refl}
-use Rattle.arachne_rule.specs.Plays.{Carries}
-use Rattle.arachne_rule.specs.declared.view.Known.{Known}
-use Rattle.arachne_words.specs.Seats.{ClaimView, claimed_by}
-use Rattle.arachne_words.proofs.Out.{keeps-less}
+use Rattle.arachne_rule.specs.{Plays.Carries, declared.view.Known.Known}
+use Rattle.arachne_words.{specs.Seats.{ClaimView, claimed_by}, proofs.Out.keeps-less}
 use Rattle.arachne_words.proofs.table.WordContexts.give_back.Goals as goal
 
 pub invariant_of-seat : goal.invariant_of-seat

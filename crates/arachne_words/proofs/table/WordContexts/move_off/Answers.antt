@@ -3,18 +3,13 @@
 -- (`second`, `third`), and `after` of `MoveCall` makes one equation of the four. Another order of the steps is another
 -- chain there.
 use Rattle.std.proofs.Common.{◌≡◌, ℕ, ◌∙◌, ap, refl}
-use Rattle.arachne_core.specs.declared.layout.TheConstants.{CORE_BITS}
-use Rattle.arachne_core.specs.Marked.{mark_word}
-use Rattle.arachne_rule.specs.declared.view.Carried.{Carried}
+use Rattle.arachne_core.specs.{declared.layout.TheConstants.CORE_BITS, Marked.mark_word}
+use Rattle.arachne_rule.specs.{declared.view.Carried.Carried, Layout.name_index, Views.{noted, with_context}}
 use Rattle.arachne_rule.specs.declared.view.Kind.TheVariants as kind
-use Rattle.arachne_rule.specs.Layout.{name_index}
-use Rattle.arachne_rule.specs.Views.{noted, with_context}
-use Rattle.arachne_words.specs.Seats.{claimed_by}
-use Rattle.arachne_words.specs.Moves.{free_at, shared_claim}
-use Rattle.arachne_words.specs.Steps.{IsClaimed}
+use Rattle.arachne_words.specs.{Moves.free_at, Steps.IsClaimed}
 use Rattle.arachne_words.proofs.MoveCall.{left, replaced, named, left-claimed-1, replaced-claimed, named-carried, source-claim, after}
-use Rattle.arachne_words.proofs.table.WordContexts.move_off.Given as given
 use Rattle.arachne_words.proofs.table.WordContexts.move_off.Goals.{After-name_target, After-replace, After-name_source}
+use Rattle.arachne_words.proofs.table.WordContexts.move_off.Given as given
 use Rattle.arachne_words.proofs.table.WordContexts.move_off.Goals as goal
 
 left-claimed : (g : given.Over) (c : goal.After-name_target g)

@@ -1,9 +1,7 @@
 use Rattle.std.proofs.Common.{ℕ, ◌∙◌, ap, inr}
-use Rattle.arachne_core.specs.declared.layout.TheConstants.{CORE_BITS}
-use Rattle.arachne_core.specs.Marked.{mark_word}
+use Rattle.arachne_core.specs.{declared.layout.TheConstants.CORE_BITS, Marked.mark_word}
 use Rattle.arachne_rule.specs.Layout.{name_index}
-use Rattle.arachne_words.specs.Seats.{CallView}
-use Rattle.arachne_words.specs.Calls.{looked, learned}
+use Rattle.arachne_words.specs.{Seats.CallView, Calls.{looked, learned}}
 use Rattle.arachne_words.proofs.table.WordContexts.move_one.Goals as goal
 
 pub returns-clause-answer : goal.returns-clause-answer

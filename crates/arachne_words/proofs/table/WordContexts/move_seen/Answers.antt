@@ -2,20 +2,13 @@
 -- the claim's equation is about the seat as it was before the look (`won`), so `move_to` finds the claim, and its
 -- result is a step of `SeenAnswer`. Another way to choose the place changes `HasRoom` and the last result.
 use Rattle.std.proofs.Common.{◌≡◌, ◌<◌, ℕ, [], ◌∙◌, ap, sym, subst, refl, inl}
-use Rattle.arachne_core.specs.declared.place.Place.{Place}
-use Rattle.arachne_rule.specs.declared.view.Carried.{Carried}
-use Rattle.arachne_rule.specs.Layout.{occ_index}
-use Rattle.arachne_rule.specs.Plays.{Carries}
-use Rattle.arachne_rule.specs.Views.{without, carried_at}
-use Rattle.arachne_words.specs.Seats.{CallView, claimed_by}
-use Rattle.arachne_core.specs.Occupancy.{Occupancy, occupancy_word}
-use Rattle.arachne_rule.proofs.Carrying.{with-at}
-use Rattle.arachne_words.specs.Calls.{looked, won_claim, lost_claim, IsLowestFree}
-use Rattle.arachne_words.specs.Moves.{shared_claim}
-use Rattle.arachne_words.proofs.Out.{without-with, without-fresh}
-use Rattle.arachne_words.proofs.MoveCall.{to-carried, seen-answer}
+use Rattle.arachne_core.specs.{declared.place.Place.Place, Occupancy.{Occupancy, occupancy_word}}
+use Rattle.arachne_rule.specs.{declared.view.Carried.Carried, Layout.occ_index, Plays.Carries}
+use Rattle.arachne_rule.{specs.Views.{without, carried_at}, proofs.Carrying.with-at}
+use Rattle.arachne_words.{proofs.table.WordContexts.move_seen.Goals.In_default-try_claim, specs.Moves.shared_claim}
+use Rattle.arachne_words.specs.{Calls.{looked, won_claim, lost_claim, IsLowestFree}, Seats.{CallView, claimed_by}}
+use Rattle.arachne_words.proofs.{MoveCall.{to-carried, seen-answer}, Out.{without-with, without-fresh}}
 use Rattle.arachne_words.proofs.table.WordContexts.move_seen.Given as given
-use Rattle.arachne_words.proofs.table.WordContexts.move_seen.Goals.{In_default-try_claim}
 use Rattle.arachne_words.proofs.table.WordContexts.move_seen.Goals as goal
 
 -- the context of the claim, at the place that was free

@@ -2,26 +2,16 @@
 -- (`found`); then each outcome of the exchange is one equation of the seat (`undone`, `away`, `all-moved`). One step
 -- more or less changes the equation of its outcome, and `ToAnswer`.
 use Rattle.std.proofs.Common.{◌≡◌, ℕ, ◌-◌, ◌<◌, ◌∙◌, ap, sym, subst, refl, arith}
-use Rattle.arachne_core.specs.declared.layout.TheConstants.{CORE_BITS}
-use Rattle.arachne_core.specs.declared.place.Place.{Place}
-use Rattle.arachne_core.specs.Marked.{Marked, mark_word}
-use Rattle.arachne_rule.specs.declared.view.Carried.{Carried}
+use Rattle.arachne_core.specs.{declared.{layout.TheConstants.CORE_BITS, place.Place.Place}, Marked.{Marked, mark_word}}
+use Rattle.arachne_rule.specs.{declared.view.{Carried.Carried, Known.Known}, Layout.{occ_index, name_index}}
+use Rattle.arachne_rule.specs.{Plays.Carries, Views.{noted, with_context, without_context}}
+use Rattle.arachne_rule.{specs.Changes.{index_sum, left_context}, proofs.Carrying.with-at}
 use Rattle.arachne_rule.specs.declared.view.Kind.TheVariants as kind
-use Rattle.arachne_rule.specs.declared.view.Known.{Known}
-use Rattle.arachne_rule.specs.Layout.{occ_index, name_index}
-use Rattle.arachne_rule.specs.Plays.{Carries}
-use Rattle.arachne_rule.specs.Views.{noted, with_context, without_context}
-use Rattle.arachne_words.specs.Seats.{CallView, claimed_by}
-use Rattle.arachne_words.specs.Steps.{IsClaimed}
-use Rattle.arachne_words.specs.Calls.{looked, learned}
-use Rattle.arachne_contexts.specs.declared.answers.Moved.TheVariants as moved
-use Rattle.arachne_rule.specs.Changes.{index_sum, left_context}
-use Rattle.arachne_rule.proofs.Carrying.{with-at}
-use Rattle.arachne_words.specs.Calls.{released}
-use Rattle.arachne_words.specs.Moves.{ToAnswer, free_at, shared_claim, moved_off}
-use Rattle.arachne_words.proofs.Out.{without-with}
-use Rattle.arachne_words.proofs.table.WordContexts.move_to.Given as given
+use Rattle.arachne_words.specs.{Seats.{CallView, claimed_by}, Steps.IsClaimed, Calls.{looked, learned, released}}
+use Rattle.arachne_words.{specs.Moves.{ToAnswer, free_at, shared_claim, moved_off}, proofs.Out.without-with}
 use Rattle.arachne_words.proofs.table.WordContexts.move_to.Goals.{After-see_mark-free, After-release, After-with_place, After-move_off}
+use Rattle.arachne_contexts.specs.declared.answers.Moved.TheVariants as moved
+use Rattle.arachne_words.proofs.table.WordContexts.move_to.Given as given
 use Rattle.arachne_words.proofs.table.WordContexts.move_to.Goals as goal
 
 -- context y, which stands at the place, as it was claimed there

@@ -1,14 +1,10 @@
 use Rattle.std.proofs.Common.{ℕ, ◌<◌, ◌∙◌, ap, sym, subst, true}
 use Rattle.arachne_core.specs.declared.layout.TheConstants.{CORE_BITS}
 use Rattle.arachne_rule.specs.declared.view.Kind.TheVariants as kind
-use Rattle.arachne_rule.specs.declared.view.Known.{Known}
-use Rattle.arachne_rule.specs.Layout.{Contexts, name_index}
-use Rattle.arachne_rule.specs.Plays.{Carries}
-use Rattle.arachne_rule.specs.Views.{noted, with_context}
-use Rattle.arachne_words.specs.Sizes.{IsPlaceIn}
-use Rattle.arachne_words.proofs.Inside.{name-in}
+use Rattle.arachne_rule.specs.{declared.view.Known.Known, Layout.{Contexts, name_index}, Plays.Carries}
+use Rattle.arachne_rule.{specs.Views.{noted, with_context}, proofs.MoveSteps.name-source-allowed}
+use Rattle.arachne_words.{specs.Sizes.IsPlaceIn, proofs.Inside.name-in}
 use Rattle.arachne_words.proofs.Told.{changed, live-told, view-told}
-use Rattle.arachne_rule.proofs.MoveSteps.{name-source-allowed}
 use Rattle.arachne_words.proofs.table.WordContexts.name_source.Goals as goal
 
 pub store-requires : goal.store-requires

@@ -1,11 +1,8 @@
 use Rattle.std.proofs.Common.{◌<◌, ◌∙◌, ap, sym, subst}
 use Rattle.arachne_core.specs.declared.layout.TheConstants.{CORE_BITS}
-use Rattle.arachne_rule.specs.declared.view.Known.{Known}
-use Rattle.arachne_rule.specs.Layout.{Contexts, name_index}
-use Rattle.arachne_rule.specs.Plays.{Carries}
-use Rattle.arachne_words.specs.Sizes.{IsPlaceIn}
-use Rattle.arachne_words.proofs.Inside.{name-in}
+use Rattle.arachne_rule.specs.{declared.view.Known.Known, Layout.{Contexts, name_index}, Plays.Carries}
 use Rattle.arachne_rule.proofs.MoveSteps.{name-target-allowed}
+use Rattle.arachne_words.{specs.Sizes.IsPlaceIn, proofs.Inside.name-in}
 use Rattle.arachne_words.proofs.table.WordContexts.name_target.Goals as goal
 
 pub compare_exchange-requires : goal.compare_exchange-requires

@@ -1,15 +1,8 @@
-use Rattle.std.proofs.Common.{◌≡◌, ℕ, ◌*◌, ◌∙◌, ap, sym, subst, arith, None}
-use Rattle.arachne_core.specs.declared.layout.TheConstants.{CORE_BITS}
-use Rattle.std.specs.Prelude.{replicate}
-use Rattle.std.proofs.Common.{get_or}
+use Rattle.std.proofs.Common.{◌≡◌, ℕ, ◌*◌, ◌∙◌, ap, sym, subst, arith, None, replicate, get_or}
+use Rattle.arachne_core.specs.declared.layout.TheConstants.{CORE_BITS, LAST_GENERATION}
 use Rattle.atomic_table.specs.Table.{opening}
-use Rattle.arachne_weights.specs.Tokens.{held}
-use Rattle.arachne_weights.specs.Weight.{whole}
-use Rattle.arachne_core.specs.declared.layout.TheConstants.{LAST_GENERATION}
-use Rattle.arachne_rule.specs.declared.view.Shape.{Shape}
-use Rattle.arachne_rule.specs.Layout.{IsShape}
-use Rattle.arachne_rule.specs.Table.{Holds}
-use Rattle.arachne_rule.specs.Views.{blank}
+use Rattle.arachne_weights.specs.{Tokens.held, Weight.whole}
+use Rattle.arachne_rule.specs.{declared.view.Shape.Shape, Layout.IsShape, Table.Holds, Views.blank}
 use Rattle.arachne_rule.proofs.Opening.{opens}
 use Rattle.arachne_words.proofs.FirstTable.{are-first}
 use Rattle.arachne_words.proofs.table.WordContexts.new.Goals as goal

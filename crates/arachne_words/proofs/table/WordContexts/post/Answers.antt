@@ -3,23 +3,16 @@
 -- (`posted-whole`), both for any context that the claim may have. One step more or less changes these two, and
 -- `HasPosted`.
 use Rattle.std.proofs.Common.{◌≡◌, ℕ, ◌<◌, ◌∙◌, ap, sym, subst, refl, arith, None, ◌∷◌}
-use Rattle.arachne_core.specs.declared.layout.TheConstants.{CORE_BITS}
+use Rattle.arachne_core.specs.{declared.{layout.TheConstants.CORE_BITS, thread_id.ThreadId.ThreadId}, Marked.mark_word}
 use Rattle.arachne_core.specs.declared.mark.Mark.TheVariants as mark
-use Rattle.arachne_core.specs.declared.thread_id.ThreadId.{ThreadId}
-use Rattle.arachne_core.specs.Marked.{Marked, mark_word}
 use Rattle.arachne_rule.specs.declared.view.Kind.TheVariants as kind
-use Rattle.arachne_rule.specs.declared.view.Known.{Known}
-use Rattle.arachne_rule.specs.Changes.{marked_as, posted}
-use Rattle.arachne_rule.specs.Layout.{Contexts, name_index}
-use Rattle.arachne_rule.specs.Plays.{Carries}
-use Rattle.arachne_rule.specs.Views.{noted, with_context}
-use Rattle.arachne_words.specs.Seats.{CallView, ClaimView, HasClaim, claimed_by}
-use Rattle.arachne_words.specs.Steps.{HasLast, IsPostable}
-use Rattle.arachne_words.specs.Calls.{looked, learned, HasPosted}
-use Rattle.arachne_words.proofs.Out.{keeps-less}
+use Rattle.arachne_rule.specs.{declared.view.Known.Known, Changes.{marked_as, posted}, Layout.{Contexts, name_index}}
+use Rattle.arachne_rule.specs.{Plays.Carries, Views.{noted, with_context}}
+use Rattle.arachne_words.specs.{Seats.{CallView, ClaimView, HasClaim, claimed_by}, Steps.{HasLast, IsPostable}}
+use Rattle.arachne_words.{specs.Calls.{looked, learned, HasPosted}, proofs.Out.keeps-less}
 use Rattle.arachne_words.proofs.PostSteps.{out_with, at-home, generation, postable, after}
-use Rattle.arachne_words.proofs.table.WordContexts.post.Given as given
 use Rattle.arachne_words.proofs.table.WordContexts.post.Goals.{After-take_slot-context, After-new-ready, After-store_posted}
+use Rattle.arachne_words.proofs.table.WordContexts.post.Given as given
 use Rattle.arachne_words.proofs.table.WordContexts.post.Goals as goal
 
 -- the fields of claim and seat are those of their models

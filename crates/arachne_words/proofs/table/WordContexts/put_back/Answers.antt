@@ -2,8 +2,7 @@
 -- its model, so `rest_thread` says what the seat carries then (`keeps-less`). The steps are in `rest_thread`.
 use Rattle.std.proofs.Common.{ℕ, ap, sym, subst}
 use Rattle.arachne_rule.specs.declared.view.Known.{Known}
-use Rattle.arachne_words.specs.Seats.{HasThread, HoldView, held_by}
-use Rattle.arachne_words.proofs.Out.{keeps-less}
+use Rattle.arachne_words.{specs.Seats.{HasThread, HoldView, held_by}, proofs.Out.keeps-less}
 use Rattle.arachne_words.proofs.table.WordContexts.put_back.Goals as goal
 
 pub invariant_of-seat : goal.invariant_of-seat

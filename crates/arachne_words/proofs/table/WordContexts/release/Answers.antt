@@ -2,16 +2,11 @@
 -- the subtraction (`release-allowed`), and what the step says is then said of the seat's view (`view-told`). Another
 -- way to free a place changes `release_sum`, `Releases` in `Plays` and that lemma.
 use Rattle.std.proofs.Common.{◌<◌, ◌∙◌, ap, sym, subst, refl, arith, Bool}
-use Rattle.arachne_core.specs.declared.layout.TheConstants.{CORE_BITS}
-use Rattle.arachne_core.specs.declared.place.Place.{Place}
-use Rattle.arachne_rule.specs.declared.view.Known.{Known}
-use Rattle.arachne_rule.specs.Layout.{Contexts, occ_index}
-use Rattle.arachne_rule.specs.Plays.{Carries}
-use Rattle.arachne_words.specs.Seats.{ClaimView, claimed_by}
-use Rattle.arachne_words.specs.Calls.{released}
-use Rattle.arachne_words.proofs.Inside.{core-in}
-use Rattle.arachne_words.proofs.Told.{changed, live-told, view-told}
+use Rattle.arachne_core.specs.declared.{layout.TheConstants.CORE_BITS, place.Place.Place}
+use Rattle.arachne_rule.specs.{declared.view.Known.Known, Layout.{Contexts, occ_index}, Plays.Carries}
 use Rattle.arachne_rule.proofs.ClaimSteps.{release-allowed}
+use Rattle.arachne_words.specs.{Seats.{ClaimView, claimed_by}, Calls.released}
+use Rattle.arachne_words.proofs.{Inside.core-in, Told.{changed, live-told, view-told}}
 use Rattle.arachne_words.proofs.table.WordContexts.release.Goals as goal
 
 abbrev claim_of : Place → Bool → ClaimView

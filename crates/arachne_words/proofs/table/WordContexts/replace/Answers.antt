@@ -1,14 +1,9 @@
 use Rattle.std.proofs.Common.{ℕ, ◌<◌, ◌∙◌, ap, sym, subst}
-use Rattle.arachne_core.specs.declared.layout.TheConstants.{CORE_BITS}
-use Rattle.arachne_core.specs.Marked.{mark_word}
+use Rattle.arachne_core.specs.{declared.layout.TheConstants.CORE_BITS, Marked.mark_word}
 use Rattle.arachne_rule.specs.declared.view.Kind.TheVariants as kind
-use Rattle.arachne_rule.specs.declared.view.Known.{Known}
-use Rattle.arachne_rule.specs.Layout.{Contexts}
-use Rattle.arachne_rule.specs.Plays.{Carries}
-use Rattle.arachne_rule.specs.Views.{noted, with_context}
-use Rattle.arachne_words.proofs.Inside.{mark-in}
-use Rattle.arachne_words.proofs.Told.{changed, live-told, view-told}
+use Rattle.arachne_rule.specs.{declared.view.Known.Known, Layout.Contexts, Plays.Carries, Views.{noted, with_context}}
 use Rattle.arachne_rule.proofs.MoveSteps.{replace-allowed}
+use Rattle.arachne_words.proofs.{Inside.mark-in, Told.{changed, live-told, view-told}}
 use Rattle.arachne_words.proofs.table.WordContexts.replace.Goals as goal
 
 pub store-requires : goal.store-requires

@@ -1,16 +1,11 @@
 use Rattle.std.proofs.Common.{ℕ, ◌<◌, ◌∙◌, ap, sym, subst, Some}
 use Rattle.atomic_table.specs.Table.{rest}
-use Rattle.arachne_core.specs.declared.layout.TheConstants.{CORE_BITS}
-use Rattle.arachne_core.specs.Marked.{mark_word}
+use Rattle.arachne_core.specs.{declared.layout.TheConstants.CORE_BITS, Marked.mark_word}
 use Rattle.arachne_rule.specs.declared.view.Kind.TheVariants as kind
-use Rattle.arachne_rule.specs.declared.view.Known.{Known}
-use Rattle.arachne_rule.specs.Layout.{Contexts}
-use Rattle.arachne_rule.specs.Plays.{Carries}
-use Rattle.arachne_rule.specs.Views.{noted, without_context}
-use Rattle.arachne_words.specs.Steps.{HasLast}
-use Rattle.arachne_words.proofs.Inside.{mark-in}
+use Rattle.arachne_rule.specs.{declared.view.Known.Known, Layout.Contexts, Plays.Carries}
+use Rattle.arachne_rule.{specs.Views.{noted, without_context}, proofs.RestSteps.rest-ready-allowed}
+use Rattle.arachne_words.{specs.Steps.HasLast, proofs.Inside.mark-in}
 use Rattle.arachne_words.proofs.Told.{changed, live-told, view-told}
-use Rattle.arachne_rule.proofs.RestSteps.{rest-ready-allowed}
 use Rattle.arachne_words.proofs.table.WordContexts.rest_ready.Goals as goal
 
 pub store-requires : goal.store-requires

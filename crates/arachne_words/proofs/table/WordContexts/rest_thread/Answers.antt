@@ -1,26 +1,19 @@
 -- A held thread is put back. The idea: its slot is taken and its value put into it (`taken`, `restable-now`), which is
 -- the condition of `rest_ready` and `try_rest_blocked`; each of the three ways is one equation of the seat
 -- (`made-ready`, `made-blocked`, `forestalled`). Another step changes that of its way, and `RestAnswer`.
-use Rattle.std.proofs.Common.{◌≡◌, ℕ, ◌∙◌, ap, sym, subst, refl, None, ◌∷◌, List, Option}
-use Rattle.arachne_core.specs.declared.layout.TheConstants.{CORE_BITS}
-use Rattle.arachne_core.specs.declared.place.Place.{Place}
+use Rattle.std.proofs.Common.{◌≡◌, ℕ, ◌∙◌, ap, sym, subst, refl, None, ◌∷◌}
+use Rattle.arachne_core.specs.declared.{layout.TheConstants.CORE_BITS, place.Place.Place, thread_id.ThreadId.ThreadId}
+use Rattle.arachne_core.specs.{Marked.{Marked, mark_word}, declared.state.Rest.Rest}
 use Rattle.arachne_core.specs.declared.mark.Mark.TheVariants as mark
-use Rattle.arachne_core.specs.declared.thread_id.ThreadId.{ThreadId}
-use Rattle.arachne_core.specs.Marked.{Marked, mark_word}
-use Rattle.arachne_rule.specs.declared.view.Carried.{Carried}
-use Rattle.arachne_rule.specs.declared.view.Kind.TheVariants as kind
-use Rattle.arachne_rule.specs.declared.view.Known.{Known}
-use Rattle.arachne_rule.specs.Layout.{Contexts, name_index}
+use Rattle.arachne_rule.specs.{declared.view.{Carried.Carried, Known.Known}, Layout.{Contexts, name_index}}
 use Rattle.arachne_rule.specs.Views.{noted, with_context, without_context}
-use Rattle.arachne_words.specs.Seats.{CallView, HoldView, held_by, marked_by}
-use Rattle.arachne_words.specs.Sizes.{IsPlaceIn}
-use Rattle.arachne_words.specs.Steps.{HasLast, IsAtHome, IsRestable}
-use Rattle.arachne_words.specs.Calls.{learned, RestAnswer}
-use Rattle.arachne_core.specs.declared.state.Rest.{Rest}
-use Rattle.arachne_contexts.specs.declared.answers.Rested.TheVariants as rested
+use Rattle.arachne_rule.specs.declared.view.Kind.TheVariants as kind
+use Rattle.arachne_words.specs.{Seats.{CallView, HoldView, held_by, marked_by}, Sizes.IsPlaceIn}
+use Rattle.arachne_words.specs.{Steps.{HasLast, IsAtHome, IsRestable}, Calls.{learned, RestAnswer}}
 use Rattle.arachne_words.proofs.RestCall.{out_with, at-home, restable, restable-again, after-ready, after-blocked, after-lost, blocked-else}
-use Rattle.arachne_words.proofs.table.WordContexts.rest_thread.Given as given
 use Rattle.arachne_words.proofs.table.WordContexts.rest_thread.Goals.{After-place, After-take_slot-context, After-with_mark-ready, After-rest_ready, In_default-try_rest_blocked, In-Err, After-rest_ready-in-Err}
+use Rattle.arachne_contexts.specs.declared.answers.Rested.TheVariants as rested
+use Rattle.arachne_words.proofs.table.WordContexts.rest_thread.Given as given
 use Rattle.arachne_words.proofs.table.WordContexts.rest_thread.Goals as goal
 
 abbrev hold : ThreadId → Marked → HoldView

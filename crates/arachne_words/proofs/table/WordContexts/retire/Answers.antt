@@ -2,19 +2,13 @@
 -- swap (`retire-allowed`), and what the swap says is then said of the seat's view (`view-told`). The fields of the mark
 -- word of a context between two threads are in `claimed_again` and `marked_free`.
 use Rattle.std.proofs.Common.{ℕ, ◌+◌, ◌<◌, ◌∙◌, ap, sym, subst, refl, false}
-use Rattle.arachne_core.specs.declared.layout.TheConstants.{CORE_BITS}
-use Rattle.arachne_core.specs.Marked.{mark_word}
+use Rattle.arachne_core.specs.{declared.layout.TheConstants.CORE_BITS, Marked.mark_word}
 use Rattle.arachne_rule.specs.declared.view.Kind.TheVariants as kind
-use Rattle.arachne_rule.specs.declared.view.Known.{Known}
-use Rattle.arachne_rule.specs.Changes.{retired}
-use Rattle.arachne_rule.specs.Layout.{Contexts}
-use Rattle.arachne_rule.specs.Plays.{Carries}
-use Rattle.arachne_rule.specs.Views.{noted}
-use Rattle.arachne_words.specs.Seats.{HoldView, held_by}
-use Rattle.arachne_words.proofs.Inside.{mark-in}
+use Rattle.arachne_rule.specs.{declared.view.Known.Known, Changes.retired, Layout.Contexts, Plays.Carries, Views.noted}
+use Rattle.arachne_rule.proofs.ThreadSteps.{retire-allowed}
+use Rattle.arachne_words.{specs.Seats.{HoldView, held_by}, proofs.Inside.mark-in}
 use Rattle.arachne_words.proofs.Told.{changed, live-told, view-told}
 use Rattle.arachne_core.specs.declared.mark.Mark.TheVariants as mark
-use Rattle.arachne_rule.proofs.ThreadSteps.{retire-allowed}
 use Rattle.arachne_words.proofs.table.WordContexts.retire.Goals as goal
 
 pub swap-requires : goal.swap-requires

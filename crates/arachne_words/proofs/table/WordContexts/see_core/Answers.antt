@@ -1,7 +1,6 @@
 use Rattle.std.proofs.Common.{◌<◌, ◌∙◌, ap, sym, subst}
 use Rattle.arachne_core.specs.declared.layout.TheConstants.{CORE_BITS}
-use Rattle.arachne_rule.specs.Layout.{Contexts, occ_index}
-use Rattle.arachne_rule.proofs.LookSteps.{look-core-allowed}
+use Rattle.arachne_rule.{specs.Layout.{Contexts, occ_index}, proofs.LookSteps.look-core-allowed}
 use Rattle.arachne_words.proofs.Inside.{core-in}
 use Rattle.arachne_words.proofs.table.WordContexts.see_core.Goals as goal
 

@@ -1,9 +1,6 @@
 use Rattle.std.proofs.Common.{◌<◌, ◌∙◌, ap, sym, subst, refl}
-use Rattle.arachne_core.specs.declared.layout.TheConstants.{CORE_BITS}
-use Rattle.arachne_rule.specs.Layout.{Contexts}
-use Rattle.arachne_core.specs.Marked.{mark_word, marked_of}
-use Rattle.arachne_rule.specs.declared.view.Known.{Known}
-use Rattle.arachne_rule.specs.Plays.{HasEnded, IsGone}
+use Rattle.arachne_core.specs.{declared.layout.TheConstants.CORE_BITS, Marked.{mark_word, marked_of}}
+use Rattle.arachne_rule.specs.{Layout.Contexts, declared.view.Known.Known, Plays.{HasEnded, IsGone}}
 use Rattle.arachne_rule.proofs.LookSteps.{look-mark-allowed}
 use Rattle.arachne_words.proofs.Inside.{mark-in}
 use Rattle.arachne_words.proofs.table.WordContexts.see_mark.Goals as goal

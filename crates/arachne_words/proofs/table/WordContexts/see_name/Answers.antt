@@ -1,9 +1,7 @@
 use Rattle.std.proofs.Common.{◌∙◌, ap, sym, subst}
 use Rattle.arachne_core.specs.declared.layout.TheConstants.{CORE_BITS}
-use Rattle.arachne_rule.specs.Layout.{Contexts, name_index}
-use Rattle.arachne_words.specs.Sizes.{IsPlaceIn}
-use Rattle.arachne_rule.proofs.LookSteps.{learn-allowed}
-use Rattle.arachne_words.proofs.Inside.{name-in}
+use Rattle.arachne_rule.{specs.Layout.{Contexts, name_index}, proofs.LookSteps.learn-allowed}
+use Rattle.arachne_words.{specs.Sizes.IsPlaceIn, proofs.Inside.name-in}
 use Rattle.arachne_words.proofs.table.WordContexts.see_name.Goals as goal
 
 pub load-requires : goal.load-requires

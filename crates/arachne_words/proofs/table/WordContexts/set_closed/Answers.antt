@@ -1,8 +1,7 @@
 use Rattle.std.proofs.Common.{◌<◌, ◌∙◌, ap, sym, subst, refl}
 use Rattle.arachne_core.specs.declared.layout.TheConstants.{CORE_BITS}
-use Rattle.arachne_rule.specs.Layout.{Contexts, occ_index}
+use Rattle.arachne_rule.{specs.Layout.{Contexts, occ_index}, proofs.CoreSteps.close-allowed}
 use Rattle.arachne_words.proofs.Inside.{core-in}
-use Rattle.arachne_rule.proofs.CoreSteps.{close-allowed}
 use Rattle.arachne_words.proofs.table.WordContexts.set_closed.Goals as goal
 
 pub fetch_or-requires : goal.fetch_or-requires

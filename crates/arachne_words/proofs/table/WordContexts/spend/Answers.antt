@@ -1,19 +1,13 @@
 -- The last thread of a context ends. As in `retire`, by `spend-allowed`: no seat carries the context then, and its
 -- place stays occupied. The fields of its mark word are in `marked_spent`.
 use Rattle.std.proofs.Common.{ℕ, ◌<◌, ◌∙◌, ap, sym, subst, refl, false}
-use Rattle.arachne_core.specs.declared.layout.TheConstants.{CORE_BITS}
-use Rattle.arachne_core.specs.Marked.{mark_word}
+use Rattle.arachne_core.specs.{declared.layout.TheConstants.CORE_BITS, Marked.mark_word}
 use Rattle.arachne_rule.specs.declared.view.Kind.TheVariants as kind
-use Rattle.arachne_rule.specs.declared.view.Known.{Known}
-use Rattle.arachne_rule.specs.Changes.{spent_known}
-use Rattle.arachne_rule.specs.Layout.{Contexts}
-use Rattle.arachne_rule.specs.Plays.{Carries}
-use Rattle.arachne_rule.specs.Views.{noted}
-use Rattle.arachne_words.specs.Seats.{HoldView, held_by}
-use Rattle.arachne_words.proofs.Inside.{mark-in}
+use Rattle.arachne_rule.specs.{declared.view.Known.Known, Changes.spent_known, Layout.Contexts, Plays.Carries}
+use Rattle.arachne_rule.{specs.Views.noted, proofs.ThreadSteps.spend-allowed}
+use Rattle.arachne_words.{specs.Seats.{HoldView, held_by}, proofs.Inside.mark-in}
 use Rattle.arachne_words.proofs.Told.{changed, live-told, view-told}
 use Rattle.arachne_core.specs.declared.mark.Mark.TheVariants as mark
-use Rattle.arachne_rule.proofs.ThreadSteps.{spend-allowed}
 use Rattle.arachne_words.proofs.table.WordContexts.spend.Goals as goal
 
 pub swap-requires : goal.swap-requires

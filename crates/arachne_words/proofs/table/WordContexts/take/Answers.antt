@@ -3,21 +3,15 @@
 -- makes one equation of the seat from all of it (`kept`). One step more or less changes that equation, in `TakeSteps`,
 -- and `HasTaken`.
 use Rattle.std.proofs.Common.{◌≡◌, ◌<◌, ℕ, [], ◌∙◌, ap, sym, subst, refl, arith}
-use Rattle.arachne_core.specs.declared.layout.TheConstants.{CORE_BITS}
-use Rattle.arachne_core.specs.declared.place.Place.{Place}
+use Rattle.arachne_core.specs.{declared.{layout.TheConstants.CORE_BITS, place.Place.Place}, Marked.mark_word}
 use Rattle.arachne_core.specs.declared.mark.Mark.TheVariants as mark
-use Rattle.arachne_core.specs.Marked.{mark_word}
-use Rattle.arachne_rule.specs.declared.view.Known.{Known}
+use Rattle.arachne_rule.specs.{declared.view.Known.Known, Layout.name_index, Views.{noted, with_context, carried_at}}
 use Rattle.arachne_rule.specs.declared.view.Kind.TheVariants as kind
-use Rattle.arachne_rule.specs.Layout.{name_index}
-use Rattle.arachne_rule.specs.Views.{noted, with_context, carried_at}
-use Rattle.arachne_words.specs.Seats.{CallView, HoldView, held_by, marked_by}
-use Rattle.arachne_words.specs.Steps.{IsTaken}
-use Rattle.arachne_words.specs.Calls.{looked, learned, HasTaken}
-use Rattle.arachne_words.proofs.Out.{out-bound, keeps-more}
+use Rattle.arachne_words.specs.{Seats.{CallView, HoldView, held_by, marked_by}, Steps.IsTaken}
+use Rattle.arachne_words.{specs.Calls.{looked, learned, HasTaken}, proofs.Out.{out-bound, keeps-more}}
 use Rattle.arachne_words.proofs.TakeSteps.{first, hold_of, taken, fresh-first, same-value, after}
-use Rattle.arachne_words.proofs.table.WordContexts.take.Given as given
 use Rattle.arachne_words.proofs.table.WordContexts.take.Goals.{After-take_out-value, After-keep_name}
+use Rattle.arachne_words.proofs.table.WordContexts.take.Given as given
 use Rattle.arachne_words.proofs.table.WordContexts.take.Goals as goal
 
 is-taken : (g : given.Over) (c : goal.After-take_out-value g) → IsTaken c.args.self.now c.take_out-value.new.seat c.see_name-context.result (record { core = c.args.core; index = c.args.index }) (first c.args.self.now (record { core = c.args.core; index = c.args.index }) c.see_name-context.result c.see_name-context.ensures.context c.see_mark-seen.result (g.T.Tagged.tag_of c.in-Ok.ensures.won.0))

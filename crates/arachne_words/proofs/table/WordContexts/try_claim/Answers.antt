@@ -2,19 +2,14 @@
 -- rule's condition for a claim (`claim-allowed`); what the exchange says, won or lost, is then said of the seat's view.
 -- A change of what the words mean changes `sum` and `index_sum`.
 use Rattle.std.proofs.Common.{◌≡◌, ℕ, ◌+◌, ◌<◌, ◌∙◌, ap, sym, subst, arith, false, get_or}
-use Rattle.arachne_core.specs.Occupancy.{Occupancy}
-use Rattle.arachne_core.specs.declared.layout.TheConstants.{CORE_BITS}
+use Rattle.arachne_core.specs.{Occupancy.Occupancy, declared.layout.TheConstants.CORE_BITS}
 use Rattle.arachne_rule.specs.declared.view.Kind.TheVariants as kind
-use Rattle.arachne_rule.specs.declared.view.Known.{Known}
-use Rattle.arachne_rule.specs.Changes.{index_sum, claimed_context}
-use Rattle.arachne_rule.specs.Layout.{Contexts, occ_index}
-use Rattle.arachne_rule.specs.Views.{noted, with_context, carried_at}
+use Rattle.arachne_rule.specs.{declared.view.Known.Known, Changes.{index_sum, claimed_context}}
+use Rattle.arachne_rule.specs.{Layout.{Contexts, occ_index}, Views.{noted, with_context, carried_at}}
 use Rattle.arachne_rule.proofs.ClaimSteps.{claim-allowed, with-bit}
-use Rattle.arachne_words.specs.Calls.{lost_claim}
-use Rattle.arachne_words.proofs.Inside.{core-in}
-use Rattle.arachne_words.proofs.Told.{changed, live-told, view-told}
+use Rattle.arachne_words.proofs.{Inside.core-in, Told.{changed, live-told, view-told}}
+use Rattle.arachne_words.{proofs.table.WordContexts.try_claim.Goals.After-core_word-word, specs.Calls.lost_claim}
 use Rattle.arachne_words.proofs.table.WordContexts.try_claim.Given as given
-use Rattle.arachne_words.proofs.table.WordContexts.try_claim.Goals.{After-core_word-word}
 use Rattle.arachne_words.proofs.table.WordContexts.try_claim.Goals as goal
 
 -- the word of the core, by the table's fields

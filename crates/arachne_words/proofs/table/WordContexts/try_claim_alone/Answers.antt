@@ -4,16 +4,11 @@
 use Rattle.std.proofs.Common.{◌≡◌, ℕ, ◌<◌, ◌∙◌, ap, sym, subst, refl, true}
 use Rattle.arachne_core.specs.declared.layout.TheConstants.{CORE_BITS}
 use Rattle.arachne_rule.specs.declared.view.Kind.TheVariants as kind
-use Rattle.arachne_rule.specs.declared.view.Known.{Known}
-use Rattle.arachne_rule.specs.Layout.{Contexts, occ_index}
-use Rattle.arachne_rule.specs.Views.{noted, with_context, carried_at}
-use Rattle.arachne_words.proofs.Inside.{core-in}
-use Rattle.arachne_words.proofs.Told.{changed, live-told, view-told}
-use Rattle.arachne_rule.specs.Changes.{alone_context}
-use Rattle.arachne_words.specs.Calls.{sum_of}
-use Rattle.arachne_rule.proofs.ClaimSteps.{alone-allowed}
+use Rattle.arachne_rule.specs.{declared.view.Known.Known, Layout.{Contexts, occ_index}, Changes.alone_context}
+use Rattle.arachne_rule.{specs.Views.{noted, with_context, carried_at}, proofs.ClaimSteps.alone-allowed}
+use Rattle.arachne_words.proofs.{Inside.core-in, Told.{changed, live-told, view-told}}
+use Rattle.arachne_words.{specs.Calls.sum_of, proofs.table.WordContexts.try_claim_alone.Goals.After-core_word-word}
 use Rattle.arachne_words.proofs.table.WordContexts.try_claim_alone.Given as given
-use Rattle.arachne_words.proofs.table.WordContexts.try_claim_alone.Goals.{After-core_word-word}
 use Rattle.arachne_words.proofs.table.WordContexts.try_claim_alone.Goals as goal
 
 -- the word of the core, by the table's fields

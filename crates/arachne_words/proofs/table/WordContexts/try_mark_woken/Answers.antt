@@ -1,9 +1,7 @@
 use Rattle.std.proofs.Common.{◌<◌, ◌∙◌, ap, sym, subst}
-use Rattle.arachne_core.specs.declared.layout.TheConstants.{CORE_BITS}
-use Rattle.arachne_core.specs.Marked.{mark_word}
-use Rattle.arachne_rule.specs.Layout.{Contexts}
+use Rattle.arachne_core.specs.{declared.layout.TheConstants.CORE_BITS, Marked.mark_word}
+use Rattle.arachne_rule.{specs.Layout.Contexts, proofs.RestSteps.mark-woken-allowed}
 use Rattle.arachne_words.proofs.Inside.{mark-in}
-use Rattle.arachne_rule.proofs.RestSteps.{mark-woken-allowed}
 use Rattle.arachne_words.proofs.table.WordContexts.try_mark_woken.Goals as goal
 
 pub compare_exchange-found-requires : goal.compare_exchange-found-requires

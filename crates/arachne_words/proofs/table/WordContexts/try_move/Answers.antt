@@ -1,16 +1,10 @@
 use Rattle.std.proofs.Common.{◌≡◌, ◌<◌, ◌∙◌, ap, sym, subst, arith}
-use Rattle.arachne_core.specs.declared.layout.TheConstants.{CORE_BITS}
-use Rattle.arachne_core.specs.declared.place.Place.{Place}
+use Rattle.arachne_core.specs.declared.{layout.TheConstants.CORE_BITS, place.Place.Place}
 use Rattle.arachne_core.specs.Marked.{Marked, mark_word, marked_of}
 use Rattle.arachne_rule.specs.declared.view.Kind.TheVariants as kind
-use Rattle.arachne_rule.specs.declared.view.Known.{Known}
-use Rattle.arachne_rule.specs.Layout.{Contexts}
-use Rattle.arachne_rule.specs.Plays.{Carries}
-use Rattle.arachne_rule.specs.Views.{noted, with_context}
-use Rattle.arachne_words.proofs.Inside.{mark-in}
-use Rattle.arachne_words.proofs.Told.{changed, live-told, view-told}
-use Rattle.arachne_rule.specs.Changes.{left_context}
-use Rattle.arachne_rule.proofs.MoveSteps.{move-allowed}
+use Rattle.arachne_rule.specs.{declared.view.Known.Known, Layout.Contexts, Plays.Carries, Views.{noted, with_context}}
+use Rattle.arachne_rule.{specs.Changes.left_context, proofs.MoveSteps.move-allowed}
+use Rattle.arachne_words.proofs.{Inside.mark-in, Told.{changed, live-told, view-told}}
 use Rattle.arachne_words.proofs.table.WordContexts.try_move.Goals as goal
 
 pub with_place-requires : goal.with_place-requires

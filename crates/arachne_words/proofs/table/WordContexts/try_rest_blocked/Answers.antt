@@ -1,18 +1,12 @@
 use Rattle.std.proofs.Common.{◌<◌, ◌∙◌, ap, sym, subst, Some}
 use Rattle.atomic_table.specs.Table.{rest}
-use Rattle.arachne_core.specs.declared.layout.TheConstants.{CORE_BITS}
+use Rattle.arachne_core.specs.{declared.layout.TheConstants.CORE_BITS, Marked.{Marked, mark_word}}
 use Rattle.arachne_core.specs.declared.mark.Mark.TheVariants as mark
-use Rattle.arachne_core.specs.Marked.{Marked, mark_word}
 use Rattle.arachne_rule.specs.declared.view.Kind.TheVariants as kind
-use Rattle.arachne_rule.specs.declared.view.Known.{Known}
-use Rattle.arachne_rule.specs.Layout.{Contexts}
-use Rattle.arachne_rule.specs.Plays.{Carries}
-use Rattle.arachne_rule.specs.Views.{noted, without_context}
-use Rattle.arachne_words.specs.Steps.{HasLast}
-use Rattle.arachne_words.proofs.WakeSteps.{found-woken}
-use Rattle.arachne_words.proofs.Inside.{mark-in}
+use Rattle.arachne_rule.specs.{declared.view.Known.Known, Layout.Contexts, Plays.Carries}
+use Rattle.arachne_rule.{specs.Views.{noted, without_context}, proofs.RestSteps.rest-blocked-allowed}
+use Rattle.arachne_words.{specs.Steps.HasLast, proofs.{WakeSteps.found-woken, Inside.mark-in}}
 use Rattle.arachne_words.proofs.Told.{changed, live-told, view-told}
-use Rattle.arachne_rule.proofs.RestSteps.{rest-blocked-allowed}
 use Rattle.arachne_words.proofs.table.WordContexts.try_rest_blocked.Goals as goal
 
 pub compare_exchange-found-requires : goal.compare_exchange-found-requires

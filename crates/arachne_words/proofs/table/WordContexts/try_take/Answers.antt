@@ -1,15 +1,9 @@
 use Rattle.std.proofs.Common.{◌<◌, ◌∙◌, ap, sym, subst, Some, ◌∷◌}
-use Rattle.arachne_core.specs.declared.layout.TheConstants.{CORE_BITS}
-use Rattle.arachne_core.specs.Marked.{mark_word, marked_of}
+use Rattle.arachne_core.specs.{declared.layout.TheConstants.CORE_BITS, Marked.{mark_word, marked_of}}
 use Rattle.arachne_rule.specs.declared.view.Kind.TheVariants as kind
-use Rattle.arachne_rule.specs.declared.view.Known.{Known}
-use Rattle.arachne_rule.specs.Layout.{Contexts}
-use Rattle.arachne_rule.specs.Views.{noted}
-use Rattle.arachne_words.proofs.Inside.{mark-in}
-use Rattle.arachne_words.proofs.Told.{changed, view-told}
-use Rattle.arachne_rule.specs.Changes.{taken_context}
-use Rattle.arachne_rule.specs.Views.{with_context, carried_at}
-use Rattle.arachne_rule.proofs.ThreadSteps.{take-allowed}
+use Rattle.arachne_rule.specs.{declared.view.Known.Known, Layout.Contexts, Views.{noted, with_context, carried_at}}
+use Rattle.arachne_rule.{specs.Changes.taken_context, proofs.ThreadSteps.take-allowed}
+use Rattle.arachne_words.proofs.{Inside.mark-in, Told.{changed, view-told}}
 use Rattle.arachne_words.proofs.table.WordContexts.try_take.Goals as goal
 
 pub compare_exchange-found-requires : goal.compare_exchange-found-requires

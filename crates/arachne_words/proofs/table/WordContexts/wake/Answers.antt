@@ -2,18 +2,12 @@
 -- id, so a win is `HasWoken`, and a loss returns the word that was found; that the thread had ended contradicts
 -- `not-gone`. A third mark that can be woken is one more arm here, and in `HasWoken`.
 use Rattle.std.proofs.Common.{ℕ, ◌∙◌, ap, sym, subst, arith, inl, inr}
-use Rattle.arachne_core.specs.declared.layout.TheConstants.{CORE_BITS}
-use Rattle.arachne_core.specs.declared.mark.Mark.TheVariants as mark
-use Rattle.arachne_core.specs.Marked.{Marked, mark_word}
-use Rattle.arachne_rule.specs.declared.view.Kind.TheVariants as kind
-use Rattle.arachne_rule.specs.declared.view.Known.{Known}
-use Rattle.arachne_rule.specs.Views.{noted}
-use Rattle.arachne_words.specs.Seats.{CallView}
-use Rattle.arachne_words.specs.Calls.{looked}
+use Rattle.arachne_core.specs.{declared.layout.TheConstants.CORE_BITS, Marked.{Marked, mark_word, mark_code}}
 use Rattle.arachne_core.specs.declared.thread_id.ThreadId.{ThreadId}
-use Rattle.arachne_core.specs.Marked.{mark_code}
-use Rattle.arachne_rule.specs.Plays.{HasEnded}
-use Rattle.arachne_words.specs.Calls.{WakeAnswer}
+use Rattle.arachne_core.specs.declared.mark.Mark.TheVariants as mark
+use Rattle.arachne_rule.specs.declared.view.Kind.TheVariants as kind
+use Rattle.arachne_rule.specs.{declared.view.Known.Known, Views.noted, Plays.HasEnded}
+use Rattle.arachne_words.specs.{Seats.CallView, Calls.{looked, WakeAnswer}}
 use Rattle.arachne_words.proofs.WakeSteps.{not-gone}
 use Rattle.arachne_words.proofs.table.WordContexts.wake.Goals.{in-Ok, in-Err, in-Ok-try_mark_woken, in-Err-try_mark_woken}
 use Rattle.arachne_words.proofs.table.WordContexts.wake.Goals as goal

@@ -10,3 +10,8 @@ invariant-loop-index g l =
 -- the indexes that are left of the scan, as a number
 abbrev pub decreases-loop-index : goal.decreases-loop-index
 decreases-loop-index g l = l.self.agenda.scan
+
+abbrev pub invariant-loop : goal.invariant-loop
+invariant-loop g l =
+    (l.self.desk ≡ l.fn.self.desk) × (l.self.agenda.scan ≡ l.initial.self.agenda.scan)
+    × LooksWithin (g.D.Desk.largest_quantum l.fn.self.desk) l.fn.self.agenda l.self.agenda

@@ -1,5 +1,4 @@
-use Rattle.std.proofs.Common.{◌≡◌, All}
-use Rattle.std.specs.Prelude.{vec_items}
+use Rattle.std.proofs.Common.{◌≡◌, All, vec_items}
 use Rattle.arachne_team.proofs.start.fn.work_together.scope.Given as goal
 
 abbrev pub invariant-loop-number : goal.invariant-loop-number

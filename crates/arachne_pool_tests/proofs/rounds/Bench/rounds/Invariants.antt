@@ -1,0 +1,6 @@
+use Rattle.arachne_pool.specs.Workers.{IsWorkerOf}
+use Rattle.arachne_pool_tests.proofs.rounds.Bench.rounds.Given as goal
+
+-- between two rounds the worker is the pool's
+abbrev pub invariant-loop : goal.invariant-loop
+invariant-loop g l = IsWorkerOf l.self.pool.now l.worker

@@ -1,6 +1,0 @@
-use Rattle.arachne_pool.specs.Workers.{IsWorkerOf}
-use Rattle.arachne_pool_tests.proofs.spells.polls.Given as goal
-
--- between two jobs the worker is the pool's
-abbrev pub invariant-loop-time : goal.invariant-loop-time
-invariant-loop-time g l = IsWorkerOf l.pool l.worker

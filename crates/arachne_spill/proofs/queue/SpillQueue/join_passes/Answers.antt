@@ -1,5 +1,0 @@
-use Rattle.arachne_spill.proofs.Seated.{join-allowed}
-use Rattle.arachne_spill.proofs.queue.SpillQueue.join_passes.Goals as goal
-
-pub absorb-requires-clause-rule : goal.absorb-requires-clause-rule
-absorb-requires-clause-rule g c = join-allowed g.T.Tagged.tag_of _ _ _ _ c.pass.invariant c.other.invariant

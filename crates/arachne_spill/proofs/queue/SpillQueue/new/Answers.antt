@@ -1,5 +1,0 @@
-use Rattle.arachne_spill.proofs.Keeps.{opens}
-use Rattle.arachne_spill.proofs.queue.SpillQueue.new.Goals as goal
-
-pub ruled-requires-clause-rule : goal.ruled-requires-clause-rule
-ruled-requires-clause-rule g c = opens g.T.Tagged.tag_of

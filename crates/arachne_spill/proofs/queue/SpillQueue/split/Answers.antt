@@ -1,5 +1,0 @@
-use Rattle.arachne_spill.proofs.Seated.{split-allowed}
-use Rattle.arachne_spill.proofs.queue.SpillQueue.split.Goals as goal
-
-pub another-other-requires-clause-rule : goal.another-other-requires-clause-rule
-another-other-requires-clause-rule g c = split-allowed g.T.Tagged.tag_of _ _ c.pass.invariant

@@ -1,5 +1,0 @@
-use Rattle.arachne_contexts.specs.Out.{KeepsOut}
-use Rattle.arachne_table.proofs.tests.steps.fill.Given as goal
-
-abbrev pub invariant-loop-tag : goal.invariant-loop-tag
-invariant-loop-tag g l = g.C.Seats.sits l.table l.seat × KeepsOut (g.C.Contexts.has l.table) l.fn.seat l.seat
