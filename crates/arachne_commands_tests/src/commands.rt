@@ -1,8 +1,8 @@
 //! Tests of the program over readers, writers, memory and arguments (*words*) that the tests make.
-use arachne_commands::{refuse_words, run_without_words};
+use arachne_commands::refuse_words;
 use std::alloc::Global;
-use std::io::{self, Eprint, ErrorKind};
-use std::process::{Abort, ExitCode, Termination};
+use std::io::{self, ErrorKind};
+use std::process::Abort;
 
 mod endings;
 mod fakes;
@@ -18,23 +18,12 @@ const NO_WORDS: &[(ErrorKind, u8, &str)] = &[
 ];
 
 /// Checks the exit code and the printed text of a program whose arguments can't be read.
-///
-/// `refuse_words` must return the code and write the text, and the `report` of what `run_without_words` returns must
-/// have the same code.
-fn assert_without_words<R: Abort + Eprint>(
-    rt: &R,
-    alloc: Global,
-    kind: ErrorKind,
-    code: u8,
-    told: &str,
-) {
+fn assert_without_words<R: Abort>(rt: &R, alloc: Global, kind: ErrorKind, code: u8, told: &str) {
     let error = io::Error::from(kind);
     let mut faults = Vec::new(alloc);
     let status = refuse_words(&mut faults, &error);
     let is_told = faults.starts_with(told.as_bytes()) && (code == 2 || faults.len() == told.len());
     assert!(rt; status == code && is_told, "{told}");
-    let process = run_without_words(&error, &mut faults).report(rt);
-    assert!(rt; process == ExitCode::from(code), "{told}");
 }
 
 #[test]
