@@ -44,22 +44,15 @@ fn set_up(
 ) -> Result<(Setup, Vec<Xoshiro256PlusPlus>), AllocError>
     ensures { IfOk result (λ made. IsSetUpBy settings made.0 made.1.items) }
 {
-    let RunSettings {
-        cores,
-        seed,
-        quantum,
-        slots,
-        names: _,
-        orders,
-    } = settings;
+    let cores = settings.cores;
     // With too many cores, the run is refused before it needs a generator.
     let served = if cores > u64::from(CORES) { 0 } else { cores };
-    let choosers = choosers(alloc, seed, served)?;
+    let choosers = choosers(alloc, settings.seed, served)?;
     let setup = Setup {
         cores,
-        slots,
-        quantum,
-        orders: orders.into_vec(),
+        slots: settings.slots,
+        quantum: settings.quantum,
+        orders: settings.orders.into_vec(),
     };
     Ok((setup, choosers))
 }

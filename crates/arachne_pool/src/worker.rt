@@ -41,7 +41,7 @@ pub enum PoolFault {
 }
 
 pub(crate) fn disowned() -> Halt {
-    Halt { why: 0 }
+    Halt::Token
 }
 
 /// A worker's loop fails only if the table rejects a slot or a job, so each `Halt` becomes `Token`.

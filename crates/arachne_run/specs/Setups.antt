@@ -6,6 +6,8 @@ use Rattle.arachne_run.specs.declared.fault.RunFault.TheVariants.{Cores, Quantum
 use Rattle.arachne_run.specs.declared.fault.WorkerFault.TheVariants as worker
 use Rattle.arachne_jobs.specs.declared.fault.JobFault.{JobFault}
 use Rattle.arachne_jobs.specs.declared.fault.JobFault.TheVariants as job
+use Rattle.arachne_workers.specs.declared.desk.Halt.{Halt}
+use Rattle.arachne_workers.specs.declared.desk.Halt.TheVariants as halt
 use Rattle.arachne_sleep.specs.declared.answer.AskFault.{AskFault}
 use Rattle.arachne_sleep.specs.declared.answer.AskFault.TheVariants as ask
 use Rattle.arachne_team.specs.declared.team.TeamFault.{TeamFault}
@@ -46,19 +48,20 @@ is_of_setup Choosers = true
 is_of_setup (Orders first) = true
 is_of_setup (Worker fault) = false
 
--- the number by which a worker's loop returns a fault, and the fault with a number
-abbrev pub number_of : WorkerFault → ℕ
-number_of worker.Memory = 0
-number_of worker.Foreign = 1
-number_of worker.Threads = 2
-number_of worker.Ledgers = 3
-number_of worker.Token = 4
-number_of worker.KernelThread = 5
+-- the reason for which a worker's loop ends at a fault, and the fault of a reason
+abbrev pub halt_of : WorkerFault → Halt
+halt_of worker.Memory = halt.Memory
+halt_of worker.Foreign = halt.Foreign
+halt_of worker.Threads = halt.Lock
+halt_of worker.Ledgers = halt.Token
+halt_of worker.Token = halt.Token
+halt_of worker.KernelThread = halt.Token
 
-abbrev pub numbered : ℕ → WorkerFault
-numbered n =
-    if n == 0 then worker.Memory else (if n == 1 then worker.Foreign else (if n == 2 then worker.Threads
-    else (if n == 3 then worker.Ledgers else (if n == 5 then worker.KernelThread else worker.Token))))
+abbrev pub of_halt : Halt → WorkerFault
+of_halt halt.Memory = worker.Memory
+of_halt halt.Foreign = worker.Foreign
+of_halt halt.Lock = worker.Threads
+of_halt halt.Token = worker.Token
 
 -- the worker's fault for a fault of a job
 abbrev pub as_worker_fault : JobFault → WorkerFault

@@ -63,18 +63,15 @@ impl<'a> Access<'a> {
         let tag = thread.running_tag();
         let mut tries: u32 = 0;
         for _ in rt.forever() {
-            match self.try_get(call, lock, Who { tag, id })? {
-                Tried::Answered(Ok(Some(granted))) => {
-                    *grant = Some(granted);
-                    thread.answer()?;
-                    return Ok(ThreadStop::Goes);
-                }
-                Tried::Answered(Ok(None)) => return Ok(ThreadStop::Waits(lock)),
-                Tried::Answered(Err(fault)) => return Err(WorkerFault::from(fault)),
-                Tried::Contended => {}
+            if let Tried::Answered(answer) = self.try_get(call, lock, Who { tag, id })? {
+                let Some(granted) = answer? else {
+                    return Ok(ThreadStop::Waits(lock));
+                };
+                *grant = Some(granted);
+                thread.answer()?;
+                return Ok(ThreadStop::Goes);
             }
-            stand_by(rt, pace, tries);
-            tries = tries.saturating_add(1);
+            stand_by(rt, pace, &mut tries);
         }
         unreachable!()
     }
@@ -100,17 +97,13 @@ impl<'a> Access<'a> {
         let tag = thread.running_tag();
         let mut tries: u32 = 0;
         for _ in rt.forever() {
-            match self.try_free(lock, Who { tag, id })? {
-                Tried::Answered(Ok(freed)) => {
-                    *grant = None;
-                    thread.answer()?;
-                    return Ok(stop_after(freed));
-                }
-                Tried::Answered(Err(fault)) => return Err(WorkerFault::from(fault)),
-                Tried::Contended => {}
+            if let Tried::Answered(answer) = self.try_free(lock, Who { tag, id })? {
+                let freed = answer?;
+                *grant = None;
+                thread.answer()?;
+                return Ok(stop_after(freed));
             }
-            stand_by(rt, pace, tries);
-            tries = tries.saturating_add(1);
+            stand_by(rt, pace, &mut tries);
         }
         unreachable!()
     }

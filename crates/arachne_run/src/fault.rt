@@ -63,40 +63,35 @@ impl From<WorkerFault> for RunFault {
     }
 }
 
+/// A worker that has begun meets no `Ledgers` and no `KernelThread`.
 impl From<WorkerFault> for Halt {
     ghost use Rattle.std.specs.Prelude.{◌≡◌};
-    ghost use Rattle.arachne_run.specs.Setups.{number_of};
+    ghost use Rattle.arachne_run.specs.Setups.{halt_of};
 
-    ghost from_gives = { λ fault halt. halt.why ≡ number_of fault };
+    ghost from_gives = { λ fault halt. halt ≡ halt_of fault };
 
     fn from(fault: WorkerFault) -> Halt {
-        Halt {
-            why: match fault {
-                WorkerFault::Memory => 0,
-                WorkerFault::Foreign => 1,
-                WorkerFault::Threads => 2,
-                WorkerFault::Ledgers => 3,
-                WorkerFault::Token => 4,
-                WorkerFault::KernelThread => 5,
-            },
+        match fault {
+            WorkerFault::Memory => Halt::Memory,
+            WorkerFault::Foreign => Halt::Foreign,
+            WorkerFault::Threads => Halt::Lock,
+            WorkerFault::Token | WorkerFault::Ledgers | WorkerFault::KernelThread => Halt::Token,
         }
     }
 }
 
 impl From<Halt> for WorkerFault {
     ghost use Rattle.std.specs.Prelude.{◌≡◌};
-    ghost use Rattle.arachne_run.specs.Setups.{numbered};
+    ghost use Rattle.arachne_run.specs.Setups.{of_halt};
 
-    ghost from_gives = { λ halt fault. fault ≡ numbered halt.why };
+    ghost from_gives = { λ halt fault. fault ≡ of_halt halt };
 
     fn from(halt: Halt) -> WorkerFault {
-        match halt.why {
-            0 => WorkerFault::Memory,
-            1 => WorkerFault::Foreign,
-            2 => WorkerFault::Threads,
-            3 => WorkerFault::Ledgers,
-            5 => WorkerFault::KernelThread,
-            _ => WorkerFault::Token,
+        match halt {
+            Halt::Memory => WorkerFault::Memory,
+            Halt::Foreign => WorkerFault::Foreign,
+            Halt::Lock => WorkerFault::Threads,
+            Halt::Token => WorkerFault::Token,
         }
     }
 }

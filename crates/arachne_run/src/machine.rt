@@ -146,28 +146,15 @@ impl<C: Seats + Drop, K: Tagged + Drop> Machine<C, K> {
         ensures words { IfOk result (λ closed. IfSome tokens (λ tokens. closed.0.words.items ≡ map (λ sum. sum % 2 ^ 64) tokens.holdings.share.sums)) }
         ensures back { IsOk result → IsSome tokens × IfSome tokens (AreAllBack C.weight) }
     {
-        let Machine {
-            shared,
-            resources,
-            tickets,
-            table,
-            ..
-        } = self;
-        let SharedState { first_fault, .. } = shared;
-        let first = first_fault.into_inner();
-        let tokens = all_of(first, tokens, &table, &tickets, &resources.locks)?;
-        let Tokens {
-            seat,
-            pass,
-            holdings,
-            arbiter,
-        } = tokens;
-        let Some(arbiter) = arbiter else {
+        let first = self.shared.first_fault.into_inner();
+        let locks = &self.resources.locks;
+        let tokens = all_of(first, tokens, &self.table, &self.tickets, locks)?;
+        let Some(arbiter) = tokens.arbiter else {
             return Err(WorkerFault::Token);
         };
-        empty(rt, &tickets, pass);
-        end_table(rt, alloc, table, seat)?;
-        let remains = resources.close(alloc, holdings)?;
+        empty(rt, &self.tickets, tokens.pass);
+        end_table(rt, alloc, self.table, tokens.seat)?;
+        let remains = self.resources.close(alloc, tokens.holdings)?;
         Ok((remains, arbiter.applied()))
     }
 }
@@ -251,9 +238,7 @@ fn all_of<C: Seats, K: Tagged + Drop>(
     if let Some(fault) = first {
         return Err(fault);
     }
-    let Some(tokens) = tokens else {
-        return Err(WorkerFault::Token);
-    };
+    let tokens = tokens.ok_or(WorkerFault::Token)?;
     if table.is_whole(&tokens.seat)
         && tickets.is_whole(&tokens.pass)
         && tokens.holdings.share.is_whole()

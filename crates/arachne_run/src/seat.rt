@@ -95,13 +95,7 @@ impl<'a, H: Wait, T: RunJob, C: Contexts<T>, R: Rng + Drop, G: Gate> RunSeat<'a,
         requires tokens { AreIdle C.sits C.idle machine.now tokens }
         ensures { result ≡ ground_of machine.now }
     {
-        let Tokens {
-            seat,
-            pass,
-            holdings,
-            arbiter,
-        } = tokens;
-        let (seat, spare) = machine.table.split(rt, seat);
+        let (seat, spare) = machine.table.split(rt, tokens.seat);
         RunSeat {
             rt,
             gate,
@@ -113,8 +107,8 @@ impl<'a, H: Wait, T: RunJob, C: Contexts<T>, R: Rng + Drop, G: Gate> RunSeat<'a,
             held: None,
             spare,
             kept: Vec::new(alloc),
-            pass,
-            arbiter,
+            pass: tokens.pass,
+            arbiter: tokens.arbiter,
             forks: ForkSupplies {
                 chooser,
                 openings: Openings::new(),
@@ -122,7 +116,7 @@ impl<'a, H: Wait, T: RunJob, C: Contexts<T>, R: Rng + Drop, G: Gate> RunSeat<'a,
             },
             access: Access {
                 resources: &machine.resources,
-                holdings,
+                holdings: tokens.holdings,
             },
         }
     }
@@ -205,10 +199,10 @@ impl<'a, H: Wait + Clock, T: RunJob, C: Contexts<T>, R: Rng + Drop, G: Gate> Des
     #[inline(always)]
     fn advance(&mut self, pace: &mut Pace, left: &mut u32) -> Result<ThreadStop, Halt> {
         if self.is_broken {
-            return Err(Halt::from(WorkerFault::Token));
+            return Err(Halt::Token);
         }
         let Some(thread) = &mut self.held else {
-            return Err(Halt::from(WorkerFault::Token));
+            return Err(Halt::Token);
         };
         self.is_broken = true;
         let stop = go_on::<H, T, C, R>(
@@ -236,21 +230,21 @@ impl<'a, H: Wait + Clock, T: RunJob, C: Contexts<T>, R: Rng + Drop, G: Gate> Des
     #[inline(always)]
     fn rest(&mut self) -> Result<Rest, Halt> {
         if self.is_broken {
-            return Err(Halt::from(WorkerFault::Token));
+            return Err(Halt::Token);
         }
         let Some(InHand { held, grant }) = self.held.take() else {
-            return Err(Halt::from(WorkerFault::Token));
+            return Err(Halt::Token);
         };
         let Some(rest) = held.value.rest() else {
             self.held = Some(InHand { held, grant });
-            return Err(Halt::from(WorkerFault::Foreign));
+            return Err(Halt::Foreign);
         };
         let table = &self.machine.table;
         match table.put_back(self.rt, &mut self.seat, held, rest) {
             Ok(rested) => Ok(rested.or(rest)),
             Err(held) => {
                 self.held = Some(InHand { held, grant });
-                Err(Halt::from(WorkerFault::Token))
+                Err(Halt::Token)
             }
         }
     }
@@ -258,10 +252,10 @@ impl<'a, H: Wait + Clock, T: RunJob, C: Contexts<T>, R: Rng + Drop, G: Gate> Des
     #[inline(always)]
     fn end(&mut self, before: OccWord) -> Result<Option<ThreadId>, Halt> {
         if self.is_broken {
-            return Err(Halt::from(WorkerFault::Token));
+            return Err(Halt::Token);
         }
         let Some(InHand { held, grant }) = self.held.take() else {
-            return Err(Halt::from(WorkerFault::Token));
+            return Err(Halt::Token);
         };
         let table = &self.machine.table;
         match table.finish(self.rt, &mut self.seat, held) {
@@ -283,7 +277,7 @@ impl<'a, H: Wait + Clock, T: RunJob, C: Contexts<T>, R: Rng + Drop, G: Gate> Des
             }
             Err(held) => {
                 self.held = Some(InHand { held, grant });
-                Err(Halt::from(WorkerFault::Token))
+                Err(Halt::Token)
             }
         }
     }
@@ -294,22 +288,16 @@ impl<'a, H: Wait + Clock, T: RunJob, C: Contexts<T>, R: Rng + Drop, G: Gate> Des
 
     fn give_one_back(&mut self) -> Result<bool, Halt> {
         if self.is_broken {
-            return Err(Halt::from(WorkerFault::Token));
+            return Err(Halt::Token);
         }
         let Some(claim) = self.kept.pop() else {
             return Ok(false);
         };
-        let (rt, machine) = (self.rt, self.machine);
-        match give_place_back::<H, T, C>(rt, machine, &mut self.spare, claim) {
-            Ok(()) => {
-                machine.shared.room.place_was_left();
-                Ok(true)
-            }
-            Err(fault) => {
-                self.is_broken = true;
-                Err(Halt::from(fault))
-            }
-        }
+        self.is_broken = true;
+        give_place_back::<H, T, C>(self.rt, self.machine, &mut self.spare, claim)?;
+        self.is_broken = false;
+        self.machine.shared.room.place_was_left();
+        Ok(true)
     }
 
     #[inline(always)]
@@ -366,7 +354,7 @@ impl<'a, H: Wait + Clock, T: RunJob, C: Contexts<T>, R: Rng + Drop, G: Gate> Des
 
     fn take_ticket(&mut self) -> Result<TicketResult, Halt> {
         if self.is_broken {
-            return Err(Halt::from(WorkerFault::Token));
+            return Err(Halt::Token);
         }
         let (rt, machine) = (self.rt, self.machine);
         let room = &machine.shared.room;

@@ -1,6 +1,6 @@
 //! The atomic words by which the workers of a run wake and stop one another, and the first fault of any worker.
 ghost use Rattle.std.specs.Prelude.{◌≡◌, IfOk, MatchOption, Some};
-ghost use Rattle.arachne_run.specs.Setups.{numbered};
+ghost use Rattle.arachne_run.specs.Setups.{of_halt};
 
 use crate::fault::WorkerFault;
 use arachne_jobs::{CAPACITY, Room};
@@ -58,7 +58,7 @@ impl SharedState {
     }
 
     pub(crate) fn halt<H: Wait>(&self, rt: &H, halt: Halt) -> Failed
-        ensures { result.fault.value ≡ numbered halt.why }
+        ensures { result.fault.value ≡ of_halt halt }
     {
         self.fail(rt, WorkerFault::from(halt))
     }

@@ -4,7 +4,6 @@ ghost use Rattle.arachne_run.specs.Choosers.{IsLastOf};
 ghost use Rattle.arachne_run.specs.Tokens.{AreIdle, IsSetUp, ground_of};
 ghost use Rattle.arachne_run.specs.declared.fault.WorkerFault.TheVariants.{KernelThread, Token};
 
-use crate::access::Access;
 use crate::fault::WorkerFault;
 use crate::gate::Gate;
 use crate::machine::{Machine, Tokens};
@@ -39,6 +38,19 @@ struct WorkerShare<S, T: RunJob, R> {
     choosers: Vec<R>,
 }
 
+impl<S, T: RunJob, R> WorkerShare<S, T, R> {
+    fn without_root(tokens: Tokens<S, T::Ticket>, chooser: Option<R>, choosers: Vec<R>) -> Self
+        ensures { result ≡ record { tokens = tokens; root = None; chooser = chooser; choosers = choosers } }
+    {
+        WorkerShare {
+            tokens,
+            root: None,
+            chooser,
+            choosers,
+        }
+    }
+}
+
 impl<'a, T: RunJob, C: Contexts<T>, R: Rng + Drop, G: Gate> Team<WorkerShare<C::Seat, T, R>>
     for Workers<'a, C, T::Ticket, G> {
     ghost has = { λ workers share. AreIdle C.sits C.idle workers.machine.now share.tokens × IsSetUp C.core_count C.slot_count workers.machine.now };
@@ -64,32 +76,29 @@ impl<'a, T: RunJob, C: Contexts<T>, R: Rng + Drop, G: Gate> Team<WorkerShare<C::
         ensures root { (result.0.root ≡ share.root) × IfSome result.1 (λ theirs. theirs.root ≡ None) }
         ensures choosers { (result.0.chooser ≡ share.chooser) × IfSome result.1 (λ theirs. IsLastOf theirs.chooser share.choosers.items result.0.choosers.items) }
     {
-        let WorkerShare {
-            tokens,
-            root,
-            chooser,
-            mut choosers,
-        } = share;
-        let (tokens, others) = match tokens.split::<H, C>(rt, self.alloc, self.machine) {
-            Ok((own, others)) => (own, Some(others)),
-            Err(own) => (own, None),
-        };
-        let theirs = match others {
-            Some(tokens) => Some(WorkerShare {
-                tokens,
-                root: None,
-                chooser: choosers.pop(),
-                choosers: Vec::new(self.alloc),
-            }),
-            None => None,
-        };
-        let own = WorkerShare {
-            tokens,
-            root,
-            chooser,
-            choosers,
-        };
-        (own, theirs)
+        let mut choosers = share.choosers;
+        match share.tokens.split::<H, C>(rt, self.alloc, self.machine) {
+            Ok((tokens, others)) => {
+                let (chooser, none) = (choosers.pop(), Vec::new(self.alloc));
+                let theirs = WorkerShare::without_root(others, chooser, none);
+                (
+                    WorkerShare {
+                        tokens,
+                        choosers,
+                        ..share
+                    },
+                    Some(theirs),
+                )
+            }
+            Err(tokens) => (
+                WorkerShare {
+                    tokens,
+                    choosers,
+                    ..share
+                },
+                None,
+            ),
+        }
     }
 
     /// Runs the worker of core `number` until all workers stop, beginning with the root thread if this worker has it.
@@ -101,13 +110,8 @@ impl<'a, T: RunJob, C: Contexts<T>, R: Rng + Drop, G: Gate> Team<WorkerShare<C::
         number: u8,
         share: WorkerShare<C::Seat, T, R>,
     ) -> Option<WorkerShare<C::Seat, T, R>> {
-        let WorkerShare {
-            tokens,
-            root,
-            chooser,
-            choosers,
-        } = share;
         let (alloc, machine, gate) = (self.alloc, self.machine, self.gate);
+        let (chooser, tokens, root) = (share.chooser, share.tokens, share.root);
         let mut worker = open_worker::<H, T, C, R, G>(
             rt, alloc, machine, gate, number, chooser, tokens, root,
         ).ok()?;
@@ -115,14 +119,8 @@ impl<'a, T: RunJob, C: Contexts<T>, R: Rng + Drop, G: Gate> Team<WorkerShare<C::
             machine.shared.halt(rt, halt);
             return None;
         }
-        let CoreWorker { desk, .. } = worker;
-        let tokens = into_tokens(machine, desk).ok()?;
-        Some(WorkerShare {
-            tokens,
-            root: None,
-            chooser: None,
-            choosers,
-        })
+        let tokens = into_tokens(machine, worker.desk).ok()?;
+        Some(WorkerShare::without_root(tokens, None, share.choosers))
     }
 
     fn join<H: Wait>(
@@ -136,13 +134,8 @@ impl<'a, T: RunJob, C: Contexts<T>, R: Rng + Drop, G: Gate> Team<WorkerShare<C::
         ensures idle { IfSome result (λ both. AreIdle C.sits C.idle self.now.machine.now both.tokens × IsSetUp C.core_count C.slot_count self.now.machine.now) }
         ensures orders { IfSome result (λ both. both.tokens.arbiter ≡ share.tokens.arbiter) }
     {
-        let WorkerShare { tokens, .. } = share;
-        Some(WorkerShare {
-            tokens: tokens.join::<H, C>(rt, self.machine, other.tokens),
-            root: None,
-            chooser: None,
-            choosers: Vec::new(self.alloc),
-        })
+        let tokens = share.tokens.join::<H, C>(rt, self.machine, other.tokens);
+        Some(WorkerShare::without_root(tokens, None, Vec::new(self.alloc)))
     }
 
     fn fail<H: Wait>(&self, rt: &H, fault: TeamFault) {
@@ -244,26 +237,13 @@ fn into_tokens<'a, H: Wait, T: RunJob, C: Contexts<T>, R: Rng + Drop, G: Gate>(
     ensures idle { IfOk result (AreIdle C.sits C.idle machine.now) }
     ensures fault { IfErr result (λ failed. failed.fault.value ≡ Token) }
 {
-    let RunSeat {
-        rt,
-        is_broken,
-        seat,
-        held,
-        spare,
-        kept,
-        pass,
-        arbiter,
-        access,
-        ..
-    } = desk;
-    let Access { holdings, .. } = access;
-    if is_broken || held.is_some() || !kept.is_empty() {
-        return Err(machine.shared.fail(rt, WorkerFault::Token));
+    if desk.is_broken || desk.held.is_some() || !desk.kept.is_empty() {
+        return Err(machine.shared.fail(desk.rt, WorkerFault::Token));
     }
     Ok(Tokens {
-        seat: machine.table.join_seats(rt, seat, spare),
-        pass,
-        holdings,
-        arbiter,
+        seat: machine.table.join_seats(desk.rt, desk.seat, desk.spare),
+        pass: desk.pass,
+        holdings: desk.access.holdings,
+        arbiter: desk.arbiter,
     })
 }

@@ -7,10 +7,17 @@ use arachne_arbiter::Pace;
 use arachne_contexts::Woken;
 use arachne_core::{MarkWord, OccWord, Place, Rest, SLOTS, ThreadId};
 
-/// An error that ends a worker. The implementation of `Desk` chooses the number `why` for each cause.
+/// The reason why a worker ends before it is stopped.
 #[derive(Clone, Copy, Debug, PartialEq, Eq)]
-pub struct Halt {
-    pub why: u8,
+pub enum Halt {
+    /// Memory was refused.
+    Memory,
+    /// A thread got a value that was not for it, or named an object that doesn't exist.
+    Foreign,
+    /// A thread asked for a lock that it had, or freed a lock that it didn't have.
+    Lock,
+    /// The table rejected a slot or a thread that it had given to the worker.
+    Token,
 }
 
 /// A worker's access to its context table, and to the current thread (the one that the worker runs now).

@@ -22,11 +22,15 @@ pub(crate) fn stay_awake<H: Clock>(rt: &H, pace: &mut Pace, hints: &Hints, core:
     }
 }
 
-/// Waits briefly after `tries` failed attempts to use a lock object that another kernel thread is using. After the
-/// first attempts this call spins, longer each time. Later it yields the processor or, if yields take long, sleeps.
-pub fn stand_by<H: Clock>(rt: &H, pace: &mut Pace, tries: u32) {
-    if policy::spins(tries, pace.may_yield()) {
-        for _ in 0..policy::spins_of(tries) {
+/// Waits briefly after a failed attempt to use a lock object that another kernel thread is using, and counts it.
+///
+/// `tries` is the number of such attempts in a row before. After the first attempts this call spins, longer each time.
+/// Later it yields the processor or, if yields take long, sleeps.
+pub fn stand_by<H: Clock>(rt: &H, pace: &mut Pace, tries: &mut u32) {
+    let before = *tries;
+    *tries = before.saturating_add(1);
+    if policy::spins(before, pace.may_yield()) {
+        for _ in 0..policy::spins_of(before) {
             spin_loop();
         }
     } else if pace.may_yield() {

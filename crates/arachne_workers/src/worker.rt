@@ -176,17 +176,14 @@ impl<'a, H: Wait + Clock, D: Desk> CoreWorker<'a, H, D> {
             return Ok(false);
         }
         match self.desk.take_ticket()? {
-            TicketResult::None => Ok(false),
-            TicketResult::Gone => {
-                self.desk.told(WorkerEvent::Ticket(false));
-                Ok(true)
-            }
+            TicketResult::None => return Ok(false),
+            TicketResult::Gone => self.desk.told(WorkerEvent::Ticket(false)),
             TicketResult::Posted(post) => {
                 self.desk.told(WorkerEvent::Ticket(true));
                 posted(&mut self.agenda, self.shared, self.core, post);
-                Ok(true)
             }
         }
+        Ok(true)
     }
 
     /// Carries out the orders that are due to open or close cores, if that is this worker's task.
