@@ -6,18 +6,18 @@
 #![tactic(auto)]
 
 mod arbiter;
+mod backoff;
 mod choice;
 mod cores;
 mod draining;
 mod orders;
-mod pace;
 mod parking;
 mod placement;
 mod slices;
 
 pub use arbiter::Arbiter;
+pub use backoff::Backoff;
 pub use choice::first_core;
 pub use cores::Cores;
-pub use pace::Pace;
 pub use parking::{Parking, Unparked};
 pub use slices::SliceCounts;

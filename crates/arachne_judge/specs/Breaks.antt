@@ -2,8 +2,8 @@
 use Rattle.std.specs.Prelude.{◌≡◌, ◌<◌, ◌≤◌, ℕ, ◌+◌, ◌-◌, ◌/◌, ◌^◌, Bool, true, false, not, ◌&&◌, ◌||◌, ◌==◌, nat_lt, nat_le, min, if◌then◌else◌, is_none, Option, None, Some, option_and_then, slice_get, slice_index_or}
 use Rattle.arachne_core.specs.declared.thread_id.ThreadId.{ThreadId}
 use Rattle.arachne_policy.specs.declared.orders.CoreOrder.{CoreOrder}
-use Rattle.arachne_workers.specs.declared.desk.SliceEnd.{SliceEnd}
-use Rattle.arachne_workers.specs.declared.desk.SliceEnd.TheVariants.{GoesOn, AwaitsChild, Awaits, Ended}
+use Rattle.arachne_workers.specs.declared.dispatch.SliceEnd.{SliceEnd}
+use Rattle.arachne_workers.specs.declared.dispatch.SliceEnd.TheVariants.{GoesOn, AwaitsChild, Awaits, Ended}
 use Rattle.arachne_judge.specs.declared.{case.Case.Case, cores.Core.Core, threads.ThreadFacts.ThreadFacts, rules.Broken.Broken, rules.Rule.Rule}
 use Rattle.arachne_judge.specs.declared.rules.Rule.TheVariants.{OwnCore, InHand, Numbers, Quantum, Due, CoreZero, Parks, Unparks, Alone, Upwards, Places, Stays, Pulls}
 use Rattle.arachne_judge.specs.Rules.{number_of, broken_if}

@@ -23,13 +23,13 @@ use Rattle.arachne_pool.specs.contracts.links.Links as links
 use Rattle.arachne_pool.specs.contracts.links.Links.TheInside as links_inside
 use Rattle.arachne_pool.specs.contracts.spawned.Spawned as spawned
 use Rattle.arachne_pool.specs.contracts.spawned.Spawned.TheInside as spawned_inside
-use Rattle.arachne_pool.specs.contracts.worker.Bench as bench
+use Rattle.arachne_pool.specs.contracts.worker.WorkerState as state
 use Rattle.arachne_pool.specs.contracts.stack.JobFrame as frame
 use Rattle.arachne_pool.specs.contracts.stack.JobFrame.TheInside as frame_inside
 use Rattle.arachne_pool.specs.contracts.stack.Stack as stack
 use Rattle.arachne_pool.specs.contracts.stack.Stack.TheInside as stack_inside
 use Rattle.arachne_arbiter.proofs.arbiter.Arbiter.TheSendSync as arbiter
-use Rattle.arachne_arbiter.proofs.pace.Pace.TheSendSync as pace
+use Rattle.arachne_arbiter.proofs.backoff.Backoff.TheSendSync as backoff
 use Rattle.arachne_join.specs.contracts.ends.Receiver as receiver
 use Rattle.arachne_pool.specs.contracts.worker.Worker as worker
 use Rattle.arachne_pool.specs.contracts.worker.Worker.TheInside as worker_inside
@@ -100,14 +100,14 @@ module _ (J O : RattleType) (P : pool_job.Ghosts J.Denot O.Denot) (G : tagged.Gh
   cells_send = struct_send (struct.shape (spare.the_type (outcome.the_row J O) (wanted.the_row J) link))
       (search (sendable, std.crosses, unused_send (outcome.the_row J O) (wanted.the_row J) link outcome_send) depth 20)
 
-  bench_send : IsSend (bench.the_field J O P G).row
-  bench_send = struct_send (struct.shape (bench.the_type J O P G))
+  state_send : IsSend (state.the_field J O P G).row
+  state_send = struct_send (struct.shape (state.the_type J O P G))
       (search (sendable, std.crosses) depth 10, (std.Deque-send (spawned.the_row J O P G) spawned_send, (cells_send, (chooser.the_send, search (sendable, std.crosses, arbiter.the_send) depth 40))))
 
   module _ (S : RattleType) (seat : IsSend S) where
     worker_in_send : IsSend (worker_inside.the_row S J O P G)
     worker_in_send = fields_send (worker_inside.the_type S J O P G)
-        (search (sendable, std.crosses, seat) depth 10, (bench_send, search (sendable, std.crosses, pace.the_send) depth 20))
+        (search (sendable, std.crosses, seat) depth 10, (state_send, search (sendable, std.crosses, backoff.the_send) depth 20))
 
     pub worker_send : IsSend (worker.the_row S J O P G)
     worker_send = search (sendable, worker_in_send) depth 10

@@ -7,11 +7,11 @@ use Rattle.arachne_pool.specs.declared.pool.Pool.{Pool}
 use Rattle.arachne_pool.specs.declared.tally.Tally.{Tally}
 use Rattle.arachne_policy.specs.declared.orders.CoreOrder.{CoreOrder}
 use Rattle.arachne_policy.specs.declared.orders.OrderKind.TheVariants.{Release}
-use Rattle.arachne_workers.specs.declared.queue.Agenda.{Agenda}
+use Rattle.arachne_workers.specs.declared.queue.RunQueue.{RunQueue}
 
 -- a worker's seat, unless it has lost it; its queue of jobs that wait for a slot, the oldest first; its counts of jobs,
 -- and the part of them that was reported to the pool; its orders, if any; the core on which it last worked, at first a
--- number that is no core's; and its agenda
+-- number that is no core's; and its queue
 pub record WorkerView (Seat Job : Type 0) : Type 0 where
   pub seat : Option Seat
   pub waiting : List (Being Job)
@@ -19,11 +19,11 @@ pub record WorkerView (Seat Job : Type 0) : Type 0 where
   pub told : Tally
   pub arbiter : Option Progress
   pub core : ℕ
-  pub agenda : Agenda
+  pub queue : RunQueue
 
 -- true if no job has made a step by this worker
 abbrev pub HasMadeNoStep : {Seat Job : Type 0} → WorkerView Seat Job → Type 0
-HasMadeNoStep worker = worker.agenda.lag.most ≡ 0
+HasMadeNoStep worker = worker.queue.lag.most ≡ 0
 
 -- true if the worker has worked for none of these cores
 abbrev pub HasNoCore : {Seat Job : Type 0} → ℕ → WorkerView Seat Job → Type 0

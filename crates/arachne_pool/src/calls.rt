@@ -4,7 +4,7 @@ ghost use Rattle.arachne_pool.specs.Calls.{HasSeatAfter};
 ghost use Rattle.arachne_pool.specs.Grounds.{ground_at};
 ghost use Rattle.arachne_pool.specs.Waking.{HasWoken};
 ghost use Rattle.arachne_pool.specs.Workers.{IsIdleAt, IsWorkerOf, WorksFor};
-ghost use Rattle.arachne_workers.specs.Agendas.{LooksWithin};
+ghost use Rattle.arachne_workers.specs.RunQueues.{LooksWithin};
 
 use crate::job::PoolJob;
 use crate::pool::Pool;
@@ -13,7 +13,7 @@ use crate::spawned::Spawned;
 use crate::worker::{PoolFault, Worker};
 use arachne_contexts::{Contexts, Seats, Woken};
 use arachne_core::{MarkWord, Rest, ThreadId};
-use arachne_workers::{CoreWorker, Desk, WorkerEvent};
+use arachne_workers::{CoreWorker, Dispatch, WorkerEvent};
 use std::mem::replace;
 use std::sync::Wait;
 use std::sync::atomic::Ordering;
@@ -39,7 +39,7 @@ impl<C: Seats> Pool<C> {
         ensures worker { IsWorkerOf self.now worker.new }
         ensures seat { HasSeatAfter worker.new.seat result }
         ensures same { WorksFor core worker.new }
-        ensures heeds { LooksWithin (max 1 J.most_steps) worker.old.agenda worker.new.agenda }
+        ensures heeds { LooksWithin (max 1 J.most_steps) worker.old.queue worker.new.queue }
     {
         let mut kernel = self.enter(rt, worker, core, false);
         let Some(rounds) = &mut kernel else {
@@ -47,9 +47,9 @@ impl<C: Seats> Pool<C> {
         };
         let found = run_once(rounds);
         let has_seat = self.leave(worker, core, &mut kernel);
-        let is_short = replace(&mut worker.bench.is_short, false);
+        let is_short = replace(&mut worker.state.is_short, false);
         // Even if the round failed: a job may have ended in the round.
-        if replace(&mut worker.bench.has_ended, false) {
+        if replace(&mut worker.state.has_ended, false) {
             self.wake_if_over();
         }
         if !has_seat {
@@ -79,7 +79,7 @@ impl<C: Seats> Pool<C> {
         ensures worker { IsWorkerOf self.now worker.new }
         ensures seat { HasSeatAfter worker.new.seat result }
         ensures same { WorksFor core worker.new }
-        ensures heeds { LooksWithin (max 1 J.most_steps) worker.old.agenda worker.new.agenda }
+        ensures heeds { LooksWithin (max 1 J.most_steps) worker.old.queue worker.new.queue }
     {
         self.worked.fetch_or(1 << u32::from(core), Ordering::SeqCst);
         let mut kernel = self.enter(rt, worker, core, true);
@@ -157,9 +157,9 @@ impl<C: Seats> Pool<C> {
         C: Contexts<Spawned<J>>,
         requires worker { IsWorkerOf self.now worker.old }
         requires core { core < self.now.cores }
-        ensures kernel { IfSome result (λ k. (k.desk ≡ ground_at self.now.table self.now.cores) × (k.agenda ≡ worker.old.agenda)) }
+        ensures kernel { IfSome result (λ k. (k.dispatch ≡ ground_at self.now.table self.now.cores) × (k.queue ≡ worker.old.queue)) }
         ensures worker { IsNone result → IsWorkerOf self.now worker.new }
-        ensures same { IsNone result → WorksFor core worker.new × (worker.new.agenda ≡ worker.old.agenda) }
+        ensures same { IsNone result → WorksFor core worker.new × (worker.new.queue ≡ worker.old.queue) }
     {
         let before = replace(&mut worker.core, core);
         if before != core && before < self.cores {
@@ -168,11 +168,11 @@ impl<C: Seats> Pool<C> {
             self.shared.hint_cores(1 << u32::from(before));
         }
         let seat = worker.seat.take()?;
-        let empty = Worker::new(worker.bench.alloc, None, 0);
+        let empty = Worker::new(worker.state.alloc, None, 0);
         let Worker {
-            bench,
-            agenda,
-            pace,
+            state,
+            queue,
+            backoff,
             ..
         } = replace(worker, empty);
         Some(CoreWorker {
@@ -181,10 +181,10 @@ impl<C: Seats> Pool<C> {
             core,
             slots: self.slots,
             helps: false,
-            agenda,
+            queue,
             slices: 0,
-            pace,
-            desk: Seat {
+            backoff,
+            dispatch: Seat {
                 rt,
                 pool: self,
                 core,
@@ -194,7 +194,7 @@ impl<C: Seats> Pool<C> {
                 held: None,
                 asked: Rest::Ready,
                 has_taken: false,
-                bench,
+                state,
             },
         })
     }
@@ -212,35 +212,35 @@ impl<C: Seats> Pool<C> {
     where
         C: Contexts<Spawned<J>>,
         requires some { IsSome kernel.old }
-        requires desk { IfSome kernel.old (λ k. k.desk ≡ ground_at self.now.table self.now.cores) }
+        requires dispatch { IfSome kernel.old (λ k. k.dispatch ≡ ground_at self.now.table self.now.cores) }
         requires core { core < self.now.cores }
         ensures worker { IsWorkerOf self.now worker.new }
         ensures same { WorksFor core worker.new }
-        ensures agenda { IfSome kernel.old (λ k. worker.new.agenda ≡ k.agenda) }
+        ensures queue { IfSome kernel.old (λ k. worker.new.queue ≡ k.queue) }
         ensures seat { IsTrue result ↔ IsSome worker.new.seat }
     {
         let Some(kernel) = kernel.take() else {
             unreachable!()
         };
         let CoreWorker {
-            agenda,
-            pace,
-            desk,
+            queue,
+            backoff,
+            dispatch,
             ..
         } = kernel;
         let Seat {
             is_broken,
             seat,
             held,
-            bench,
+            state,
             ..
-        } = desk;
+        } = dispatch;
         *worker = Worker {
             seat: None,
-            bench,
+            state,
             core,
-            agenda,
-            pace,
+            queue,
+            backoff,
         };
         if is_broken || held.is_some() {
             return false;
@@ -251,9 +251,11 @@ impl<C: Seats> Pool<C> {
 }
 
 /// Makes a pass of the worker's loop, and a second one if the first found something to do but ran no job.
-fn run_once<H: Wait + Clock, D: Desk>(kernel: &mut CoreWorker<'_, H, D>) -> Result<bool, PoolFault>
-    ensures desk { kernel.new.desk ≡ kernel.old.desk }
-    ensures heeds { LooksWithin (D.largest_quantum kernel.old.desk) kernel.old.agenda kernel.new.agenda }
+fn run_once<H: Wait + Clock, D: Dispatch>(
+    kernel: &mut CoreWorker<'_, H, D>,
+) -> Result<bool, PoolFault>
+    ensures dispatch { kernel.new.dispatch ≡ kernel.old.dispatch }
+    ensures heeds { LooksWithin (D.largest_quantum kernel.old.dispatch) kernel.old.queue kernel.new.queue }
 {
     kernel.tend();
     let mut found = kernel.round(0);
@@ -270,10 +272,10 @@ fn run_once<H: Wait + Clock, D: Desk>(kernel: &mut CoreWorker<'_, H, D>) -> Resu
 fn run<'a, H: Wait + Clock, J: PoolJob, C: Contexts<Spawned<J>>>(
     kernel: &mut CoreWorker<'a, H, Seat<'a, H, J, C>>,
 ) -> Result<(), PoolFault>
-    ensures desk { kernel.new.desk ≡ kernel.old.desk }
-    ensures heeds { LooksWithin (max 1 J.most_steps) kernel.old.agenda kernel.new.agenda }
+    ensures dispatch { kernel.new.dispatch ≡ kernel.old.dispatch }
+    ensures heeds { LooksWithin (max 1 J.most_steps) kernel.old.queue kernel.new.queue }
 {
-    let pool = kernel.desk.pool;
+    let pool = kernel.dispatch.pool;
     // The number of consecutive rounds that have found nothing.
     let mut idle: u32 = 0;
     let mut may_be_over = true;
@@ -281,13 +283,13 @@ fn run<'a, H: Wait + Clock, J: PoolJob, C: Contexts<Spawned<J>>>(
         if kernel.shared.is_stopped() || may_be_over && pool.is_over() {
             if idle > 0 && kernel.shared.hints().is_asleep(kernel.core) {
                 // The worker's sleep timed out: nobody has woken the worker at the end.
-                kernel.desk.told(WorkerEvent::Overslept);
+                kernel.dispatch.told(WorkerEvent::Overslept);
             }
             return Ok(());
         }
         let slices = kernel.slices;
         let found = kernel.round(idle)?;
-        if replace(&mut kernel.desk.bench.is_short, false) {
+        if replace(&mut kernel.dispatch.state.is_short, false) {
             return Err(PoolFault::Memory);
         }
         // A round without a slice may have parked, and the worker may have been unparked because all jobs have ended.

@@ -8,7 +8,7 @@ use crate::job::PoolJob;
 use crate::pool::Pool;
 use crate::spawned::Spawned;
 use crate::tally::Tally;
-use crate::worker::{Bench, Worker};
+use crate::worker::{Worker, WorkerState};
 use arachne_arbiter::Arbiter;
 use arachne_contexts::{Contexts, Seats};
 use arachne_core::ThreadId;
@@ -96,8 +96,8 @@ impl<C: Seats> Pool<C> {
                 orders.insert(0, closes)?;
             }
         }
-        let orders = Arbiter::new(worker.bench.alloc, orders, self.cores)?;
-        worker.bench.orders = Some(orders);
+        let orders = Arbiter::new(worker.state.alloc, orders, self.cores)?;
+        worker.state.orders = Some(orders);
         Ok(())
     }
 
@@ -120,10 +120,10 @@ impl<C: Seats> Pool<C> {
         if !self.is_whole(&worker) {
             return Err(NotClosed::NotWhole(self, worker));
         }
-        let Worker { seat, bench, .. } = worker;
+        let Worker { seat, state, .. } = worker;
         let Some(seat) = seat else { unreachable!() };
         let Pool { table, .. } = self;
-        let Bench { near, tally, .. } = bench;
+        let WorkerState { near, tally, .. } = state;
         let placed = match table.close(rt, alloc, seat) {
             Ok(placed) => placed,
             Err((table, seat)) => return Err(NotClosed::Memory(table, seat, near)),

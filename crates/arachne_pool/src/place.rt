@@ -8,7 +8,7 @@ ghost use Rattle.arachne_pool.specs.Jobs.{PartsOne};
 use crate::job::PoolJob;
 use crate::pool::Pool;
 use crate::spawned::Spawned;
-use crate::worker::{Bench, disowned};
+use crate::worker::{WorkerState, disowned};
 use arachne_contexts::{Contexts, Held, Placed};
 use arachne_workers::{Halt, PostedThread, SharedWords};
 use rand_xoshiro::Xoshiro256PlusPlus;
@@ -102,24 +102,24 @@ pub(crate) fn place_oldest<H: Wait, J: PoolJob, C: Contexts<Spawned<J>>>(
     rt: &H,
     pool: &Pool<C>,
     seat: &mut C::Seat,
-    bench: &mut Bench<J>,
+    state: &mut WorkerState<J>,
 ) -> Result<Option<Posted<J>>, Halt>
     requires seat { C.sits pool.now.table seat.old }
     requires known { IsKnown (C.has pool.now.table) seat.old }
     ensures seat { C.sits pool.now.table seat.new }
     ensures out { OnOk result (KeepsOut (C.has pool.now.table) seat.old seat.new) }
-    ensures same { bench.new ≡ record bench.old { near = bench.new.near; chooser = bench.new.chooser } }
-    ensures near { IfOk result (λ posted. MatchOption posted (bench.new.near.items ≡ bench.old.near.items) (λ at. bench.old.near.items ≡ at.job.value ∷ bench.new.near.items)) }
+    ensures same { state.new ≡ record state.old { near = state.new.near; chooser = state.new.chooser } }
+    ensures near { IfOk result (λ posted. MatchOption posted (state.new.near.items ≡ state.old.near.items) (λ at. state.old.near.items ≡ at.job.value ∷ state.new.near.items)) }
 {
-    let Some(job) = bench.near.front() else {
+    let Some(job) = state.near.front() else {
         return Ok(None);
     };
     let is_exclusive = job.stack.job().is_exclusive();
-    let claim = claim::<H, J, C>(rt, pool, seat, &mut bench.chooser, is_exclusive);
+    let claim = claim::<H, J, C>(rt, pool, seat, &mut state.chooser, is_exclusive);
     let Ok(Some(claim)) = claim else {
         return Ok(None);
     };
-    let Some(job) = bench.near.pop_front() else {
+    let Some(job) = state.near.pop_front() else {
         unreachable!()
     };
     let post = post::<H, J, C>(rt, pool, seat, claim, job)?;
@@ -132,7 +132,7 @@ pub(crate) fn post_oldest<H: Wait, J: PoolJob, C: Contexts<Spawned<J>>>(
     rt: &H,
     pool: &Pool<C>,
     seat: &mut C::Seat,
-    bench: &mut Bench<J>,
+    state: &mut WorkerState<J>,
     held: &mut Held<Spawned<J>, C::Hold>,
 ) -> Result<Option<Posted<J>>, Halt>
     requires seat { C.sits pool.now.table seat.old }
@@ -141,20 +141,20 @@ pub(crate) fn post_oldest<H: Wait, J: PoolJob, C: Contexts<Spawned<J>>>(
     ensures out { OnOk result (C.has pool.now.table seat.new (thread_in (λ s. s.tag) held.new ∷ [])) }
     ensures parted { IfOk result (λ posted. MatchOption posted (held.new.value ≡ held.old.value) (λ p. PartsOne (C.Hold.id_of held.old.hold) held.old.value held.new.value p.job.value)) }
     ensures hold { held.new.hold ≡ held.old.hold }
-    ensures same { bench.new ≡ record bench.old { cells = bench.new.cells; chooser = bench.new.chooser; is_short = bench.new.is_short } }
+    ensures same { state.new ≡ record state.old { cells = state.new.cells; chooser = state.new.chooser; is_short = state.new.is_short } }
 {
     if held.value.stack.links.aside() == 0 || !pool.has_room() {
         return Ok(None);
     }
     let is_exclusive = held.value.stack.links.is_oldest_exclusive();
-    let claim = claim::<H, J, C>(rt, pool, seat, &mut bench.chooser, is_exclusive);
+    let claim = claim::<H, J, C>(rt, pool, seat, &mut state.chooser, is_exclusive);
     let Ok(Some(claim)) = claim else {
         return Ok(None);
     };
     let me = held.id();
-    let child = held.value.part_oldest(bench.alloc, &mut bench.cells, me);
+    let child = held.value.part_oldest(state.alloc, &mut state.cells, me);
     let Some(child) = child else {
-        bench.is_short = true;
+        state.is_short = true;
         return match pool.table.give_back(rt, seat, claim) {
             Ok(()) => Ok(None),
             Err(_) => Err(disowned()),

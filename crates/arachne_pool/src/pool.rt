@@ -87,7 +87,7 @@ impl<C: Seats + Drop> Pool<C> {
             overslept: AtomicU64::new(0),
         };
         let mut worker = Worker::new(alloc, Some(seat), 0);
-        worker.bench.orders = Some(orders);
+        worker.state.orders = Some(orders);
         Ok((pool, worker))
     }
 }

@@ -7,11 +7,11 @@ use crate::place::{place_oldest, post_oldest};
 use crate::pool::Pool;
 use crate::spawned::{Ended, Spawned};
 use crate::stack::JobStop;
-use crate::worker::{Bench, disowned};
-use arachne_arbiter::Pace;
+use crate::worker::{WorkerState, disowned};
+use arachne_arbiter::Backoff;
 use arachne_contexts::{Contexts, Held, Moved, Taken, Woken};
 use arachne_core::{MarkWord, OccWord, Place, Rest, ThreadId};
-use arachne_workers::{Desk, Grip, Halt, ThreadStop, TicketResult, WorkerEvent, is_drained};
+use arachne_workers::{Dispatch, Grip, Halt, ThreadStop, TicketResult, WorkerEvent, is_drained};
 use std::marker::Model;
 use std::mem::replace;
 use std::sync::Wait;
@@ -34,7 +34,7 @@ pub(crate) struct Seat<'a, H, J: PoolJob, C: Contexts<Spawned<J>>> {
     pub(crate) asked: Rest,
     /// True if the worker has begun to run a job since it last looked for jobs of other cores.
     pub(crate) has_taken: bool,
-    pub(crate) bench: Bench<J>,
+    pub(crate) state: WorkerState<J>,
 }
 
 impl<'a, H, J: PoolJob, C: Contexts<Spawned<J>>> Model for Seat<'a, H, J, C> {
@@ -46,11 +46,11 @@ impl<'a, H, J: PoolJob, C: Contexts<Spawned<J>>> Model for Seat<'a, H, J, C> {
 
     ghost view = { λ s. ground_at s.pool.now.table s.pool.now.cores };
 
-    ghost invariant = { λ s. (s.core < s.pool.now.cores) × C.sits s.pool.now.table s.seat × IsArbiterFor s.pool.now.cores s.bench.orders
+    ghost invariant = { λ s. (s.core < s.pool.now.cores) × C.sits s.pool.now.table s.seat × IsArbiterFor s.pool.now.cores s.state.orders
         × (s.is_broken ≡ false → C.has s.pool.now.table s.seat (in_hand (λ job. job.tag) s.held)) };
 }
 
-impl<'a, H: Wait, J: PoolJob, C: Contexts<Spawned<J>>> Desk for Seat<'a, H, J, C> {
+impl<'a, H: Wait, J: PoolJob, C: Contexts<Spawned<J>>> Dispatch for Seat<'a, H, J, C> {
     ghost largest_quantum = { λ _. max 1 J.most_steps };
 
     #[inline(always)]
@@ -82,7 +82,7 @@ impl<'a, H: Wait, J: PoolJob, C: Contexts<Spawned<J>>> Desk for Seat<'a, H, J, C
     }
 
     #[inline(always)]
-    fn advance(&mut self, _pace: &mut Pace, left: &mut u32) -> Result<ThreadStop, Halt> {
+    fn advance(&mut self, _pace: &mut Backoff, left: &mut u32) -> Result<ThreadStop, Halt> {
         let mut stop = self.go_on(left);
         if stop == JobStop::Sleeps {
             stop = self.fall_asleep(left);
@@ -93,14 +93,14 @@ impl<'a, H: Wait, J: PoolJob, C: Contexts<Spawned<J>>> Desk for Seat<'a, H, J, C
         }
         self.asked = stop.rest();
         // Reports the spawn before the child gets a slot, since its end must not be counted before its spawn.
-        self.pool.live.add(self.core, self.bench.news());
+        self.pool.live.add(self.core, self.state.unreported());
         match stop {
             JobStop::Waits | JobStop::Sleeps => Ok(ThreadStop::Blocks),
             JobStop::LetsGo => Ok(ThreadStop::Goes),
             JobStop::Short => {
                 // Uses up the slice: the job tries again in its next one.
                 *left = 0;
-                self.bench.is_short = true;
+                self.state.is_short = true;
                 Ok(ThreadStop::Goes)
             }
             _ => self.post_oldest(),
@@ -145,7 +145,7 @@ impl<'a, H: Wait, J: PoolJob, C: Contexts<Spawned<J>>> Desk for Seat<'a, H, J, C
         let Some(held) = self.held.take() else {
             unreachable!()
         };
-        self.bench.has_ended = true;
+        self.state.has_ended = true;
         let table = &self.pool.table;
         match table.finish(self.rt, &mut self.seat, held) {
             Ok(job) => {
@@ -202,11 +202,11 @@ impl<'a, H: Wait, J: PoolJob, C: Contexts<Spawned<J>>> Desk for Seat<'a, H, J, C
 
     #[inline(always)]
     fn may_take_ticket(&mut self) -> bool {
-        if self.held.is_some() && (!self.works || self.bench.is_short) {
+        if self.held.is_some() && (!self.works || self.state.is_short) {
             // The current job has used its slice, so other jobs must run.
             return true;
         }
-        if !self.bench.near.is_empty() && self.pool.has_room() {
+        if !self.state.near.is_empty() && self.pool.has_room() {
             return true;
         }
         self.held.is_none() && !replace(&mut self.has_taken, false) && self.is_any_waiting()
@@ -217,8 +217,8 @@ impl<'a, H: Wait, J: PoolJob, C: Contexts<Spawned<J>>> Desk for Seat<'a, H, J, C
             return Err(disowned());
         }
         self.is_broken = true;
-        let bench = &mut self.bench;
-        let posted = place_oldest::<H, J, C>(self.rt, self.pool, &mut self.seat, bench)?;
+        let state = &mut self.state;
+        let posted = place_oldest::<H, J, C>(self.rt, self.pool, &mut self.seat, state)?;
         self.is_broken = false;
         let Some(posted) = posted else {
             return Ok(if self.fetch() {
@@ -237,7 +237,7 @@ impl<'a, H: Wait, J: PoolJob, C: Contexts<Spawned<J>>> Desk for Seat<'a, H, J, C
         let pool = self.pool;
         let cores = pool.cores::<H, Spawned<J>>(self.rt);
         let (parking, slices) = (pool.shared.parking(), pool.shared.slices());
-        match &mut self.bench.orders {
+        match &mut self.state.orders {
             Some(orders) => orders.tend(&cores, &mut self.seat, parking, slices),
             None => (None, 0),
         }
@@ -245,17 +245,17 @@ impl<'a, H: Wait, J: PoolJob, C: Contexts<Spawned<J>>> Desk for Seat<'a, H, J, C
 
     #[inline(always)]
     fn has_orders(&self) -> bool {
-        match &self.bench.orders {
+        match &self.state.orders {
             Some(orders) => orders.has_any(),
             None => false,
         }
     }
 
     fn is_waited_for(&self) -> bool {
-        if !self.works || !self.bench.near.is_empty() {
+        if !self.works || !self.state.near.is_empty() {
             return true;
         }
-        match &self.bench.orders {
+        match &self.state.orders {
             Some(orders) => !orders.are_over(),
             None => false,
         }
@@ -277,30 +277,30 @@ impl<'a, H: Wait, J: PoolJob, C: Contexts<Spawned<J>>> Seat<'a, H, J, C> {
     /// Runs the current job for at most `left` steps, and detaches the children that an ended job never joined.
     #[inline(always)]
     fn go_on(&mut self, left: &mut u32) -> JobStop
-        ensures desk { self.new ≡ self.old }
+        ensures dispatch { self.new ≡ self.old }
         ensures left { left.new ≤ left.old }
     {
         let Some(held) = &mut self.held else {
             return JobStop::Waits;
         };
-        let bench = &mut self.bench;
+        let state = &mut self.state;
         let may_post = self.pool.has_room();
         let stack = &mut held.value.stack;
-        let stop = stack.slice(&mut bench.cells, &mut bench.tally, left, may_post);
-        if stop != JobStop::LetsGo || !bench.let_go(&mut held.value) {
+        let stop = stack.slice(&mut state.cells, &mut state.tally, left, may_post);
+        if stop != JobStop::LetsGo || !state.let_go(&mut held.value) {
             return stop;
         }
         let stack = &mut held.value.stack;
-        stack.slice(&mut bench.cells, &mut bench.tally, left, may_post)
+        stack.slice(&mut state.cells, &mut state.tally, left, may_post)
     }
 
     /// Returns the ended job's parent, if it must be woken.
     #[inline(always)]
     fn count_end(&mut self, ended: Ended<J>) -> Option<ThreadId>
-        ensures desk { self.new ≡ self.old }
+        ensures dispatch { self.new ≡ self.old }
         ensures parent { result ≡ ended.parent }
     {
-        self.pool.live.add(self.core, self.bench.news());
+        self.pool.live.add(self.core, self.state.unreported());
         ended.parent
     }
 
@@ -315,8 +315,8 @@ impl<'a, H: Wait, J: PoolJob, C: Contexts<Spawned<J>>> Seat<'a, H, J, C> {
             return Err(disowned());
         };
         self.is_broken = true;
-        let bench = &mut self.bench;
-        let posted = post_oldest::<H, J, C>(self.rt, self.pool, &mut self.seat, bench, held)?;
+        let state = &mut self.state;
+        let posted = post_oldest::<H, J, C>(self.rt, self.pool, &mut self.seat, state, held)?;
         self.is_broken = false;
         let Some(posted) = posted else {
             return Ok(ThreadStop::Goes);

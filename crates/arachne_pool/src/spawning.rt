@@ -91,7 +91,7 @@ impl<C: Seats> Pool<C> {
             let why = Refusal::NoSeat;
             return Err(Refused { job, why });
         };
-        let chooser = &mut worker.bench.chooser;
+        let chooser = &mut worker.state.chooser;
         match claim::<H, J, C>(rt, self, &mut seat, chooser, job.is_exclusive()) {
             Ok(Some(claim)) => self.begin_at(rt, worker, seat, claim, job),
             Ok(None) => {
@@ -118,10 +118,10 @@ impl<C: Seats> Pool<C> {
         ensures last { OnOk result (worker.new.waiting ≡ worker.old.waiting ++ one (J.tag_of job) job None ∷ []) }
         ensures handed_back { IfErr result (λ back. (back.job ≡ job) × (back.why ≡ Memory) × (worker.new ≡ worker.old)) }
     {
-        match worker.bench.begin(job) {
+        match worker.state.begin(job) {
             Ok((handle, job)) => {
-                self.live.add(worker.core, worker.bench.news());
-                worker.bench.near.push_back_reserved(job);
+                self.live.add(worker.core, worker.state.unreported());
+                worker.state.near.push_back_reserved(job);
                 Ok(handle)
             }
             Err(job) => {
@@ -152,10 +152,10 @@ impl<C: Seats> Pool<C> {
         ensures handed_back { IfErr result (λ back. (back.why ≡ Memory) × HandsBack job worker.old worker.new back.job back.why) }
     {
         let mut seat = seat;
-        match worker.bench.begin(job) {
+        match worker.state.begin(job) {
             Ok((handle, job)) => {
                 // Before the job is posted: its end must not be counted before its spawn.
-                self.live.add(worker.core, worker.bench.news());
+                self.live.add(worker.core, worker.state.unreported());
                 match post::<H, J, C>(rt, self, &mut seat, claim, job) {
                     Ok(posted) => {
                         // Also the worker's own core: it may make no round.

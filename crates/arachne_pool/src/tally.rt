@@ -36,14 +36,14 @@ impl Live {
     }
 
     /// A spawn must be added before another worker can run the job.
-    pub(crate) fn add(&self, core: u8, news: Tally) {
+    pub(crate) fn add(&self, core: u8, unreported: Tally) {
         if let Some(told) = self.told.get(usize::from(core)).or(self.told.last()) {
             // Spawns are added first: `count` must not see the end of a job whose spawn it misses.
-            if news.spawned != 0 {
-                told.spawned.fetch_add(news.spawned, Ordering::SeqCst);
+            if unreported.spawned != 0 {
+                told.spawned.fetch_add(unreported.spawned, Ordering::SeqCst);
             }
-            if news.ended != 0 {
-                told.ended.fetch_add(news.ended, Ordering::SeqCst);
+            if unreported.ended != 0 {
+                told.ended.fetch_add(unreported.ended, Ordering::SeqCst);
             }
         }
     }

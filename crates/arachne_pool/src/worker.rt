@@ -12,9 +12,9 @@ use crate::job::PoolJob;
 use crate::pool::Pool;
 use crate::spawned::Spawned;
 use crate::tally::Tally;
-use arachne_arbiter::{Arbiter, Pace};
+use arachne_arbiter::{Arbiter, Backoff};
 use arachne_contexts::Seats;
-use arachne_workers::{Agenda, Halt};
+use arachne_workers::{Halt, RunQueue};
 use rand_core::{Rng, SeedableRng};
 use rand_xoshiro::Xoshiro256PlusPlus;
 use std::alloc::Global;
@@ -58,7 +58,7 @@ impl From<Halt> for PoolFault {
 
 /// The data of a worker that its loop and its calls share.
 #[derive(Drop)]
-pub(crate) struct Bench<J: PoolJob> {
+pub(crate) struct WorkerState<J: PoolJob> {
     pub(crate) alloc: Global,
     /// The jobs that wait for a slot before their first step, the oldest first.
     pub(crate) near: VecDeque<Spawned<J>>,
@@ -74,7 +74,7 @@ pub(crate) struct Bench<J: PoolJob> {
     pub(crate) has_ended: bool,
 }
 
-impl<J: PoolJob> Bench<J> {
+impl<J: PoolJob> WorkerState<J> {
     /// Counts `job` as spawned, and returns it with its handle; reserves memory for it in the queue `near`. If memory
     /// is refused, returns the job.
     pub(crate) fn begin(&mut self, job: J) -> Result<(Handle<J>, Spawned<J>), J>
@@ -130,32 +130,32 @@ impl<J: PoolJob> Bench<J> {
         true
     }
 
-    pub(crate) fn news(&mut self) -> Tally
+    pub(crate) fn unreported(&mut self) -> Tally
         ensures same { self.new ≡ record self.old { told = self.new.tally } }
         ensures spawned { self.old.told.spawned ≤ self.old.tally.spawned → self.old.told.spawned + result.spawned ≡ self.old.tally.spawned }
         ensures ended { self.old.told.ended ≤ self.old.tally.ended → self.old.told.ended + result.ended ≡ self.old.tally.ended }
     {
-        let news = Tally {
+        let unreported = Tally {
             spawned: self.tally.spawned.wrapping_sub(self.told.spawned),
             ended: self.tally.ended.wrapping_sub(self.told.ended),
         };
         self.told = self.tally;
-        news
+        unreported
     }
 }
 
 /// A worker, by which a kernel thread uses a pool: it runs the jobs of one core. One kernel thread at a time uses it.
 ///
 /// Contracts see the worker's right to use the table (`seat`), its orders to open or close cores, its waiting jobs, its
-/// counts of jobs and its core. Contracts also see the agenda, which counts steps since the worker last checked for a
-/// stop and for orders.
+/// counts of jobs and its core. Contracts also see the run queue, which counts steps since the worker last checked for
+/// a stop and for orders.
 #[derive(Drop)]
 pub struct Worker<S, J: PoolJob> {
     pub(crate) seat: Option<S>,
-    pub(crate) bench: Bench<J>,
+    pub(crate) state: WorkerState<J>,
     pub(crate) core: u8,
-    pub(crate) agenda: Agenda,
-    pub(crate) pace: Pace,
+    pub(crate) queue: RunQueue,
+    pub(crate) backoff: Backoff,
 }
 
 impl<S, J: PoolJob> Model for Worker<S, J> {
@@ -165,12 +165,12 @@ impl<S, J: PoolJob> Model for Worker<S, J> {
 
     ghost view = { λ w. record {
       seat = w.seat;
-      waiting = w.bench.near.items;
-      tally = w.bench.tally;
-      told = w.bench.told;
-      arbiter = w.bench.orders;
+      waiting = w.state.near.items;
+      tally = w.state.tally;
+      told = w.state.told;
+      arbiter = w.state.orders;
       core = w.core;
-      agenda = w.agenda;
+      queue = w.queue;
     } };
 }
 
@@ -179,7 +179,7 @@ impl<S, J: PoolJob> Worker<S, J> {
     pub fn tally(&self) -> Tally
         ensures { result ≡ self.now.tally }
     {
-        self.bench.tally
+        self.state.tally
     }
 
     /// Returns a worker whose random generator begins with `seed`.
@@ -195,7 +195,7 @@ impl<S, J: PoolJob> Worker<S, J> {
             spawned: 0,
             ended: 0,
         };
-        let bench = Bench {
+        let state = WorkerState {
             alloc,
             near: VecDeque::new(alloc),
             cells: Cells::new(alloc),
@@ -208,10 +208,10 @@ impl<S, J: PoolJob> Worker<S, J> {
         };
         Worker {
             seat,
-            bench,
+            state,
             core: u8::MAX,
-            agenda: Agenda::new(alloc, None),
-            pace: Pace::new(),
+            queue: RunQueue::new(alloc, None),
+            backoff: Backoff::new(),
         }
     }
 }
@@ -239,8 +239,8 @@ impl<C: Seats> Pool<C> {
         ensures weight { HalvesWeight C.weight worker.seat result.0.seat result.1.seat }
     {
         let mut worker = worker;
-        let seed = worker.bench.chooser.next_u64();
-        let alloc = worker.bench.alloc;
+        let seed = worker.state.chooser.next_u64();
+        let alloc = worker.state.alloc;
         let Some(seat) = worker.seat.take() else {
             return (worker, Worker::new(alloc, None, seed));
         };
@@ -264,7 +264,7 @@ impl<C: Seats> Pool<C> {
         requires other { IsWorkerOf self.now other }
         ensures both { IfOk result (IsWorkerOf self.now) }
         ensures waiting { IfOk result (λ both. both.waiting ≡ worker.waiting ++ other.waiting) }
-        ensures same { IfOk result (λ both. (both.core ≡ worker.core) × (both.agenda ≡ worker.agenda)) }
+        ensures same { IfOk result (λ both. (both.core ≡ worker.core) × (both.queue ≡ worker.queue)) }
         ensures seat { IfOk result (λ both. IsSome worker.seat → IsSome other.seat → IsSome both.seat) }
         ensures weight { IfOk result (λ both. JoinsWeights C.weight worker.seat other.seat both.seat) }
         ensures spare { other.waiting ≡ [] → IsOk result }
@@ -276,17 +276,17 @@ impl<C: Seats> Pool<C> {
         ensures second_back { IfErr result (λ back. back.1 ≡ other) }
     {
         let (mut worker, mut other) = (worker, other);
-        if worker.bench.near.append(&mut other.bench.near).is_err() {
+        if worker.state.near.append(&mut other.state.near).is_err() {
             return Err((worker, other));
         }
         // Both workers have reported their counts to the pool.
-        let (own, theirs) = (worker.bench.tally, other.bench.tally);
-        worker.bench.tally = Tally {
+        let (own, theirs) = (worker.state.tally, other.state.tally);
+        worker.state.tally = Tally {
             spawned: own.spawned.saturating_add(theirs.spawned),
             ended: own.ended.saturating_add(theirs.ended),
         };
-        worker.bench.told = worker.bench.tally;
-        worker.bench.orders = worker.bench.orders.take().or(other.bench.orders.take());
+        worker.state.told = worker.state.tally;
+        worker.state.orders = worker.state.orders.take().or(other.state.orders.take());
         worker.seat = self.join_seats(rt, worker.seat.take(), other.seat.take());
         Ok(worker)
     }

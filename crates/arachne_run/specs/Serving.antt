@@ -2,8 +2,8 @@
 use Rattle.std.specs.Prelude.{◌≡◌, ◌≢◌, ℕ, List, Option, None, Some, Result, IsSomeAnd}
 use Rattle.arachne_machine.specs.declared.pause.Pending.{Pending}
 use Rattle.arachne_machine.specs.declared.pause.Pending.TheVariants as pause
-use Rattle.arachne_workers.specs.declared.desk.ThreadStop.{ThreadStop}
-use Rattle.arachne_workers.specs.declared.desk.ThreadStop.TheVariants as stop
+use Rattle.arachne_workers.specs.declared.dispatch.ThreadStop.{ThreadStop}
+use Rattle.arachne_workers.specs.declared.dispatch.ThreadStop.TheVariants as stop
 use Rattle.arachne_jobs.specs.declared.openings.Due.{Due}
 use Rattle.arachne_ledger.specs.Sums.{raised}
 use Rattle.arachne_sleep.specs.{Calls.{AskAnswer, CheckAnswer}, SleepLocks.ChangesAt, Views.SeatView}

@@ -6,8 +6,8 @@ use Rattle.arachne_run.specs.declared.fault.RunFault.TheVariants.{Cores, Quantum
 use Rattle.arachne_run.specs.declared.fault.WorkerFault.TheVariants as worker
 use Rattle.arachne_jobs.specs.declared.fault.JobFault.{JobFault}
 use Rattle.arachne_jobs.specs.declared.fault.JobFault.TheVariants as job
-use Rattle.arachne_workers.specs.declared.desk.Halt.{Halt}
-use Rattle.arachne_workers.specs.declared.desk.Halt.TheVariants as halt
+use Rattle.arachne_workers.specs.declared.dispatch.Halt.{Halt}
+use Rattle.arachne_workers.specs.declared.dispatch.Halt.TheVariants as halt
 use Rattle.arachne_sleep.specs.declared.answer.AskFault.{AskFault}
 use Rattle.arachne_sleep.specs.declared.answer.AskFault.TheVariants as ask
 use Rattle.arachne_team.specs.declared.team.TeamFault.{TeamFault}

@@ -8,14 +8,14 @@ ghost use Rattle.arachne_sleep.specs.SleepLocks.{AreSeatsOf, ChangesAt};
 ghost use Rattle.arachne_sleep.specs.declared.answer.Tried.TheVariants.{Answered};
 ghost use Rattle.arachne_run.specs.Serving.{IsGrantBy, IsServed, IsSettled, StopsAt};
 ghost use Rattle.arachne_run.specs.Tokens.{AreHoldingsOf};
-ghost use Rattle.arachne_workers.specs.declared.desk.ThreadStop.TheVariants as stopped;
+ghost use Rattle.arachne_workers.specs.declared.dispatch.ThreadStop.TheVariants as stopped;
 ghost use Rattle.arachne_run.specs.declared.fault.WorkerFault.TheVariants.{Foreign};
 ghost use Rattle.arachne_run.specs.declared.granted.Granted.{Granted};
 
 use crate::fault::WorkerFault;
 use crate::granted::{self, Attempt, Granted, LockCall};
 use crate::resources::{Holdings, Resources};
-use arachne_arbiter::Pace;
+use arachne_arbiter::Backoff;
 use arachne_core::ThreadId;
 use arachne_jobs::{Due, RunThread};
 use arachne_sleep::{Freed, LockSeats, NotHolder, SleepLocks, Tried, Who};
@@ -48,7 +48,7 @@ impl<'a> Access<'a> {
     pub(crate) fn get<H: Wait + Clock, T: RunThread>(
         &mut self,
         rt: &H,
-        pace: &mut Pace,
+        backoff: &mut Backoff,
         call: LockCall,
         lock: u64,
         id: ThreadId,
@@ -71,7 +71,7 @@ impl<'a> Access<'a> {
                 thread.answer()?;
                 return Ok(ThreadStop::Goes);
             }
-            stand_by(rt, pace, &mut tries);
+            stand_by(rt, backoff, &mut tries);
         }
         unreachable!()
     }
@@ -83,7 +83,7 @@ impl<'a> Access<'a> {
     pub(crate) fn free<H: Wait + Clock, T: RunThread>(
         &mut self,
         rt: &H,
-        pace: &mut Pace,
+        backoff: &mut Backoff,
         lock: u64,
         id: ThreadId,
         thread: &mut T,
@@ -103,7 +103,7 @@ impl<'a> Access<'a> {
                 thread.answer()?;
                 return Ok(stop_after(freed));
             }
-            stand_by(rt, pace, &mut tries);
+            stand_by(rt, backoff, &mut tries);
         }
         unreachable!()
     }

@@ -11,7 +11,7 @@ use crate::access::Access;
 use crate::fault::WorkerFault;
 use crate::granted::{Granted, LockCall};
 use crate::machine::Machine;
-use arachne_arbiter::{Cores, Pace};
+use arachne_arbiter::{Backoff, Cores};
 use arachne_contexts::{Contexts, Held, Identified, Placed};
 use arachne_jobs::{Openings, RunJob, Slice, SpillPass, make_room, put_ticket};
 use arachne_program::Class;
@@ -41,7 +41,7 @@ pub(crate) fn go_on<H: Wait + Clock, T: RunJob, C: Contexts<T>, R: Rng>(
     grant: &mut Option<Granted>,
     forks: &mut ForkSupplies<R, T::Spares>,
     access: &mut Access<'_>,
-    pace: &mut Pace,
+    backoff: &mut Backoff,
     left: &mut u32,
 ) -> Result<ThreadStop, WorkerFault>
     requires seat { C.sits machine.now.table seat.old }
@@ -76,12 +76,12 @@ pub(crate) fn go_on<H: Wait + Clock, T: RunJob, C: Contexts<T>, R: Rng>(
         }
         Slice::Blocks => return Ok(ThreadStop::Blocks),
         Slice::Frees(lock) => {
-            return access.free(rt, pace, lock, held.id(), &mut held.value, grant);
+            return access.free(rt, backoff, lock, held.id(), &mut held.value, grant);
         }
         Slice::Tallies(ledger, amount) => return access.tally(ledger, amount, &mut held.value),
         Slice::Ends => return Ok(ThreadStop::Ends),
     };
-    access.get(rt, pace, call, lock, held.id(), &mut held.value, grant)
+    access.get(rt, backoff, call, lock, held.id(), &mut held.value, grant)
 }
 
 fn draw<R: Rng>(chooser: &mut R, words: u64) {

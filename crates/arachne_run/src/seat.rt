@@ -10,12 +10,12 @@ use crate::forking::{ForkSupplies, free_place, give_place_back, go_on, post_at, 
 use crate::gate::Gate;
 use crate::granted::Granted;
 use crate::machine::{Machine, Tokens};
-use arachne_arbiter::{Arbiter, Pace};
+use arachne_arbiter::{Arbiter, Backoff};
 use arachne_contexts::{Claimed, Contexts, Held, Moved, Placed, Taken, Woken};
 use arachne_core::{MarkWord, OccWord, Place, Rest, ThreadId};
 use arachne_jobs::{Openings, RunJob, RunSpares, RunThread, RunTicket, SpillPass, next_ticket};
 use arachne_workers::{
-    Desk, Grip, Halt, PostedThread, ThreadStop, TicketResult, WorkerEvent, is_drained,
+    Dispatch, Grip, Halt, PostedThread, ThreadStop, TicketResult, WorkerEvent, is_drained,
     may_take_ticket,
 };
 use rand_core::Rng;
@@ -164,7 +164,7 @@ impl<'a, H: Wait, T: RunJob, C: Contexts<T>, R: Rng + Drop, G: Gate> RunSeat<'a,
     }
 }
 
-impl<'a, H: Wait + Clock, T: RunJob, C: Contexts<T>, R: Rng + Drop, G: Gate> Desk
+impl<'a, H: Wait + Clock, T: RunJob, C: Contexts<T>, R: Rng + Drop, G: Gate> Dispatch
     for RunSeat<'a, H, T, C, R, G> {
     ghost largest_quantum = { λ seat. seat.quantum };
 
@@ -197,7 +197,7 @@ impl<'a, H: Wait + Clock, T: RunJob, C: Contexts<T>, R: Rng + Drop, G: Gate> Des
     }
 
     #[inline(always)]
-    fn advance(&mut self, pace: &mut Pace, left: &mut u32) -> Result<ThreadStop, Halt> {
+    fn advance(&mut self, backoff: &mut Backoff, left: &mut u32) -> Result<ThreadStop, Halt> {
         if self.is_broken {
             return Err(Halt::Token);
         }
@@ -215,7 +215,7 @@ impl<'a, H: Wait + Clock, T: RunJob, C: Contexts<T>, R: Rng + Drop, G: Gate> Des
             &mut thread.grant,
             &mut self.forks,
             &mut self.access,
-            pace,
+            backoff,
             left,
         )?;
         self.is_broken = false;

@@ -9,11 +9,11 @@ use crate::gate::Gate;
 use crate::machine::{Machine, Tokens};
 use crate::seat::RunSeat;
 use crate::shared::Failed;
-use arachne_arbiter::Pace;
+use arachne_arbiter::Backoff;
 use arachne_contexts::{Contexts, Tagged};
 use arachne_jobs::RunJob;
 use arachne_team::{Team, TeamFault, work_together};
-use arachne_workers::{Agenda, CoreWorker};
+use arachne_workers::{CoreWorker, RunQueue};
 use rand_core::Rng;
 use std::alloc::Global;
 use std::sync::Wait;
@@ -119,7 +119,7 @@ impl<'a, T: RunJob, C: Contexts<T>, R: Rng + Drop, G: Gate> Team<WorkerShare<C::
             machine.shared.halt(rt, halt);
             return None;
         }
-        let tokens = into_tokens(machine, worker.desk).ok()?;
+        let tokens = into_tokens(machine, worker.dispatch).ok()?;
         Some(WorkerShare::without_root(tokens, None, share.choosers))
     }
 
@@ -203,15 +203,15 @@ fn open_worker<'a, H: Wait, T: RunJob, C: Contexts<T>, R: Rng + Drop, G: Gate>(
     requires core { core < machine.now.cores }
     ensures core { IfOk result (λ worker. (worker.core ≡ core) × (worker.slots ≡ machine.now.slots) × (worker.slices ≡ 0)) }
     ensures helps { IfOk result (λ worker. worker.helps ≡ machine.now.may_pull) }
-    ensures desk { IfOk result (λ worker. worker.desk ≡ ground_of machine.now) }
-    ensures rootless { IfOk result (λ worker. root ≡ None → worker.agenda.ready ≡ 0) }
+    ensures dispatch { IfOk result (λ worker. worker.dispatch ≡ ground_of machine.now) }
+    ensures rootless { IfOk result (λ worker. root ≡ None → worker.queue.ready ≡ 0) }
     ensures no_chooser { IsNone chooser → IsErr result × IfErr result (λ failed. failed.fault.value ≡ KernelThread) }
 {
     let Some(chooser) = chooser else {
         return Err(machine.shared.fail(rt, WorkerFault::KernelThread));
     };
-    let mut desk = RunSeat::open(rt, alloc, machine, gate, core, chooser, tokens);
-    let root = match desk.post_root(root) {
+    let mut dispatch = RunSeat::open(rt, alloc, machine, gate, core, chooser, tokens);
+    let root = match dispatch.post_root(root) {
         Ok(root) => root,
         Err(fault) => return Err(machine.shared.fail(rt, fault)),
     };
@@ -221,29 +221,31 @@ fn open_worker<'a, H: Wait, T: RunJob, C: Contexts<T>, R: Rng + Drop, G: Gate>(
         core,
         slots: machine.slots,
         helps: machine.may_pull,
-        agenda: Agenda::new(alloc, root),
+        queue: RunQueue::new(alloc, root),
         slices: 0,
-        pace: Pace::new(),
-        desk,
+        backoff: Backoff::new(),
+        dispatch,
     })
 }
 
 /// Returns an ended worker's tokens (rights), or an error if it still holds a thread or slots.
 fn into_tokens<'a, H: Wait, T: RunJob, C: Contexts<T>, R: Rng + Drop, G: Gate>(
     machine: &Machine<C, T::Ticket>,
-    desk: RunSeat<'a, H, T, C, R, G>,
+    dispatch: RunSeat<'a, H, T, C, R, G>,
 ) -> Result<Tokens<C::Seat, T::Ticket>, Failed>
-    requires desk { desk ≡ ground_of machine.now }
+    requires dispatch { dispatch ≡ ground_of machine.now }
     ensures idle { IfOk result (AreIdle C.sits C.idle machine.now) }
     ensures fault { IfErr result (λ failed. failed.fault.value ≡ Token) }
 {
-    if desk.is_broken || desk.held.is_some() || !desk.kept.is_empty() {
-        return Err(machine.shared.fail(desk.rt, WorkerFault::Token));
+    if dispatch.is_broken || dispatch.held.is_some() || !dispatch.kept.is_empty() {
+        return Err(machine.shared.fail(dispatch.rt, WorkerFault::Token));
     }
     Ok(Tokens {
-        seat: machine.table.join_seats(desk.rt, desk.seat, desk.spare),
-        pass: desk.pass,
-        holdings: desk.access.holdings,
-        arbiter: desk.arbiter,
+        seat: machine
+            .table
+            .join_seats(dispatch.rt, dispatch.seat, dispatch.spare),
+        pass: dispatch.pass,
+        holdings: dispatch.access.holdings,
+        arbiter: dispatch.arbiter,
     })
 }

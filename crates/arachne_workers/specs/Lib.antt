@@ -1,4 +1,4 @@
 pub mod Lowest
 pub mod Posts
-pub mod Agendas
+pub mod RunQueues
 pub mod Keeping

@@ -1,7 +1,7 @@
 //! Counts the steps of a worker's threads between two checks of whether it must stop, or must open or close cores.
 ghost use Rattle.std.specs.Prelude.{◌≡◌, ◌≤◌, ◌+◌, false, max};
 
-use crate::desk::Desk;
+use crate::dispatch::Dispatch;
 use crate::shared::SharedWords;
 
 /// The steps that a worker's threads made since it last checked for a stop (`unread`), and for orders to open or close
@@ -60,11 +60,11 @@ impl Lag {
     }
 
     #[inline(always)]
-    pub(crate) fn has_orders<D: Desk>(&mut self, desk: &D) -> bool
+    pub(crate) fn has_orders<D: Dispatch>(&mut self, dispatch: &D) -> bool
         ensures none { result ≡ false → self.new.untended ≡ 0 }
         ensures same { (self.new.unread ≡ self.old.unread) × (self.new.most ≡ self.old.most) }
     {
-        if desk.has_orders() {
+        if dispatch.has_orders() {
             return true;
         }
         self.untended = 0;
@@ -72,12 +72,12 @@ impl Lag {
     }
 
     #[inline(always)]
-    pub(crate) fn tend<D: Desk>(&mut self, desk: &mut D) -> (Option<usize>, u64)
-        ensures desk { desk.new ≡ desk.old }
+    pub(crate) fn tend<D: Dispatch>(&mut self, dispatch: &mut D) -> (Option<usize>, u64)
+        ensures dispatch { dispatch.new ≡ dispatch.old }
         ensures tended { self.new.untended ≡ 0 }
         ensures same { (self.new.unread ≡ self.old.unread) × (self.new.most ≡ self.old.most) }
     {
         self.untended = 0;
-        desk.tend()
+        dispatch.tend()
     }
 }

@@ -8,7 +8,7 @@
 //! closes a core, which then takes no more threads, or opens it again.
 #![tactic(auto)]
 
-mod desk;
+mod dispatch;
 mod hints;
 mod lag;
 mod policy;
@@ -19,12 +19,12 @@ mod waiting;
 mod wake;
 mod worker;
 
-pub use desk::{
-    Cause, Desk, Grip, Halt, SliceEnd, ThreadStop, TicketResult, WorkerEvent, give_all_back,
+pub use dispatch::{
+    Cause, Dispatch, Grip, Halt, SliceEnd, ThreadStop, TicketResult, WorkerEvent, give_all_back,
 };
 pub use hints::Hints;
 pub use policy::{is_drained, keeps_place, may_keep_places, may_take_ticket};
-pub use queue::{Agenda, PostedThread};
+pub use queue::{PostedThread, RunQueue};
 pub use shared::SharedWords;
 pub use waiting::stand_by;
 pub use worker::CoreWorker;

@@ -21,7 +21,7 @@ pub struct PostedThread {
 
 /// The slots of the threads that a worker runs next, and the wakes of other workers that it has delayed.
 #[derive(Drop)]
-pub struct Agenda {
+pub struct RunQueue {
     /// The slots that the current scan must still visit, one bit each.
     scan: u64,
     /// The slots that the next scan visits because a thread there may be ready, one bit each.
@@ -37,16 +37,16 @@ pub struct Agenda {
     pub(crate) lag: Lag,
 }
 
-impl Agenda {
-    /// Creates an agenda whose first scan visits only slot `root` (the root thread's), or no slot. Allocates nothing.
-    pub fn new(alloc: Global, root: Option<u8>) -> Agenda
+impl RunQueue {
+    /// Creates a queue whose first scan visits only slot `root` (the root thread's), or no slot. Allocates nothing.
+    pub fn new(alloc: Global, root: Option<u8>) -> RunQueue
         ensures root { IfSome root (λ index. index < SLOTS → result.ready ≡ 2 ^ index) }
         ensures rootless { root ≡ None → result.ready ≡ 0 }
         ensures posts { (result.posts.items ≡ []) × (result.posted ≡ 0) × (result.patience ≡ PATIENCE) }
         ensures scan { (result.scan ≡ 0) × (result.scans ≡ 0) × (result.next ≡ None) }
         ensures lag { result.lag.most ≡ 0 }
     {
-        Agenda {
+        RunQueue {
             scan: 0,
             ready: match root {
                 Some(index) => bit_of(index),

@@ -1,8 +1,8 @@
 //! Runs a thread that the worker has taken, slice after slice, until the worker puts the thread back or ends it.
 ghost use Rattle.std.specs.Prelude.{◌≡◌, ◌≤◌, ◌<◌, ◌+◌, true, min, IfOk, IsTrue};
-ghost use Rattle.arachne_workers.specs.Agendas.{HasLooked, LooksWithin};
+ghost use Rattle.arachne_workers.specs.RunQueues.{HasLooked, LooksWithin};
 
-use crate::desk::{Cause, Desk, Halt, SliceEnd, ThreadStop, WorkerEvent, thin_out};
+use crate::dispatch::{Cause, Dispatch, Halt, SliceEnd, ThreadStop, WorkerEvent, thin_out};
 use crate::policy;
 use crate::wake::{posted, tell_all};
 use crate::worker::CoreWorker;
@@ -10,23 +10,23 @@ use arachne_core::{Place, Rest};
 use std::sync::Wait;
 use std::time::Clock;
 
-impl<'a, H: Wait + Clock, D: Desk> CoreWorker<'a, H, D> {
+impl<'a, H: Wait + Clock, D: Dispatch> CoreWorker<'a, H, D> {
     /// Runs the thread in slot `place` for a slice, and for more while it holds a lock or no other thread is ready.
     ///
     /// Then puts the thread back, or ends it and wakes its parent. Returns true if the thread was put back as blocked.
     pub(crate) fn turn(&mut self, place: Place) -> Result<bool, Halt>
-        requires { HasLooked self.old.agenda }
-        ensures desk { self.new.desk ≡ self.old.desk }
-        ensures scan { self.new.agenda.scan ≡ self.old.agenda.scan }
-        ensures heeds { LooksWithin (D.largest_quantum self.old.desk) self.old.agenda self.new.agenda }
+        requires { HasLooked self.old.queue }
+        ensures dispatch { self.new.dispatch ≡ self.old.dispatch }
+        ensures scan { self.new.queue.scan ≡ self.old.queue.scan }
+        ensures heeds { LooksWithin (D.largest_quantum self.old.dispatch) self.old.queue self.new.queue }
     {
-        let quantum = self.desk.quantum();
-        self.agenda.lag.allow(quantum);
+        let quantum = self.dispatch.quantum();
+        self.queue.lag.allow(quantum);
         // The steps that the thread may still make in a row because it holds a lock.
         let mut grace = policy::STEPS_TO_FREE;
         let mut end = self.slice(quantum)?;
         for _ in 1..policy::MOST_ALONE {
-            let holds = self.desk.holds();
+            let holds = self.dispatch.holds();
             if end != SliceEnd::GoesOn || !self.goes_on(holds, grace) {
                 break;
             }
@@ -39,14 +39,14 @@ impl<'a, H: Wait + Clock, D: Desk> CoreWorker<'a, H, D> {
         if end == SliceEnd::Ended {
             // Read while the thread still has its slot: if the core is full with it, the worker keeps the slot for a
             // later child.
-            let before = self.desk.look();
-            if let Some(parent) = self.desk.end(before)? {
+            let before = self.dispatch.look();
+            if let Some(parent) = self.dispatch.end(before)? {
                 self.wake(parent, Cause::ChildEnded);
             }
-            thin_out(&mut self.desk, self.slots)?;
+            thin_out(&mut self.dispatch, self.slots)?;
             return Ok(false);
         }
-        let rest = self.desk.rest()?;
+        let rest = self.dispatch.rest()?;
         if rest == Rest::Ready {
             self.note(place);
         }
@@ -57,36 +57,36 @@ impl<'a, H: Wait + Clock, D: Desk> CoreWorker<'a, H, D> {
     ///
     /// None does after `stop`. A thread that `holds` a lock goes on while it has some `grace` (extra steps) left.
     fn goes_on(&mut self, holds: bool, grace: u32) -> bool
-        ensures desk { self.new.desk ≡ self.old.desk }
-        ensures same { (self.new.agenda ≡ record self.old.agenda { lag = self.new.agenda.lag }) × (self.new.slices ≡ self.old.slices) }
-        ensures reads { IsTrue result → self.new.agenda.lag.unread ≡ 0 }
-        ensures lag { (self.new.agenda.lag.untended ≡ self.old.agenda.lag.untended) × (self.new.agenda.lag.most ≡ self.old.agenda.lag.most) }
+        ensures dispatch { self.new.dispatch ≡ self.old.dispatch }
+        ensures same { (self.new.queue ≡ record self.old.queue { lag = self.new.queue.lag }) × (self.new.slices ≡ self.old.slices) }
+        ensures reads { IsTrue result → self.new.queue.lag.unread ≡ 0 }
+        ensures lag { (self.new.queue.lag.untended ≡ self.old.queue.lag.untended) × (self.new.queue.lag.most ≡ self.old.queue.lag.most) }
         ensures grace { IsTrue result → holds ≡ true → 0 < grace }
     {
         if holds && grace == 0 {
             return false;
         }
-        let others = self.agenda.is_any() || self.shared.hints().is_any(self.core);
-        if self.agenda.lag.is_stopped(self.shared) || others && !holds {
+        let others = self.queue.is_any() || self.shared.hints().is_any(self.core);
+        if self.queue.lag.is_stopped(self.shared) || others && !holds {
             return false;
         }
-        let takes_ticket = !holds && self.desk.may_take_ticket();
-        policy::may_go_on(self.desk.look(), holds, others, takes_ticket)
+        let takes_ticket = !holds && self.dispatch.may_take_ticket();
+        policy::may_go_on(self.dispatch.look(), holds, others, takes_ticket)
     }
 
     /// Runs and reports one slice of at most `most` steps of the current thread, and returns why it ended.
     fn slice(&mut self, most: u32) -> Result<SliceEnd, Halt>
-        requires looked { HasLooked self.old.agenda }
-        requires most { most ≤ self.old.agenda.lag.most }
-        ensures desk { self.new.desk ≡ self.old.desk }
+        requires looked { HasLooked self.old.queue }
+        requires most { most ≤ self.old.queue.lag.most }
+        ensures dispatch { self.new.dispatch ≡ self.old.dispatch }
         ensures number { self.new.slices ≡ min (self.old.slices + 1) u64.MAX }
-        ensures others { (self.new.agenda.scan ≡ self.old.agenda.scan) × (self.new.agenda.lag.most ≡ self.old.agenda.lag.most) }
+        ensures others { (self.new.queue.scan ≡ self.old.queue.scan) × (self.new.queue.lag.most ≡ self.old.queue.lag.most) }
     {
         let nth = self.slices;
         self.slices = nth.saturating_add(1);
-        self.desk.told(WorkerEvent::Begins(nth));
+        self.dispatch.told(WorkerEvent::Begins(nth));
         let (made, end) = self.spend(most)?;
-        self.desk.told(WorkerEvent::Sliced(made, end));
+        self.dispatch.told(WorkerEvent::Sliced(made, end));
         // Counts the slice after reporting it, so that an order that is due by this count is reported later.
         self.shared.count_slice(self.core);
         Ok(end)
@@ -95,48 +95,48 @@ impl<'a, H: Wait + Clock, D: Desk> CoreWorker<'a, H, D> {
     /// Runs at most `most` steps of the current thread, and makes the delayed wakes of other workers when they are due.
     /// Returns the number of steps made, and how the slice ends.
     fn spend(&mut self, most: u32) -> Result<(u32, SliceEnd), Halt>
-        requires looked { HasLooked self.old.agenda }
-        requires most { most ≤ self.old.agenda.lag.most }
-        ensures desk { self.new.desk ≡ self.old.desk }
+        requires looked { HasLooked self.old.queue }
+        requires most { most ≤ self.old.queue.lag.most }
+        ensures dispatch { self.new.dispatch ≡ self.old.dispatch }
         ensures steps { IfOk result (λ spent. spent.0 ≤ most) }
-        ensures counted { IfOk result (λ spent. (self.new.agenda.lag.unread ≡ spent.0) × (self.new.agenda.lag.untended ≡ spent.0)) }
-        ensures others { (self.new.slices ≡ self.old.slices) × (self.new.agenda.scan ≡ self.old.agenda.scan) × (self.new.agenda.lag.most ≡ self.old.agenda.lag.most) }
+        ensures counted { IfOk result (λ spent. (self.new.queue.lag.unread ≡ spent.0) × (self.new.queue.lag.untended ≡ spent.0)) }
+        ensures others { (self.new.slices ≡ self.old.slices) × (self.new.queue.scan ≡ self.old.queue.scan) × (self.new.queue.lag.most ≡ self.old.queue.lag.most) }
     {
-        self.agenda.begin_slice();
+        self.queue.begin_slice();
         let mut left = most;
         let mut made = 0;
         for _ in 0..most {
             if left == 0 {
                 break;
             }
-            let stretch = self.agenda.stretch(left);
+            let stretch = self.queue.stretch(left);
             let mut rest = stretch;
-            let stop = self.desk.advance(&mut self.pace, &mut rest)?;
+            let stop = self.dispatch.advance(&mut self.backoff, &mut rest)?;
             let steps = stretch - rest;
             left -= steps;
             made += steps;
-            self.agenda.lag.add(steps);
+            self.queue.lag.add(steps);
             // Counts the steps before handling `stop`, so that a wake for a child posted just now is delayed for its
             // full time.
-            if self.agenda.spend(steps) {
-                tell_all(&mut self.agenda, self.shared);
+            if self.queue.spend(steps) {
+                tell_all(&mut self.queue, self.shared);
             }
             match stop {
                 ThreadStop::Goes => {}
                 ThreadStop::Posted(post) => {
-                    posted(&mut self.agenda, self.shared, self.core, post);
+                    posted(&mut self.queue, self.shared, self.core, post);
                 }
-                ThreadStop::Spilled => self.desk.told(WorkerEvent::Spilled),
+                ThreadStop::Spilled => self.dispatch.told(WorkerEvent::Spilled),
                 ThreadStop::Wakes(id) => {
                     self.wake(id, Cause::IsServed);
-                    left = policy::left_past_free(left, self.agenda.has_next());
+                    left = policy::left_past_free(left, self.queue.has_next());
                 }
                 ThreadStop::Ends => return Ok((made, SliceEnd::Ended)),
                 ThreadStop::Blocks => return Ok((made, SliceEnd::AwaitsChild)),
                 ThreadStop::Waits(number) => return Ok((made, SliceEnd::Awaits(number))),
             }
         }
-        tell_all(&mut self.agenda, self.shared);
+        tell_all(&mut self.queue, self.shared);
         Ok((made, SliceEnd::GoesOn))
     }
 }

@@ -4,41 +4,41 @@ ghost use Rattle.std.specs.Int.RustNames.{bit_or};
 ghost use Rattle.arachne_core.specs.declared.layout.TheConstants.{SLOTS};
 ghost use Rattle.arachne_core.specs.declared.mark.Mark.{Mark};
 ghost use Rattle.arachne_workers.specs.declared.policy.TheConstants.{MOST_KEPT_BACK};
-ghost use Rattle.arachne_workers.specs.Agendas.{HasGivenNext};
+ghost use Rattle.arachne_workers.specs.RunQueues.{HasGivenNext};
 
-use crate::desk::{Cause, Desk, WorkerEvent};
+use crate::dispatch::{Cause, Dispatch, WorkerEvent};
 use crate::policy;
-use crate::queue::{Agenda, PostedThread};
+use crate::queue::{PostedThread, RunQueue};
 use crate::shared::SharedWords;
 use crate::worker::CoreWorker;
 use arachne_core::{Mark, MarkWord, Place, ThreadId};
 use std::sync::Wait;
 use std::time::Clock;
 
-impl<'a, H: Wait + Clock, D: Desk> CoreWorker<'a, H, D> {
+impl<'a, H: Wait + Clock, D: Dispatch> CoreWorker<'a, H, D> {
     /// Wakes the thread `id`, if it is blocked, because of `cause`.
     ///
     /// If the thread was granted a lock, this worker may run it next, even in a slot of another core, since other
     /// threads may wait for the lock. Moves any other thread to this core if the worker of the thread's core sleeps,
     /// since to move a thread is cheaper than to wake a kernel thread.
     pub(crate) fn wake(&mut self, id: ThreadId, cause: Cause)
-        ensures desk { self.new.desk ≡ self.old.desk }
-        ensures others { (self.new.agenda ≡ record self.old.agenda { ready = self.new.agenda.ready; next = self.new.agenda.next }) × (self.new.slices ≡ self.old.slices) }
-        ensures next { cause ≢ Cause.IsServed → self.new.agenda.next ≡ self.old.agenda.next }
+        ensures dispatch { self.new.dispatch ≡ self.old.dispatch }
+        ensures others { (self.new.queue ≡ record self.old.queue { ready = self.new.queue.ready; next = self.new.queue.next }) × (self.new.slices ≡ self.old.slices) }
+        ensures next { cause ≢ Cause.IsServed → self.new.queue.next ≡ self.old.queue.next }
     {
         if !self.try_wake(id) {
             return;
         }
-        self.desk.told(WorkerEvent::Woken(id, cause));
-        let Some(mark) = self.desk.mark_of(id.context) else {
+        self.dispatch.told(WorkerEvent::Woken(id, cause));
+        let Some(mark) = self.dispatch.mark_of(id.context) else {
             return;
         };
         let is_served = cause == Cause::IsServed;
         let mut place = mark.place();
         let is_elsewhere = place.core != self.core;
-        if is_served && (self.helps || !is_elsewhere) && self.agenda.goes_next(place) {
+        if is_served && (self.helps || !is_elsewhere) && self.queue.goes_next(place) {
             if is_elsewhere {
-                self.desk.told(WorkerEvent::Helps(id, place.core));
+                self.dispatch.told(WorkerEvent::Helps(id, place.core));
             }
             return;
         }
@@ -51,11 +51,11 @@ impl<'a, H: Wait + Clock, D: Desk> CoreWorker<'a, H, D> {
     /// Records that the thread in slot `place` may be ready, and wakes the slot's worker if it is another one and
     /// sleeps.
     pub(crate) fn note(&mut self, place: Place)
-        ensures desk { self.new.desk ≡ self.old.desk }
-        ensures others { (self.new.agenda ≡ record self.old.agenda { ready = self.new.agenda.ready }) × (self.new.slices ≡ self.old.slices) }
+        ensures dispatch { self.new.dispatch ≡ self.old.dispatch }
+        ensures others { (self.new.queue ≡ record self.old.queue { ready = self.new.queue.ready }) × (self.new.slices ≡ self.old.slices) }
     {
         if place.core == self.core {
-            self.agenda.note(place.index);
+            self.queue.note(place.index);
         } else {
             self.shared.hint(place);
         }
@@ -63,11 +63,11 @@ impl<'a, H: Wait + Clock, D: Desk> CoreWorker<'a, H, D> {
 
     /// Wakes the thread `id`, and returns true if it was blocked.
     fn try_wake(&mut self, id: ThreadId) -> bool
-        ensures desk { self.new.desk ≡ self.old.desk }
-        ensures same { (self.new.agenda ≡ self.old.agenda) × (self.new.slices ≡ self.old.slices) }
+        ensures dispatch { self.new.dispatch ≡ self.old.dispatch }
+        ensures same { (self.new.queue ≡ self.old.queue) × (self.new.slices ≡ self.old.slices) }
     {
         for _ in self.rt.forever() {
-            if let Some(was_blocked) = self.desk.try_wake(id).settled() {
+            if let Some(was_blocked) = self.dispatch.try_wake(id).settled() {
                 return was_blocked;
             }
         }
@@ -77,18 +77,18 @@ impl<'a, H: Wait + Clock, D: Desk> CoreWorker<'a, H, D> {
     /// Returns the thread's slot after an attempt to move it from slot `from` of another core to this one.
     #[inline(always)]
     fn pull(&mut self, id: ThreadId, from: Place) -> Place
-        ensures desk { self.new.desk ≡ self.old.desk }
-        ensures same { (self.new.agenda ≡ self.old.agenda) × (self.new.slices ≡ self.old.slices) }
+        ensures dispatch { self.new.dispatch ≡ self.old.dispatch }
+        ensures same { (self.new.queue ≡ self.old.queue) × (self.new.slices ≡ self.old.slices) }
     {
-        if !self.desk.pull(from) {
+        if !self.dispatch.pull(from) {
             return from;
         }
-        let place = match self.desk.mark_of(id.context) {
+        let place = match self.dispatch.mark_of(id.context) {
             Some(mark) => mark.place(),
             None => from,
         };
         if place.core == self.core {
-            self.desk.told(WorkerEvent::Pulled(id, from.core));
+            self.dispatch.told(WorkerEvent::Pulled(id, from.core));
         }
         place
     }
@@ -99,21 +99,21 @@ impl<'a, H: Wait + Clock, D: Desk> CoreWorker<'a, H, D> {
     /// other may be ready here, moves here the newest thread that this worker has put on another core without waking
     /// that core's worker. If it can't be moved, wakes that worker, and tries the next newest.
     pub(crate) fn next(&mut self, waits: bool) -> Option<Place>
-        ensures desk { self.new.desk ≡ self.old.desk }
-        ensures next { IsSome self.old.agenda.next → HasGivenNext result self.old.agenda self.new.agenda }
-        ensures goes_on { self.old.agenda.next ≡ None → waits ≡ false → (result ≡ None) × (self.new.agenda ≡ self.old.agenda) }
-        ensures others { (self.new.agenda ≡ record self.old.agenda { posts = self.new.agenda.posts; next = None }) × (self.new.slices ≡ self.old.slices) }
+        ensures dispatch { self.new.dispatch ≡ self.old.dispatch }
+        ensures next { IsSome self.old.queue.next → HasGivenNext result self.old.queue self.new.queue }
+        ensures goes_on { self.old.queue.next ≡ None → waits ≡ false → (result ≡ None) × (self.new.queue ≡ self.old.queue) }
+        ensures others { (self.new.queue ≡ record self.old.queue { posts = self.new.queue.posts; next = None }) × (self.new.slices ≡ self.old.slices) }
     {
-        if let Some(place) = self.agenda.take_next() {
+        if let Some(place) = self.queue.take_next() {
             return Some(place);
         }
-        if !waits || self.agenda.is_any() {
+        if !waits || self.queue.is_any() {
             return None;
         }
         for _ in 0..policy::MOST_KEPT_BACK {
-            let id = self.agenda.take_newest()?.id;
+            let id = self.queue.take_newest()?.id;
             // If another worker has taken the thread, no wake is needed.
-            let Some(place) = ready_place(self.desk.mark_of(id.context), id) else {
+            let Some(place) = ready_place(self.dispatch.mark_of(id.context), id) else {
                 continue;
             };
             let now = self.pull(id, place);
@@ -143,27 +143,27 @@ fn ready_place(mark: Option<MarkWord>, id: ThreadId) -> Option<Place>
 /// If a thread was posted on `core`, the next scan visits it. Otherwise the worker of its core is woken, at once or
 /// after a delay.
 #[inline(always)]
-pub(crate) fn posted(agenda: &mut Agenda, shared: &SharedWords, core: u8, post: PostedThread)
-    ensures others { (agenda.new.scan ≡ agenda.old.scan) × (agenda.new.next ≡ agenda.old.next) × (agenda.new.lag ≡ agenda.old.lag) }
-    ensures here { post.place.core ≡ core → agenda.new ≡ record agenda.old { ready = agenda.new.ready } }
+pub(crate) fn posted(queue: &mut RunQueue, shared: &SharedWords, core: u8, post: PostedThread)
+    ensures others { (queue.new.scan ≡ queue.old.scan) × (queue.new.next ≡ queue.old.next) × (queue.new.lag ≡ queue.old.lag) }
+    ensures here { post.place.core ≡ core → queue.new ≡ record queue.old { ready = queue.new.ready } }
     ensures noted { post.place.core ≡ core → post.place.index < SLOTS
-        → agenda.new.ready ≡ bit_or agenda.old.ready (2 ^ post.place.index) }
-    ensures elsewhere { post.place.core ≢ core → (agenda.new ≡ record agenda.old { posts = agenda.new.posts; posted = agenda.new.posted })
-        × (agenda.new.posted ≡ min (agenda.old.posted + 1) u32.MAX) }
+        → queue.new.ready ≡ bit_or queue.old.ready (2 ^ post.place.index) }
+    ensures elsewhere { post.place.core ≢ core → (queue.new ≡ record queue.old { posts = queue.new.posts; posted = queue.new.posted })
+        × (queue.new.posted ≡ min (queue.old.posted + 1) u32.MAX) }
 {
     if post.place.core == core {
-        agenda.note(post.place.index);
-    } else if let Some(due) = agenda.keep_back(post) {
+        queue.note(post.place.index);
+    } else if let Some(due) = queue.keep_back(post) {
         shared.hint(due.place);
     }
 }
 
-pub(crate) fn tell_all(agenda: &mut Agenda, shared: &SharedWords)
-    ensures others { agenda.new ≡ record agenda.old { posts = agenda.new.posts } }
-    ensures all { length agenda.old.posts.items ≤ MOST_KEPT_BACK → agenda.new.posts.items ≡ [] }
+pub(crate) fn tell_all(queue: &mut RunQueue, shared: &SharedWords)
+    ensures others { queue.new ≡ record queue.old { posts = queue.new.posts } }
+    ensures all { length queue.old.posts.items ≤ MOST_KEPT_BACK → queue.new.posts.items ≡ [] }
 {
     for _ in 0..policy::MOST_KEPT_BACK {
-        let Some(post) = agenda.take_newest() else {
+        let Some(post) = queue.take_newest() else {
             break;
         };
         shared.hint(post.place);

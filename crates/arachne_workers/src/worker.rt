@@ -1,14 +1,14 @@
 //! The worker's loop: runs ready threads, opens and closes cores, waits and parks.
 ghost use Rattle.std.specs.Prelude.{◌≡◌, IsOk};
-ghost use Rattle.arachne_workers.specs.Agendas.{LooksWithin};
+ghost use Rattle.arachne_workers.specs.RunQueues.{LooksWithin};
 
-use crate::desk::{Desk, Grip, Halt, TicketResult, WorkerEvent, give_all_back, thin_out};
+use crate::dispatch::{Dispatch, Grip, Halt, TicketResult, WorkerEvent, give_all_back, thin_out};
 use crate::policy;
-use crate::queue::Agenda;
+use crate::queue::RunQueue;
 use crate::shared::SharedWords;
 use crate::waiting::stay_awake;
 use crate::wake::{posted, tell_all};
-use arachne_arbiter::Pace;
+use arachne_arbiter::Backoff;
 use arachne_core::Place;
 use std::sync::Wait;
 use std::time::{Clock, Duration};
@@ -22,25 +22,25 @@ pub struct CoreWorker<'a, H, D> {
     pub slots: u8,
     /// True if the worker is allowed to run a thread that was granted a lock and stays in a slot of another core.
     pub helps: bool,
-    pub agenda: Agenda,
+    pub queue: RunQueue,
     /// The number of slices that this worker has begun.
     pub slices: u64,
     /// Decides if the worker may yield its processor while it waits, by how long earlier yields took.
-    pub pace: Pace,
-    pub desk: D,
+    pub backoff: Backoff,
+    pub dispatch: D,
 }
 
-impl<'a, H: Wait + Clock, D: Desk> CoreWorker<'a, H, D> {
+impl<'a, H: Wait + Clock, D: Dispatch> CoreWorker<'a, H, D> {
     /// Runs threads until all workers must stop, and then frees the slots that it keeps claimed for later threads.
     pub fn work(&mut self) -> Result<(), Halt>
-        ensures desk { self.new.desk ≡ self.old.desk }
-        ensures heeds { LooksWithin (D.largest_quantum self.old.desk) self.old.agenda self.new.agenda }
+        ensures dispatch { self.new.dispatch ≡ self.old.dispatch }
+        ensures heeds { LooksWithin (D.largest_quantum self.old.dispatch) self.old.queue self.new.queue }
     {
         // The number of rounds (passes of this loop) in a row that have found nothing.
         let mut idle: u32 = 0;
         for _ in self.rt.forever() {
             if self.shared.is_stopped() {
-                return give_all_back(&mut self.desk);
+                return give_all_back(&mut self.dispatch);
             }
             if self.round(idle)? {
                 idle = 0;
@@ -56,27 +56,27 @@ impl<'a, H: Wait + Clock, D: Desk> CoreWorker<'a, H, D> {
     /// that waits for one. Returns true if there was anything to do. `idle` is the number of passes in a row before
     /// this one that have found nothing.
     pub fn round(&mut self, idle: u32) -> Result<bool, Halt>
-        ensures desk { self.new.desk ≡ self.old.desk }
-        ensures heeds { LooksWithin (D.largest_quantum self.old.desk) self.old.agenda self.new.agenda }
+        ensures dispatch { self.new.dispatch ≡ self.old.dispatch }
+        ensures heeds { LooksWithin (D.largest_quantum self.old.dispatch) self.old.queue self.new.queue }
     {
-        let sleeps = policy::sleeps(idle, self.pace.may_yield());
+        let sleeps = policy::sleeps(idle, self.backoff.may_yield());
         let looks = policy::looks_at_all(idle, sleeps);
         // Read before `take`, which clears the bit for a worker that sleeps: if it is still set, the sleep timed out
         // without a wake.
         let overslept = sleeps && self.shared.hints().is_asleep(self.core);
-        thin_out(&mut self.desk, self.slots)?;
+        thin_out(&mut self.dispatch, self.slots)?;
         let mut indexes = self.shared.hints().take(self.core);
-        if self.agenda.is_look_due() {
-            indexes |= self.desk.look().mask();
+        if self.queue.is_look_due() {
+            indexes |= self.dispatch.look().mask();
         }
-        self.agenda.begin_scan(indexes);
+        self.queue.begin_scan(indexes);
         let ran = self.run_each()?;
         let took = self.take_ticket()?;
         let found = ran || took || looks && self.scan_all()?;
         if found {
-            self.pace.found();
+            self.backoff.found();
             if overslept {
-                self.desk.told(WorkerEvent::Overslept);
+                self.dispatch.told(WorkerEvent::Overslept);
             }
         }
         Ok(found)
@@ -85,18 +85,18 @@ impl<'a, H: Wait + Clock, D: Desk> CoreWorker<'a, H, D> {
     /// Carries out the orders that are due to open or close cores, and then spins, yields or sleeps once. `idle` is the
     /// number of passes of the loop in a row that found nothing, not counting the last one.
     pub fn rest_for(&mut self, idle: u32)
-        ensures desk { self.new.desk ≡ self.old.desk }
-        ensures same { (self.new.agenda ≡ record self.old.agenda { lag = self.new.agenda.lag }) × (self.new.slices ≡ self.old.slices) }
-        ensures lag { self.new.agenda.lag.most ≡ self.old.agenda.lag.most }
+        ensures dispatch { self.new.dispatch ≡ self.old.dispatch }
+        ensures same { (self.new.queue ≡ record self.old.queue { lag = self.new.queue.lag }) × (self.new.slices ≡ self.old.slices) }
+        ensures lag { self.new.queue.lag.most ≡ self.old.queue.lag.most }
     {
         // Called before each wait, since nobody wakes this worker for an order that becomes due.
         self.tend();
-        if policy::sleeps(idle, self.pace.may_yield()) {
-            let spell = Duration::from_micros(policy::sleep_of(self.desk.is_waited_for()));
+        if policy::sleeps(idle, self.backoff.may_yield()) {
+            let spell = Duration::from_micros(policy::sleep_of(self.dispatch.is_waited_for()));
             self.shared.sleep(self.rt, self.core, spell);
         } else {
             let hints = self.shared.hints();
-            stay_awake(self.rt, &mut self.pace, hints, self.core, idle);
+            stay_awake(self.rt, &mut self.backoff, hints, self.core, idle);
         }
     }
 
@@ -104,25 +104,25 @@ impl<'a, H: Wait + Clock, D: Desk> CoreWorker<'a, H, D> {
     /// slots claimed for later threads, makes all delayed wakes, and parks if the core is closed and empty. Returns
     /// true if a thread was ready, or the worker was parked.
     fn scan_all(&mut self) -> Result<bool, Halt>
-        ensures desk { self.new.desk ≡ self.old.desk }
-        ensures ended { IsOk result → self.new.agenda.scan ≡ 0 }
-        ensures heeds { LooksWithin (D.largest_quantum self.old.desk) self.old.agenda self.new.agenda }
+        ensures dispatch { self.new.dispatch ≡ self.old.dispatch }
+        ensures ended { IsOk result → self.new.queue.scan ≡ 0 }
+        ensures heeds { LooksWithin (D.largest_quantum self.old.dispatch) self.old.queue self.new.queue }
     {
-        let occupied = self.desk.look().mask();
-        self.agenda.begin_scan(occupied);
+        let occupied = self.dispatch.look().mask();
+        self.queue.begin_scan(occupied);
         if self.run_each()? {
             return Ok(true);
         }
         // Before each wait: others can't use a slot that this worker keeps, and nobody else makes the wakes that it has
         // delayed.
-        give_all_back(&mut self.desk)?;
-        tell_all(&mut self.agenda, self.shared);
-        if self.desk.is_waited_for() || !self.desk.is_drained() {
+        give_all_back(&mut self.dispatch)?;
+        tell_all(&mut self.queue, self.shared);
+        if self.dispatch.is_waited_for() || !self.dispatch.is_drained() {
             return Ok(false);
         }
-        self.desk.told(WorkerEvent::Parks);
+        self.dispatch.told(WorkerEvent::Parks);
         self.shared.park(self.rt, self.core);
-        self.desk.told(WorkerEvent::Unparked);
+        self.dispatch.told(WorkerEvent::Unparked);
         Ok(true)
     }
 
@@ -130,25 +130,25 @@ impl<'a, H: Wait + Clock, D: Desk> CoreWorker<'a, H, D> {
     ///
     /// Returns true if it has run any.
     fn run_each(&mut self) -> Result<bool, Halt>
-        ensures desk { self.new.desk ≡ self.old.desk }
-        ensures ended { IsOk result → self.new.agenda.scan ≡ 0 }
-        ensures heeds { LooksWithin (D.largest_quantum self.old.desk) self.old.agenda self.new.agenda }
+        ensures dispatch { self.new.dispatch ≡ self.old.dispatch }
+        ensures ended { IsOk result → self.new.queue.scan ≡ 0 }
+        ensures heeds { LooksWithin (D.largest_quantum self.old.dispatch) self.old.queue self.new.queue }
     {
         let mut found = false;
-        while let Some(index) = self.agenda.next_index() {
+        while let Some(index) = self.queue.next_index() {
             let core = self.core;
             let mut next = Some(Place { core, index });
             for _ in 0..policy::MOST_IN_TURN {
                 let Some(place) = next else {
                     break;
                 };
-                if self.agenda.lag.is_stopped(self.shared) {
+                if self.queue.lag.is_stopped(self.shared) {
                     break;
                 }
                 // Before each slice, since an order may have become due since the last slice ended.
                 self.tend();
                 let mut waits = false;
-                match self.desk.take(place) {
+                match self.dispatch.take(place) {
                     Grip::Taken => {
                         found = true;
                         waits = self.turn(place)?;
@@ -169,18 +169,18 @@ impl<'a, H: Wait + Clock, D: Desk> CoreWorker<'a, H, D> {
 
     /// Gives a waiting child a slot, if the core has a free one, and returns true if a ticket was removed.
     fn take_ticket(&mut self) -> Result<bool, Halt>
-        ensures desk { self.new.desk ≡ self.old.desk }
-        ensures others { (self.new.agenda.scan ≡ self.old.agenda.scan) × (self.new.agenda.next ≡ self.old.agenda.next) × (self.new.agenda.lag ≡ self.old.agenda.lag) × (self.new.slices ≡ self.old.slices) }
+        ensures dispatch { self.new.dispatch ≡ self.old.dispatch }
+        ensures others { (self.new.queue.scan ≡ self.old.queue.scan) × (self.new.queue.next ≡ self.old.queue.next) × (self.new.queue.lag ≡ self.old.queue.lag) × (self.new.slices ≡ self.old.slices) }
     {
-        if !self.desk.may_take_ticket() {
+        if !self.dispatch.may_take_ticket() {
             return Ok(false);
         }
-        match self.desk.take_ticket()? {
+        match self.dispatch.take_ticket()? {
             TicketResult::None => return Ok(false),
-            TicketResult::Gone => self.desk.told(WorkerEvent::Ticket(false)),
+            TicketResult::Gone => self.dispatch.told(WorkerEvent::Ticket(false)),
             TicketResult::Posted(post) => {
-                self.desk.told(WorkerEvent::Ticket(true));
-                posted(&mut self.agenda, self.shared, self.core, post);
+                self.dispatch.told(WorkerEvent::Ticket(true));
+                posted(&mut self.queue, self.shared, self.core, post);
             }
         }
         Ok(true)
@@ -189,31 +189,31 @@ impl<'a, H: Wait + Clock, D: Desk> CoreWorker<'a, H, D> {
     /// Carries out the orders that are due to open or close cores, if that is this worker's task.
     #[inline(always)]
     pub fn tend(&mut self)
-        ensures desk { self.new.desk ≡ self.old.desk }
-        ensures same { (self.new.agenda ≡ record self.old.agenda { lag = self.new.agenda.lag }) × (self.new.slices ≡ self.old.slices) }
-        ensures tended { self.new.agenda.lag.untended ≡ 0 }
-        ensures lag { (self.new.agenda.lag.unread ≡ self.old.agenda.lag.unread) × (self.new.agenda.lag.most ≡ self.old.agenda.lag.most) }
+        ensures dispatch { self.new.dispatch ≡ self.old.dispatch }
+        ensures same { (self.new.queue ≡ record self.old.queue { lag = self.new.queue.lag }) × (self.new.slices ≡ self.old.slices) }
+        ensures tended { self.new.queue.lag.untended ≡ 0 }
+        ensures lag { (self.new.queue.lag.unread ≡ self.old.queue.lag.unread) × (self.new.queue.lag.most ≡ self.old.queue.lag.most) }
     {
-        if self.agenda.lag.has_orders(&self.desk) {
+        if self.queue.lag.has_orders(&self.dispatch) {
             self.apply_orders();
         }
     }
 
     fn apply_orders(&mut self)
-        ensures desk { self.new.desk ≡ self.old.desk }
-        ensures same { (self.new.agenda ≡ record self.old.agenda { lag = self.new.agenda.lag }) × (self.new.slices ≡ self.old.slices) }
-        ensures tended { self.new.agenda.lag.untended ≡ 0 }
-        ensures lag { (self.new.agenda.lag.unread ≡ self.old.agenda.lag.unread) × (self.new.agenda.lag.most ≡ self.old.agenda.lag.most) }
+        ensures dispatch { self.new.dispatch ≡ self.old.dispatch }
+        ensures same { (self.new.queue ≡ record self.old.queue { lag = self.new.queue.lag }) × (self.new.slices ≡ self.old.slices) }
+        ensures tended { self.new.queue.lag.untended ≡ 0 }
+        ensures lag { (self.new.queue.lag.unread ≡ self.old.queue.lag.unread) × (self.new.queue.lag.most ≡ self.old.queue.lag.most) }
     {
-        let (applied, receivers) = self.agenda.lag.tend(&mut self.desk);
+        let (applied, receivers) = self.queue.lag.tend(&mut self.dispatch);
         if let Some(count) = applied {
-            self.desk.told(WorkerEvent::Applied(count));
+            self.dispatch.told(WorkerEvent::Applied(count));
             // The worker of a core that was closed may sleep, and must check if it can park.
             self.shared.hint_cores(u64::MAX);
         }
         if receivers != 0 {
             self.shared.hint_cores(receivers);
-            self.desk.told(WorkerEvent::MovedAway(receivers));
+            self.dispatch.told(WorkerEvent::MovedAway(receivers));
         }
     }
 }

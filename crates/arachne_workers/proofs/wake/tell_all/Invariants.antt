@@ -5,5 +5,5 @@ use Rattle.arachne_workers.proofs.wake.tell_all.Given as goal
 -- of those that were kept back at first one fewer is left with each turn
 abbrev pub invariant-loop : goal.invariant-loop
 invariant-loop l =
-    (l.agenda ≡ record l.initial.agenda { posts = l.agenda.posts })
-    × (length l.initial.agenda.posts.items ≤ MOST_KEPT_BACK → length l.agenda.posts.items + l.counter ≤ MOST_KEPT_BACK)
+    (l.queue ≡ record l.initial.queue { posts = l.queue.posts })
+    × (length l.initial.queue.posts.items ≤ MOST_KEPT_BACK → length l.queue.posts.items + l.counter ≤ MOST_KEPT_BACK)

@@ -11,6 +11,6 @@ option_or_has P (Some x) theirs p q = p
 -- the seat is joined of both, and the orders are of one of them
 pub returns-clause-both : goal.returns-clause-both
 returns-clause-both g c =
-    let own : IsArbiterFor c.args.self.now.cores c.worker.inside.bench.orders = search rules in
-    let theirs : IsArbiterFor c.args.self.now.cores c.other.inside.bench.orders = search rules in
+    let own : IsArbiterFor c.args.self.now.cores c.worker.inside.state.orders = search rules in
+    let theirs : IsArbiterFor c.args.self.now.cores c.other.inside.state.orders = search rules in
     (c.join_seats.ensures.idle, rw c.or.ensures (option_or_has _ c.take.result c.take-2.result (rw c.take.ensures.value own) (rw c.take-2.ensures.value theirs)))

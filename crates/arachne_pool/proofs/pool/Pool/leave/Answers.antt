@@ -13,10 +13,10 @@ of_none tag P (Some held) e p = cc
 -- the seat is idle, as it has no job in hand and the table has rejected nothing
 pub returns-clause-worker : goal.returns-clause-worker
 returns-clause-worker g c =
-    let table : c.desk.inside.pool.now.table ≡ c.args.self.now.table = search rules in
-    let sits : g.C.Seats.sits c.args.self.now.table c.desk.inside.seat = search rules in
-    let orders : IsArbiterFor c.args.self.now.cores c.desk.inside.bench.orders = search rules in
-    let out = of_none _ (g.C.Contexts.has c.desk.inside.pool.now.table c.desk.inside.seat) c.desk.inside.held (sym c.is_some.ensures ∙ c.if-is_some.false)
-    (c.desk.invariant.3 c.if-is_broken.false) in
-    let idle = g.met.C.Contexts.is_idle c.desk.inside.pool.now.table c.desk.inside.seat out in
+    let table : c.dispatch.inside.pool.now.table ≡ c.args.self.now.table = search rules in
+    let sits : g.C.Seats.sits c.args.self.now.table c.dispatch.inside.seat = search rules in
+    let orders : IsArbiterFor c.args.self.now.cores c.dispatch.inside.state.orders = search rules in
+    let out = of_none _ (g.C.Contexts.has c.dispatch.inside.pool.now.table c.dispatch.inside.seat) c.dispatch.inside.held (sym c.is_some.ensures ∙ c.if-is_some.false)
+    (c.dispatch.invariant.3 c.if-is_broken.false) in
+    let idle = g.met.C.Contexts.is_idle c.dispatch.inside.pool.now.table c.dispatch.inside.seat out in
     ((sits, rw table at idle), orders)

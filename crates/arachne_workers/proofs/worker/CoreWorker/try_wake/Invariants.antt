@@ -2,4 +2,4 @@ use Rattle.std.proofs.Common.{◌≡◌}
 use Rattle.arachne_workers.proofs.worker.CoreWorker.try_wake.Given as goal
 
 abbrev pub invariant-loop : goal.invariant-loop
-invariant-loop g l = (l.self.desk ≡ l.initial.self.desk) × (l.self.agenda ≡ l.initial.self.agenda) × (l.self.slices ≡ l.initial.self.slices)
+invariant-loop g l = (l.self.dispatch ≡ l.initial.self.dispatch) × (l.self.queue ≡ l.initial.self.queue) × (l.self.slices ≡ l.initial.self.slices)

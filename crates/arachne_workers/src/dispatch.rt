@@ -3,7 +3,7 @@ ghost use Rattle.std.specs.Prelude.{◌≡◌, ◌≤◌, ℕ, OnOk};
 
 use crate::policy;
 use crate::queue::PostedThread;
-use arachne_arbiter::Pace;
+use arachne_arbiter::Backoff;
 use arachne_contexts::Woken;
 use arachne_core::{MarkWord, OccWord, Place, Rest, SLOTS, ThreadId};
 
@@ -22,8 +22,9 @@ pub enum Halt {
 
 /// A worker's access to its context table, and to the current thread (the one that the worker runs now).
 ///
-/// In contracts, a desk is its table, so `self.new ≡ self.old` says only that the call doesn't exchange the table.
-pub trait Desk {
+/// In contracts, such a value is its table, so `self.new ≡ self.old` says only that the call doesn't exchange the
+/// table.
+pub trait Dispatch {
     /// The most steps that `quantum` returns for any thread.
     ghost largest_quantum: { Self → ℕ } = { λ _. 4294967295 };
 
@@ -37,10 +38,10 @@ pub trait Desk {
 
     /// Runs up to `left` steps of the current thread, subtracts them from `left`, and serves requests such as a fork.
     ///
-    /// Waits, by `stand_by` with `pace`, while another kernel thread uses an object that a request needs.
-    fn advance(&mut self, pace: &mut Pace, left: &mut u32) -> Result<ThreadStop, Halt>
+    /// Waits, by `stand_by` with `backoff`, while another kernel thread uses an object that a request needs.
+    fn advance(&mut self, backoff: &mut Backoff, left: &mut u32) -> Result<ThreadStop, Halt>
         requires { 1 ≤ left.old }
-        ensures desk { self.new ≡ self.old }
+        ensures dispatch { self.new ≡ self.old }
         ensures left { OnOk result (left.new ≤ left.old) };
 
     /// Returns true if the current thread got a lock after the worker began to run it, and released none after that.
@@ -113,7 +114,7 @@ pub trait Desk {
     fn told(&self, event: WorkerEvent);
 }
 
-/// The reason why a call of `Desk::advance` has stopped running the current thread.
+/// The reason why a call of `Dispatch::advance` has stopped running the current thread.
 #[derive(Clone, Copy)]
 pub enum ThreadStop {
     /// The thread has more steps to make, as in the next three cases.
@@ -141,7 +142,7 @@ pub enum Grip {
     Lost,
 }
 
-/// The result of `Desk::take_ticket`, which gives a slot to a waiting child.
+/// The result of `Dispatch::take_ticket`, which gives a slot to a waiting child.
 #[derive(Clone, Copy)]
 pub enum TicketResult {
     /// No child waits for a slot.
@@ -151,7 +152,7 @@ pub enum TicketResult {
     Posted(PostedThread),
 }
 
-/// An event that a worker reports to `Desk::told`.
+/// An event that a worker reports to `Dispatch::told`.
 #[derive(Clone, Copy, Debug, PartialEq, Eq)]
 pub enum WorkerEvent {
     /// The worker is about to begin a slice of the current thread. The field counts the worker's slices from 0.
@@ -202,11 +203,11 @@ pub enum Cause {
 }
 
 /// Frees all slots that the worker keeps claimed for threads that are forked later.
-pub fn give_all_back<D: Desk>(desk: &mut D) -> Result<(), Halt>
-    ensures { desk.new ≡ desk.old }
+pub fn give_all_back<D: Dispatch>(dispatch: &mut D) -> Result<(), Halt>
+    ensures { dispatch.new ≡ dispatch.old }
 {
     for _ in 0..SLOTS {
-        if !desk.give_one_back()? {
+        if !dispatch.give_one_back()? {
             break;
         }
     }
@@ -214,12 +215,12 @@ pub fn give_all_back<D: Desk>(desk: &mut D) -> Result<(), Halt>
 }
 
 #[inline(always)]
-pub(crate) fn thin_out<D: Desk>(desk: &mut D, slots: u8) -> Result<(), Halt>
-    ensures { desk.new ≡ desk.old }
+pub(crate) fn thin_out<D: Dispatch>(dispatch: &mut D, slots: u8) -> Result<(), Halt>
+    ensures { dispatch.new ≡ dispatch.old }
 {
-    let kept = desk.kept();
-    if kept > 0 && policy::gives_back(desk.look(), kept, slots) {
-        give_all_back(desk)?;
+    let kept = dispatch.kept();
+    if kept > 0 && policy::gives_back(dispatch.look(), kept, slots) {
+        give_all_back(dispatch)?;
     }
     Ok(())
 }

@@ -1,7 +1,7 @@
 use Rattle.std.proofs.Common.{◌<◌, ◌^◌, arith, rules}
 use Rattle.std.proofs.lemmas.Nat.Bits.{bit_at-trailing_zeros}
 use Rattle.std.specs.Int.{w64}
-use Rattle.arachne_workers.proofs.queue.Agenda.next_index.Goals as goal
+use Rattle.arachne_workers.proofs.queue.RunQueue.next_index.Goals as goal
 
 -- as many zeros stand below the lowest bit as its index says
 pub returns-clause-lowest : goal.returns-clause-lowest

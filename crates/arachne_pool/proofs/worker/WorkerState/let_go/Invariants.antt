@@ -1,6 +1,6 @@
 use Rattle.std.proofs.Common.{◌≡◌, ◌+◌}
 use Rattle.arachne_pool.specs.Jobs.{count_near}
-use Rattle.arachne_pool.proofs.worker.Bench.let_go.Given as goal
+use Rattle.arachne_pool.proofs.worker.WorkerState.let_go.Given as goal
 
 -- after each that was let go none is lost, it is the same job, and what else the worker has is as before
 abbrev pub invariant-loop : goal.invariant-loop

@@ -1,6 +1,6 @@
 //! Decides whether a kernel thread that finds no work may yield its processor.
 ghost use Rattle.std.specs.Prelude.{◌≡◌, ◌-◌, ◌↔◌, ◌⊎◌, ℕ, IsTrue};
-ghost use Rattle.arachne_arbiter.specs.declared.pace.TheConstants.{ROUNDS_WITHOUT_YIELDS};
+ghost use Rattle.arachne_arbiter.specs.declared.backoff.TheConstants.{ROUNDS_WITHOUT_YIELDS};
 
 use std::marker::Model;
 use std::thread;
@@ -18,22 +18,22 @@ const ROUNDS_WITHOUT_YIELDS: u32 = 4096;
 /// slice, and the user threads of this kernel thread wait all that time. So each yield is timed. After a long yield, a
 /// kernel thread that must wait doesn't yield for a while, but spins for a short time and then sleeps.
 #[derive(Drop)]
-pub struct Pace {
+pub struct Backoff {
     rounds: u32,
 }
 
-impl Model for Pace {
+impl Model for Backoff {
     ghost Value = { ℕ };
 
     ghost view = { λ p. p.rounds };
 }
 
-impl Pace {
-    /// Creates a `Pace` that allows yields from the beginning.
-    pub fn new() -> Pace
+impl Backoff {
+    /// Creates a `Backoff` that allows yields from the beginning.
+    pub fn new() -> Backoff
         ensures { result ≡ 0 }
     {
-        Pace { rounds: 0 }
+        Backoff { rounds: 0 }
     }
 
     /// Returns whether the kernel thread may yield its processor now.
