@@ -14,7 +14,7 @@ judged case rule is_broken before = broken_if is_broken before (record { rule = 
 
 -- a core of which the log has shown nothing
 abbrev pub unseen : Core
-unseen = record { next = 0; ended = 0; counted = 0; turn = None; is_in_slice = false; alone = None; is_closed = false; last = 0; was_closed = false; grants = 0; unparks = 0; moved = 0; owes_move = false; owes_return = false; owes_close = false }
+unseen = record { next = 0; ended = 0; ends_slice = false; turn = None; is_in_slice = false; alone = None; is_closed = false; last = 0; was_closed = false; grants = 0; unparks = 0; moved = 0; owes_move = false; owes_return = false; owes_close = false }
 
 -- the sum, or the greatest number of 64 bits if the sum is more
 abbrev pub plus : ℕ → ℕ → ℕ

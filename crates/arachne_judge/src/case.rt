@@ -59,16 +59,12 @@ struct Case<'r> {
 pub fn judge(alloc: Global, log: &Log, run: Run<'_>) -> Result<Verdict, AllocError> {
     let mut case = Case::new(alloc, run)?;
     for at in 0..log.count() as usize {
-        let Some(entry) = log.entry(at) else {
-            break;
-        };
+        let Some(entry) = log.entry(at) else { break };
         case.at = at;
         case.look(entry);
     }
     case.settle();
-    if !case.unwoken.iter().all(|id| id.is_none()) {
-        case.breaks(Rule::Waits);
-    }
+    case.breaks_if(Rule::Waits, case.unwoken.iter().any(|id| id.is_some()));
     Ok(Verdict {
         counts: case.counts,
         broken: case.broken,
@@ -154,57 +150,61 @@ impl<'r> Case<'r> {
         }
     }
 
-    fn judges(&mut self, rule: Rule, is_broken: bool)
-        ensures { self.new ≡ record self.old { counts = self.new.counts; broken = broken_if is_broken self.old.broken (record { rule = rule; at = self.old.at }) } }
+    fn breaks_if(&mut self, rule: Rule, is_broken: bool)
+        ensures { self.new ≡ record self.old { broken = broken_if is_broken self.old.broken (record { rule = rule; at = self.old.at }) } }
     {
-        self.counts(rule);
         if is_broken {
             self.breaks(rule);
         }
     }
 
+    fn judges(&mut self, rule: Rule, is_broken: bool)
+        ensures { self.new ≡ record self.old { counts = self.new.counts; broken = broken_if is_broken self.old.broken (record { rule = rule; at = self.old.at }) } }
+    {
+        self.counts(rule);
+        self.breaks_if(rule, is_broken);
+    }
+
     fn look(&mut self, entry: Entry) {
-        let core = entry.core;
-        if !matches!(entry.what, What::Told(WorkerEvent::Sliced(_, _))) {
-            let mut known = self.core(core);
-            known.counted = known.ended;
-            self.set_core(core, known);
-        }
-        match entry.what {
+        let Entry { core, what } = entry;
+        match what {
             What::Slice(nth) => self.slice(core, nth),
             What::Turn(id, is_alone) => self.turn(core, id, is_alone),
+            What::Told(WorkerEvent::Applied(orders)) => self.applied(core, orders),
+            What::Told(WorkerEvent::MovedAway(receivers)) => self.moved_away(core, receivers),
             What::Told(event) => self.event(core, event),
         }
         let mut known = self.core(core);
         known.last = self.at;
+        known.ends_slice = matches!(what, What::Told(WorkerEvent::Sliced(_, _)));
         known.was_closed = known.is_closed;
         self.set_core(core, known);
     }
 
+    /// Checks a report of an event other than what core 0 did to cores. No rule concerns the events that have no arm.
     fn event(&mut self, core: u8, event: WorkerEvent) {
         match event {
             WorkerEvent::Sliced(steps, end) => self.sliced(core, steps, end),
             WorkerEvent::Woken(id, _) => self.woken(id),
             WorkerEvent::Pulled(id, from) => self.pulled(core, id, from, None),
             WorkerEvent::Helps(id, of) => self.pulled(core, id, of, Some(of)),
-            WorkerEvent::Spilled => {
-                if self.scans.spilled() {
-                    self.counts(Rule::Places);
-                }
-            }
+            WorkerEvent::Spilled => self.spilled(),
             WorkerEvent::Parks => self.parks(core),
             WorkerEvent::Unparked => self.unparked(core),
-            WorkerEvent::Applied(orders) => return self.applied(core, orders),
-            WorkerEvent::MovedAway(receivers) => return self.moved_away(core, receivers),
-            // No rule concerns the other events.
             _ => {}
         }
         if core == 0 {
-            self.counted = 0;
-            for k in 1..self.run.cores {
-                self.counted = self.counted.saturating_add(self.core(k).counted);
-            }
+            self.counted = self.counted_elsewhere();
         }
+    }
+
+    /// Returns the number of slices that other cores than 0 have ended, each with a later entry of its core.
+    fn counted_elsewhere(&self) -> u64 {
+        let mut counted = 0u64;
+        for core in 1..self.run.cores {
+            counted = counted.saturating_add(self.core(core).counted());
+        }
+        counted
     }
 
     fn slice(&mut self, core: u8, nth: u64) {
@@ -222,10 +222,7 @@ impl<'r> Case<'r> {
         let mut known = self.core(core);
         self.judges(Rule::Numbers, nth != known.next);
         let taken = self.taken(core);
-        let is_in_hand = match taken {
-            Some(thread) => thread.is_in_hand(core),
-            None => false,
-        };
+        let is_in_hand = taken.is_some_and(|thread| thread.is_in_hand(core));
         self.judges(Rule::InHand, known.is_in_slice || !is_in_hand);
         if let Some(mut thread) = taken {
             thread.is_in_slice = true;
@@ -266,23 +263,18 @@ impl<'r> Case<'r> {
     {
         let mut known = self.core(core);
         if known.owes_move {
-            known.owes_move = false;
             self.untold = self.untold.saturating_add(1);
             let turns = self.counts.of(Rule::OwnCore);
             let most = UNTOLD.saturating_add(turns / TURNS_PER_UNTOLD);
-            if self.run.has_exclusive || self.untold > most {
-                self.breaks(Rule::OwnCore);
-            }
+            self.breaks_if(Rule::OwnCore, self.run.has_exclusive || self.untold > most);
         }
-        if known.owes_close || known.owes_return {
-            known.owes_close = false;
-            known.owes_return = false;
-            self.breaks(Rule::Parks);
-        }
+        self.breaks_if(Rule::Parks, known.owes_close || known.owes_return);
         let ends = u64::from(self.is_over);
-        if known.unparks > known.grants.saturating_add(ends) {
-            self.breaks(Rule::Unparks);
-        }
+        self.breaks_if(
+            Rule::Unparks,
+            known.unparks > known.grants.saturating_add(ends),
+        );
+        (known.owes_move, known.owes_close, known.owes_return) = (false, false, false);
         self.set_core(core, known);
     }
 
@@ -291,12 +283,11 @@ impl<'r> Case<'r> {
         ensures { self.new.broken ≡ broken_by_turn self.old core id }
     {
         let known = self.core(core);
-        if known.is_in_slice || (self.root.is_none() && core > 0) {
-            self.breaks(Rule::InHand);
-        }
-        if known.alone.is_some_and(|other| other != id) {
-            self.breaks(Rule::Alone);
-        }
+        self.breaks_if(
+            Rule::InHand,
+            known.is_in_slice || (self.root.is_none() && core > 0),
+        );
+        self.breaks_if(Rule::Alone, known.alone.is_some_and(|other| other != id));
     }
 
     fn turn(&mut self, core: u8, id: ThreadId, is_alone: bool) {
@@ -328,21 +319,17 @@ impl<'r> Case<'r> {
     fn look_where(&mut self, known: &mut Core, core: u8, before: ThreadFacts)
         ensures { self.new.broken ≡ broken_by_second_turn self.old before }
     {
-        if before.has_ended() || before.is_in_slice {
-            self.breaks(Rule::InHand);
-        }
+        self.breaks_if(Rule::InHand, before.has_ended() || before.is_in_slice);
         self.counts(Rule::OwnCore);
         if before.pulled == Some(core) {
             return;
         }
-        if before.place() != core && known.moved <= before.turned {
-            known.owes_move = true;
-            self.owes = true;
+        if before.place() != core {
+            known.owes_move |= known.moved <= before.turned;
+        } else {
+            known.owes_return |= before.left > 0 && known.moved <= before.left;
         }
-        if before.place() == core && before.left > 0 && known.moved <= before.left {
-            known.owes_return = true;
-            self.owes = true;
-        }
+        self.owes |= known.owes_move || known.owes_return;
     }
 
     /// Checks that a thread that has waited was woken, and returns the number of its wakes for which it has not
@@ -389,12 +376,8 @@ impl<'r> Case<'r> {
         if found.is_judged {
             self.counts(Rule::Upwards);
         }
-        if found.is_downward {
-            self.breaks(Rule::Upwards);
-        }
-        if found.was_free {
-            self.breaks(Rule::Places);
-        }
+        self.breaks_if(Rule::Upwards, found.is_downward);
+        self.breaks_if(Rule::Places, found.was_free);
     }
 
     fn sliced(&mut self, core: u8, steps: u32, end: SliceEnd)
@@ -403,9 +386,7 @@ impl<'r> Case<'r> {
         self.judges(Rule::Quantum, steps > self.run.quantum);
         self.steps = self.steps.saturating_add(u64::from(steps));
         let mut known = self.core(core);
-        if !known.is_in_slice {
-            self.breaks(Rule::InHand);
-        }
+        self.breaks_if(Rule::InHand, !known.is_in_slice);
         known.is_in_slice = false;
         known.ended = known.ended.saturating_add(1);
         self.ended = self.ended.saturating_add(1);
@@ -462,10 +443,8 @@ impl<'r> Case<'r> {
     fn parks(&mut self, core: u8) {
         self.counts(Rule::Parks);
         let mut known = self.core(core);
-        if !known.was_closed {
-            known.owes_close = true;
-            self.owes = true;
-        }
+        known.owes_close |= !known.was_closed;
+        self.owes |= known.owes_close;
         self.set_core(core, known);
         for place in self.threads.iter_mut() {
             if let Some(thread) = place
@@ -474,6 +453,12 @@ impl<'r> Case<'r> {
             {
                 thread.left = known.last.saturating_add(1);
             }
+        }
+    }
+
+    fn spilled(&mut self) {
+        if self.scans.spilled() {
+            self.counts(Rule::Places);
         }
     }
 

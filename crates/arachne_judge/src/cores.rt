@@ -7,7 +7,8 @@ pub(crate) struct Core {
     pub(crate) next: u64,
     /// The number of slices that the core has reported as ended.
     pub(crate) ended: u64,
-    pub(crate) counted: u64,
+    /// True if the core's last log entry says that a slice has ended.
+    pub(crate) ends_slice: bool,
     pub(crate) turn: Option<ThreadId>,
     pub(crate) is_in_slice: bool,
     /// The thread that has this core to itself.
@@ -26,4 +27,11 @@ pub(crate) struct Core {
     /// True if a thread that was on the core when the core parked is there again without a report of its move.
     pub(crate) owes_return: bool,
     pub(crate) owes_close: bool,
+}
+
+impl Core {
+    /// Returns the number of slices that the core has ended, each with a later entry of the core.
+    pub(crate) fn counted(&self) -> u64 {
+        self.ended.saturating_sub(u64::from(self.ends_slice))
+    }
 }

@@ -96,8 +96,7 @@ impl<C: Seats> Pool<C> {
                 orders.insert(0, closes)?;
             }
         }
-        let orders = Arbiter::new(worker.state.alloc, orders, self.cores)?;
-        worker.state.orders = Some(orders);
+        worker.state.orders = Some(Arbiter::new(worker.state.alloc, orders, self.cores)?);
         Ok(())
     }
 

@@ -82,13 +82,11 @@ pub(crate) fn claim<H: Wait, J: PoolJob, C: Contexts<Spawned<J>>>(
     ensures out { GetsPlace (C.has pool.now.table) seat.old seat.new result }
 {
     let cores = pool.cores::<H, Spawned<J>>(rt);
-    if is_exclusive {
-        if !pool.has_exclusive() {
-            pool.exclusive.store(1, Ordering::SeqCst);
-        }
-        if let Ok(Some(claim)) = cores.claim_exclusive(seat) {
-            return Ok(Some(claim));
-        }
+    if is_exclusive && !pool.has_exclusive() {
+        pool.exclusive.store(1, Ordering::SeqCst);
+    }
+    if is_exclusive && let Ok(Some(claim)) = cores.claim_exclusive(seat) {
+        return Ok(Some(claim));
     }
     let place = cores.claim_normal(seat, chooser);
     if let Ok(None) = place {

@@ -1,5 +1,5 @@
 //! The pool: the data that all its workers share.
-ghost use Rattle.std.specs.Prelude.{◌≡◌, ◌<◌, ◌≤◌, [], IfOk, Some};
+ghost use Rattle.std.specs.Prelude.{◌≡◌, ◌<◌, ◌≤◌, [], IfOk, IsTrue, Some};
 ghost use Rattle.arachne_core.specs.declared.layout.TheConstants.{CORES, SLOTS};
 ghost use Rattle.arachne_policy.specs.Orders.{AreInOrder};
 ghost use Rattle.arachne_pool.specs.Leftover.{IsWhole};
@@ -148,6 +148,13 @@ impl<C: Seats> Pool<C> {
             }
             self.shared.parking().unpark_all();
         }
+    }
+
+    #[inline(always)]
+    pub(crate) fn has_place(&self, place: Place) -> bool
+        ensures { IsTrue result → (place.core < self.now.cores) × (place.index < self.now.slots) }
+    {
+        place.core < self.cores && place.index < self.slots
     }
 
     #[inline(always)]

@@ -9,7 +9,6 @@ use crate::handle::Handle;
 use crate::job::PoolJob;
 use crate::pool::Pool;
 use crate::spawned::Spawned;
-use crate::spawning::Refused;
 use crate::tally::Tally;
 use crate::worker::{PoolFault, Worker};
 use arachne_contexts::{Contexts, Seats};
@@ -120,8 +119,8 @@ where
             handle: None,
         };
         let share = work_together(rt, alloc, &crew, share);
-        let fault = crew.into_first_fault();
-        end(rt, alloc, pool, share, fault, &asked)
+        let why = crew.into_first_fault();
+        end(rt, alloc, pool, share, why, &asked)
     }
 }
 
@@ -160,9 +159,10 @@ impl<'p, C: Seats, J: PoolJob> Crew<'p, C, J> {
         self.pool.stop();
     }
 
-    fn into_first_fault(self) -> Option<PoolFault> {
+    /// Returns the first fault, or `Stopped` if there was none.
+    fn into_first_fault(self) -> PoolFault {
         let Crew { first_fault, .. } = self;
-        first_fault.into_inner()
+        first_fault.into_inner().unwrap_or(PoolFault::Stopped)
     }
 
     /// Returns the handle of `job`, or `job` if it can't be spawned. Only the first worker has a job.
@@ -181,21 +181,17 @@ impl<'p, C: Seats, J: PoolJob> Crew<'p, C, J> {
         ensures job { IfSome result.0 (λ job. job ≡ self.now.asked.value) }
         ensures handle { IfSome result.1 (λ handle. handle ≡ self.now.asked.value) }
     {
-        let Some(job) = job else {
-            return (None, None);
-        };
+        let Some(job) = job else { return (None, None) };
         if self.pool.is_stopped() {
             return (Some(job), None);
         }
-        match self.pool.spawn(rt, worker, job) {
-            Ok(handle) => {
-                self.pool.finish();
-                (None, Some(handle))
-            }
+        let spawned = self.pool.spawn(rt, worker, job);
+        self.pool.finish();
+        match spawned {
+            Ok(handle) => (None, Some(handle)),
             Err(refused) => {
-                let Refused { job, .. } = refused;
                 self.stop_for(rt, PoolFault::Memory);
-                (Some(job), None)
+                (Some(refused.job), None)
             }
         }
     }
@@ -216,23 +212,13 @@ impl<'p, J: PoolJob, C: Contexts<Spawned<J>>> Team<Share<C::Seat, J>> for Crew<'
         rt: &R,
         share: Share<C::Seat, J>,
     ) -> (Share<C::Seat, J>, Option<Share<C::Seat, J>>) {
-        let Share {
-            worker,
-            job,
-            handle,
-        } = share;
-        let (worker, theirs) = self.pool.split(rt, worker);
+        let (worker, theirs) = self.pool.split(rt, share.worker);
         let theirs = Share {
             worker: theirs,
             job: None,
             handle: None,
         };
-        let own = Share {
-            worker,
-            job,
-            handle,
-        };
-        (own, Some(theirs))
+        (Share { worker, ..share }, Some(theirs))
     }
 
     fn work<R: Wait + Clock>(
@@ -241,12 +227,8 @@ impl<'p, J: PoolJob, C: Contexts<Spawned<J>>> Team<Share<C::Seat, J>> for Crew<'
         number: u8,
         share: Share<C::Seat, J>,
     ) -> Option<Share<C::Seat, J>> {
-        let Share {
-            mut worker,
-            job,
-            ..
-        } = share;
-        let (job, handle) = self.spawn(rt, &mut worker, job);
+        let mut worker = share.worker;
+        let (job, handle) = self.spawn(rt, &mut worker, share.job);
         if let Err(fault) = self.pool.work(rt, &mut worker, number) {
             self.stop_for(rt, fault);
         }
@@ -263,17 +245,8 @@ impl<'p, J: PoolJob, C: Contexts<Spawned<J>>> Team<Share<C::Seat, J>> for Crew<'
         share: Share<C::Seat, J>,
         other: Share<C::Seat, J>,
     ) -> Option<Share<C::Seat, J>> {
-        let Share {
-            worker,
-            job,
-            handle,
-        } = share;
-        let worker = self.pool.join_workers(rt, worker, other.worker).ok()?;
-        Some(Share {
-            worker,
-            job,
-            handle,
-        })
+        let worker = self.pool.join_workers(rt, share.worker, other.worker).ok()?;
+        Some(Share { worker, ..share })
     }
 
     fn fail<R: Wait>(&self, rt: &R, fault: TeamFault) {
@@ -286,7 +259,7 @@ fn end<C: Contexts<Spawned<J>> + Drop, R: Wait, J: PoolJob>(
     alloc: Global,
     pool: Pool<C>,
     share: Option<Share<C::Seat, J>>,
-    fault: Option<PoolFault>,
+    why: PoolFault,
     asked: &Snapshot<J>,
 ) -> Result<Finished<J::Output>, Unfinished<J>>
     requires worker { IfSome share (λ share. IsWorkerOf pool share.worker) }
@@ -296,30 +269,17 @@ fn end<C: Contexts<Spawned<J>> + Drop, R: Wait, J: PoolJob>(
     ensures all { IfOk result (λ done. done.tally.ended ≡ done.tally.spawned) }
     ensures handed_back { IfErr result (HandsBackRun asked.now.value) }
 {
-    let why = fault.unwrap_or(PoolFault::Stopped);
-    let Some(share) = share else {
-        return Err(Unfinished::Lost(why));
-    };
-    let Share {
-        worker,
-        job,
-        handle,
-    } = share;
-    if let Some(job) = job {
+    let share = share.ok_or(Unfinished::<J>::Lost(why))?;
+    if let Some(job) = share.job {
         return Err(Unfinished::NotSpawned(why, job));
     }
-    let Some(handle) = handle else {
+    let handle = share.handle.ok_or(Unfinished::<J>::Lost(why))?;
+    let tally = share.worker.tally();
+    let Ok(left) = pool.close(rt, alloc, share.worker) else {
         return Err(Unfinished::Lost(why));
     };
-    let tally = worker.tally();
-    let Ok(left) = pool.close(rt, alloc, worker) else {
-        return Err(Unfinished::Lost(why));
-    };
-    if !left.is_empty() {
-        return Err(Unfinished::Stopped(why, tally, left));
-    }
     match handle.poll() {
-        Ok(output) => Ok(Finished { output, tally }),
-        Err(_) => Err(Unfinished::Stopped(why, tally, left)),
+        Ok(output) if left.is_empty() => Ok(Finished { output, tally }),
+        _ => Err(Unfinished::Stopped(why, tally, left)),
     }
 }

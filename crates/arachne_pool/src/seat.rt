@@ -55,15 +55,11 @@ impl<'a, H: Wait, J: PoolJob, C: Contexts<Spawned<J>>> Dispatch for Seat<'a, H, 
 
     #[inline(always)]
     fn take(&mut self, place: Place) -> Grip {
-        let Place { core, index } = place;
-        if core >= self.pool.cores || index >= self.pool.slots {
-            return Grip::None;
-        }
-        if self.held.is_some() || self.is_broken {
+        if !self.pool.has_place(place) || self.held.is_some() || self.is_broken {
             return Grip::None;
         }
         let table = &self.pool.table;
-        match table.take(self.rt, &mut self.seat, core, index) {
+        match table.take(self.rt, &mut self.seat, place.core, place.index) {
             Taken::Run(held) => {
                 self.held = Some(held);
                 self.has_taken = true;
@@ -213,23 +209,18 @@ impl<'a, H: Wait, J: PoolJob, C: Contexts<Spawned<J>>> Dispatch for Seat<'a, H, 
     }
 
     fn take_ticket(&mut self) -> Result<TicketResult, Halt> {
-        if self.is_broken {
+        if replace(&mut self.is_broken, true) {
             return Err(disowned());
         }
-        self.is_broken = true;
-        let state = &mut self.state;
-        let posted = place_oldest::<H, J, C>(self.rt, self.pool, &mut self.seat, state)?;
+        let posted = place_oldest::<H, J, C>(self.rt, self.pool, &mut self.seat, &mut self.state)?;
         self.is_broken = false;
-        let Some(posted) = posted else {
-            return Ok(if self.fetch() {
-                TicketResult::Gone
-            } else {
-                TicketResult::None
-            });
-        };
-        Ok(match posted.tell_unless_on(self.core, &self.pool.shared) {
-            Some(post) => TicketResult::Posted(post),
-            None => TicketResult::Gone,
+        Ok(match posted {
+            Some(posted) => match posted.tell_unless_on(self.core, &self.pool.shared) {
+                Some(post) => TicketResult::Posted(post),
+                None => TicketResult::Gone,
+            },
+            None if self.fetch() => TicketResult::Gone,
+            None => TicketResult::None,
         })
     }
 
@@ -377,10 +368,7 @@ impl<'a, H: Wait, J: PoolJob, C: Contexts<Spawned<J>>> Seat<'a, H, J, C> {
     fn move_here(&mut self, place: Place) -> bool
         ensures { self.new ≡ self.old }
     {
-        if place.core == self.core
-            || place.core >= self.pool.cores
-            || place.index >= self.pool.slots
-        {
+        if place.core == self.core || !self.pool.has_place(place) {
             return false;
         }
         let table = &self.pool.table;

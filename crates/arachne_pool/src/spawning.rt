@@ -1,5 +1,5 @@
 //! Spawning jobs. A job for which no slot is free waits in the worker's queue, or is returned to the caller.
-ghost use Rattle.std.specs.Prelude.{◌≡◌, [], ◌∷◌, ◌++◌, IfErr, IfOk, None, OnOk};
+ghost use Rattle.std.specs.Prelude.{◌≡◌, [], ◌∷◌, ◌++◌, IfErr, IfOk, None, OnOk, Some};
 ghost use Rattle.arachne_contexts.specs.Out.{Claim};
 ghost use Rattle.arachne_pool.specs.Jobs.{one};
 ghost use Rattle.arachne_pool.specs.Spawning.{HandsBack, IsRefusedUnkept, KeepsLast, SpawnsOne};
@@ -94,16 +94,8 @@ impl<C: Seats> Pool<C> {
         let chooser = &mut worker.state.chooser;
         match claim::<H, J, C>(rt, self, &mut seat, chooser, job.is_exclusive()) {
             Ok(Some(claim)) => self.begin_at(rt, worker, seat, claim, job),
-            Ok(None) => {
-                worker.seat = Some(seat);
-                let why = Refusal::NoPlace;
-                Err(Refused { job, why })
-            }
-            Err(_) => {
-                worker.seat = Some(seat);
-                let why = Refusal::Memory;
-                Err(Refused { job, why })
-            }
+            Ok(None) => Err(worker.refuse(seat, job, Refusal::NoPlace)),
+            Err(_) => Err(worker.refuse(seat, job, Refusal::Memory)),
         }
     }
 
@@ -169,13 +161,21 @@ impl<C: Seats> Pool<C> {
             Err(job) => {
                 let why = Refusal::Memory;
                 match self.table.give_back(rt, &mut seat, claim) {
-                    Ok(()) => {
-                        worker.seat = Some(seat);
-                        Err(Refused { job, why })
-                    }
+                    Ok(()) => Err(worker.refuse(seat, job, why)),
                     Err(_) => Err(Refused { job, why }),
                 }
             }
         }
+    }
+}
+
+impl<S, J: PoolJob> Worker<S, J> {
+    /// Gives the seat (the right to use the table) back to the worker, and returns the job with the reason.
+    fn refuse(&mut self, seat: S, job: J, why: Refusal) -> Refused<J>
+        ensures seat { self.new ≡ record self.old { seat = Some seat } }
+        ensures back { result ≡ record { job = job; why = why } }
+    {
+        self.seat = Some(seat);
+        Refused { job, why }
     }
 }

@@ -283,8 +283,8 @@ impl<J: PoolJob> Stack<J> {
             return JobStop::Goes;
         };
         self.top.awaited = awaited;
-        let frame = replace(&mut self.top, JobFrame::begin(child));
-        self.below.push_reserved(frame);
+        self.below
+            .push_reserved(replace(&mut self.top, JobFrame::begin(child)));
         JobStop::Goes
     }
 
@@ -297,12 +297,11 @@ impl<J: PoolJob> Stack<J> {
         if self.top.awaited > 0 {
             return JobStop::LetsGo;
         }
-        let Some(output) = self.ended.take() else {
-            return JobStop::Goes;
-        };
         let Some(frame) = self.below.pop() else {
-            self.ended = Some(output);
             return JobStop::Ends;
+        };
+        let Some(output) = self.ended.take() else {
+            unreachable!()
         };
         self.top = frame;
         self.top.job.joined(output);

@@ -1,4 +1,6 @@
 //! Counts of jobs that were spawned and that have ended: a worker's own, and those that all workers have reported.
+ghost use Rattle.std.specs.Prelude.{◌≡◌, ◌+◌, ◌≤◌};
+
 use crossbeam_utils::CachePadded;
 use std::alloc::{AllocError, Global};
 use std::sync::atomic::{AtomicU64, Ordering};
@@ -8,6 +10,19 @@ use std::sync::atomic::{AtomicU64, Ordering};
 pub struct Tally {
     pub spawned: u64,
     pub ended: u64,
+}
+
+impl Tally {
+    /// Returns the sums of both counts.
+    pub(crate) fn plus(self, other: Tally) -> Tally
+        ensures spawned { self.spawned + other.spawned ≤ u64.MAX → result.spawned ≡ self.spawned + other.spawned }
+        ensures ended { self.ended + other.ended ≤ u64.MAX → result.ended ≡ self.ended + other.ended }
+    {
+        Tally {
+            spawned: self.spawned.saturating_add(other.spawned),
+            ended: self.ended.saturating_add(other.ended),
+        }
+    }
 }
 
 #[derive(Drop)]

@@ -112,18 +112,13 @@ impl<J: PoolJob> WorkerState<J> {
         ensures many { count_near self.new.near.items + job.new.many ≡ count_near self.old.near.items + job.old.many }
     {
         for _ in 0..job.stack.orphans() {
-            let Ok(()) = self.near.reserve(1) else {
-                if job.stack.links.aside() > 0 {
-                    self.is_short = true;
-                    return false;
-                }
-                // The children that are left have begun elsewhere, and take no room.
-                let None = job.let_go(self.alloc, false) else {
-                    unreachable!()
-                };
-                continue;
-            };
-            if let Some(orphan) = job.let_go(self.alloc, true) {
+            let has_room = self.near.reserve(1).is_ok();
+            if !has_room && job.stack.links.aside() > 0 {
+                self.is_short = true;
+                return false;
+            }
+            // Without room, the children that are left have begun elsewhere, and take none.
+            if let Some(orphan) = job.let_go(self.alloc, has_room) {
                 self.near.push_back_reserved(orphan);
             }
         }
@@ -280,11 +275,7 @@ impl<C: Seats> Pool<C> {
             return Err((worker, other));
         }
         // Both workers have reported their counts to the pool.
-        let (own, theirs) = (worker.state.tally, other.state.tally);
-        worker.state.tally = Tally {
-            spawned: own.spawned.saturating_add(theirs.spawned),
-            ended: own.ended.saturating_add(theirs.ended),
-        };
+        worker.state.tally = worker.state.tally.plus(other.state.tally);
         worker.state.told = worker.state.tally;
         worker.state.orders = worker.state.orders.take().or(other.state.orders.take());
         worker.seat = self.join_seats(rt, worker.seat.take(), other.seat.take());

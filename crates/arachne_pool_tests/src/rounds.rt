@@ -35,13 +35,12 @@ fn orders_of(alloc: Global, text: &str, cores: u8) -> Option<Vec<CoreOrder>>
     let mut list = Vec::new(alloc);
     for order in text.split(',') {
         let mut words = order.split_whitespace();
-        let (after, kind, core) = (words.next(), words.next(), number(words.next()));
+        let (after, kind, core) = (number(words.next()), words.next(), number(words.next()));
         let kind = match kind {
             Some("grant") => OrderKind::Grant,
             Some("release") => OrderKind::Release,
             _ => continue,
         };
-        let after = number(after);
         list.push(CoreOrder { after, kind, core }).ok()?;
     }
     check_orders(&list, u64::from(cores)).ok()?;
@@ -96,24 +95,21 @@ pub(crate) fn begin<C: Contexts<Spawned<Task>> + Drop, R: Wait + Clock>(
         pool: &pool,
         board,
     };
-    if bench.all_hold(&mut worker, row.acts) {
-        Some((pool, worker))
-    } else {
-        None
-    }
+    bench.all_hold(&mut worker, row.acts)?;
+    Some((pool, worker))
 }
 
 /// Does the steps `then`, and closes the pool.
 ///
-/// Returns true if the result of each step, the number of busy kernel threads and the jobs that are left are as
-/// expected.
+/// Returns `None` if the result of a step, the number of busy kernel threads or the jobs that are left are not the
+/// expected ones.
 pub(crate) fn end<C: Contexts<Spawned<Task>> + Drop, R: Wait + Clock>(
     rt: &R,
     board: &Arc<Board>,
     pool: Pool<C>,
     share: Share<C::Seat>,
     row: &Row,
-) -> bool
+) -> Option<()>
     requires { IsWorkerOf pool share.worker }
 {
     let Share { mut worker, busy } = share;
@@ -122,14 +118,11 @@ pub(crate) fn end<C: Contexts<Spawned<Task>> + Drop, R: Wait + Clock>(
         pool: &pool,
         board,
     };
-    if !bench.all_hold(&mut worker, row.then) {
-        return false;
-    }
-    let Ok(left) = pool.close(rt, board.alloc, worker) else {
-        return false;
-    };
+    bench.all_hold(&mut worker, row.then)?;
+    let left = pool.close(rt, board.alloc, worker).ok()?;
     let sizes = (left.placed.len(), left.near.len());
-    busy >= row.busy && sizes == row.left && count_left(left) == row.alive
+    let is_so = busy >= row.busy && sizes == row.left && count_left(left) == row.alive;
+    is_so.then_some(())
 }
 
 fn count_left(left: Left<Task>) -> usize {
@@ -164,32 +157,23 @@ pub(crate) struct Bench<'p, C: Seats, R> {
 }
 
 impl<'p, C: Contexts<Spawned<Task>>, R: Wait + Clock> Bench<'p, C, R> {
-    /// Returns true if each of these steps has the result that it states.
+    /// Returns `None` at the first of these steps that hasn't the result that it states.
     ///
     /// The act `hoards` takes all memory that the process can get, and `frees` frees it.
-    fn all_hold(&self, worker: &mut Worker<C::Seat, Task>, acts: &str) -> bool
+    fn all_hold(&self, worker: &mut Worker<C::Seat, Task>, acts: &str) -> Option<()>
         requires { IsWorkerOf self.now.pool.now worker.old }
         ensures { IsWorkerOf self.now.pool.now worker.new }
     {
         let mut hoard: Option<Hoard> = None;
         for act in acts.split('|') {
-            let holds = match act.trim() {
-                "" => true,
-                "hoards" => {
-                    hoard = Hoard::take(self.board.alloc).ok();
-                    hoard.is_some()
-                }
-                "frees" => {
-                    hoard = None;
-                    true
-                }
-                act => self.holds(worker, act),
-            };
-            if !holds {
-                return false;
+            match act.trim() {
+                "" => {}
+                "hoards" => hoard = Some(Hoard::take(self.board.alloc).ok()?),
+                "frees" => hoard = None,
+                act => self.holds(worker, act).then_some(())?,
             }
         }
-        true
+        Some(())
     }
 
     /// Does one step of a test case. Returns true if it has the result that it states.
@@ -230,7 +214,7 @@ impl<'p, C: Contexts<Spawned<Task>>, R: Wait + Clock> Bench<'p, C, R> {
             "counts" => worker.tally().spawned == first,
             "ends-in-need" if self.pool.cores > 0 => self.ends_in_need(worker, rest),
             "works" | "turns" | "turns-in-need" => self.works(worker, name, first, second),
-            _ => self.is_so(name, first, second),
+            _ => self.does(name) || self.is_so(name, first, second),
         }
     }
 
@@ -256,7 +240,7 @@ impl<'p, C: Contexts<Spawned<Task>>, R: Wait + Clock> Bench<'p, C, R> {
     }
 
     /// Returns true if each of `rounds` rounds (passes of the worker's loop) has found something to do.
-    fn turns(&self, worker: &mut Worker<C::Seat, Task>, core: u8, rounds: u64) -> bool
+    pub(crate) fn turns(&self, worker: &mut Worker<C::Seat, Task>, core: u8, rounds: u64) -> bool
         requires worker { IsWorkerOf self.now.pool.now worker.old }
         requires core { core < self.now.pool.now.cores }
         ensures worker { IsWorkerOf self.now.pool.now worker.new }
@@ -269,31 +253,32 @@ impl<'p, C: Contexts<Spawned<Task>>, R: Wait + Clock> Bench<'p, C, R> {
         true
     }
 
-    /// Does one step that needs no worker. Returns true if it has the result that it states.
+    /// Does one step that needs no worker and states no result. Returns false if there is no such step.
+    ///
+    /// `answer` counts an answer (an event for which jobs sleep), without waking any job. `keeps-open` keeps the pool
+    /// open for more jobs, even if all have ended, and `stops` stops it.
+    fn does(&self, name: &str) -> bool {
+        match name {
+            "answer" => self.board.answer(),
+            "keeps-open" => self.pool.keep_open(),
+            "stops" => self.pool.stop(),
+            _ => return false,
+        }
+        true
+    }
+
+    /// Returns true if the pool and its jobs are as the step states.
     ///
     /// In `open CORE COUNT`, `closed` and `alone` (one job has the core for itself), the core must be in this state and
     /// have COUNT occupied slots. `lives`, `stepped` and `answered` state the number of jobs that have not ended, of
     /// jobs' steps, and of answers (events for which jobs sleep). `overslept` states the least and the greatest number
-    /// of sleeps that have timed out although there was something to do. `answer` counts an answer, without waking any
-    /// job. `keeps-open` keeps the pool open for more jobs, even if all have ended, and `stops` stops it.
+    /// of sleeps that have timed out although there was something to do.
     fn is_so(&self, name: &str, first: u64, second: u64) -> bool {
         match name {
             "lives" => self.pool.live() == first,
             "stepped" => self.board.steps.load(Ordering::SeqCst) == first,
             "overslept" => (first..=second).contains(&self.pool.overslept()),
             "answered" => self.board.answers() == first,
-            "answer" => {
-                self.board.answer();
-                true
-            }
-            "keeps-open" => {
-                self.pool.keep_open();
-                true
-            }
-            "stops" => {
-                self.pool.stop();
-                true
-            }
             _ => self.has(name, u8::try_from(first).unwrap_or(u8::MAX), second),
         }
     }
@@ -314,7 +299,8 @@ impl<'p, C: Contexts<Spawned<Task>>, R: Wait + Clock> Bench<'p, C, R> {
         state == name && u64::from(now.count()) == taken
     }
 
-    fn spawns(&self, worker: &mut Worker<C::Seat, Task>, jobs: u64, sort: &str) -> bool
+    /// Returns true if `jobs` jobs of this sort were spawned.
+    pub(crate) fn spawns(&self, worker: &mut Worker<C::Seat, Task>, jobs: u64, sort: &str) -> bool
         requires { IsWorkerOf self.now.pool.now worker.old }
         ensures { IsWorkerOf self.now.pool.now worker.new }
     {
@@ -330,7 +316,12 @@ impl<'p, C: Contexts<Spawned<Task>>, R: Wait + Clock> Bench<'p, C, R> {
     }
 
     /// Returns true if the job is refused for the reason `wanted`, or spawned if that is `None`.
-    fn tries(&self, worker: &mut Worker<C::Seat, Task>, wanted: Option<Refusal>, sort: &str) -> bool
+    pub(crate) fn tries(
+        &self,
+        worker: &mut Worker<C::Seat, Task>,
+        wanted: Option<Refusal>,
+        sort: &str,
+    ) -> bool
         requires { IsWorkerOf self.now.pool.now worker.old }
         ensures { IsWorkerOf self.now.pool.now worker.new }
     {
@@ -365,10 +356,7 @@ impl<'p, C: Contexts<Spawned<Task>>, R: Wait + Clock> Bench<'p, C, R> {
                 rounds = rounds.saturating_add(u32::from(!turned));
                 turned
             } else {
-                is_spawned = match Task::of(sort, self.board) {
-                    Some(task) => self.pool.spawn(self.rt, worker, task).is_ok(),
-                    None => false,
-                };
+                is_spawned = self.spawns(worker, 1, sort);
                 spawns = spawns.saturating_add(u32::from(!is_spawned));
                 is_spawned
             };

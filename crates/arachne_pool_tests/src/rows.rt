@@ -278,11 +278,8 @@ impl<'p, C: Contexts<Spawned<Task>>> Team<Share<C::Seat>> for Crew<'p, C> {
         share: Share<C::Seat>,
     ) -> Option<Share<C::Seat>> {
         let Share { mut worker, .. } = share;
-        let spell = if number == 0 {
-            self.spells.0
-        } else {
-            self.spells.1
-        };
+        let (zero, one) = self.spells;
+        let spell = if number == 0 { zero } else { one };
         let bench = Bench {
             rt,
             pool: self.pool,
@@ -309,30 +306,24 @@ impl<'p, C: Contexts<Spawned<Task>>> Team<Share<C::Seat>> for Crew<'p, C> {
     }
 }
 
-/// Returns true if each result of the test case is the expected one.
-fn holds<R: Threads + Wait + Clock + Sync>(rt: &R, alloc: Global, row: &Row) -> bool {
-    let Some(board) = Board::new(alloc) else {
-        return false;
-    };
-    let Some((pool, worker)) = begin::<Table, R>(rt, &board, row) else {
-        return false;
-    };
+/// Returns `None` if a result of the test case isn't the expected one, or memory is refused.
+fn holds<R: Threads + Wait + Clock + Sync>(rt: &R, alloc: Global, row: &Row) -> Option<()> {
+    let board = Board::new(alloc)?;
+    let (pool, worker) = begin::<Table, R>(rt, &board, row)?;
     let crew = Crew {
         pool: &pool,
         board: &board,
         spells: row.spells,
     };
-    match work_together(rt, alloc, &crew, Share { worker, busy: 0 }) {
-        Some(share) => end::<Table, R>(rt, &board, pool, share, row),
-        None => false,
-    }
+    let share = work_together(rt, alloc, &crew, Share { worker, busy: 0 })?;
+    end::<Table, R>(rt, &board, pool, share, row)
 }
 
 #[test]
 fn each_row_holds(rt: HostRuntime) -> Result<(), Fail> {
     for rows in [ROWS, serving::ROWS] {
         for row in rows {
-            assert!(rt; holds(&rt, rt.alloc(), row), "{}", row.shows);
+            assert!(rt; holds(&rt, rt.alloc(), row).is_some(), "{}", row.shows);
         }
     }
     Ok(())

@@ -100,30 +100,26 @@ fn each_job_is_run_to_its_end_or_returned(rt: HostRuntime) -> Result<(), Fail> {
     Ok(())
 }
 
+const FORKING: Row = Row {
+    shows: "memory ends before the job is spawned, as it forks, or as the jobs are collected",
+    cores: 1,
+    sort: "alone parent forks=4294967295",
+    free: None,
+    comes: Comes::Stopped(PoolFault::Memory, 1),
+};
+
 #[test]
 fn a_job_is_returned_wherever_memory_ends(rt: HostRuntime) -> Result<(), Fail> {
-    let (mut unspawned, mut stopped) = (0u32, 0u32);
+    let (mut is_unspawned, mut is_stopped) = (false, false);
     for step in 0..40usize {
-        let row = Row {
-            shows: "memory ends before the job is spawned, as it forks, or as the jobs are collected",
-            cores: 1,
-            sort: "alone parent forks=4294967295",
-            free: Some(step * 20_000),
-            comes: Comes::Stopped(PoolFault::Memory, 1),
-        };
-        let comes = run(&rt, rt.alloc(), &row);
-        unspawned = unspawned.saturating_add(u32::from(
-            comes == Some(Comes::NotSpawned(PoolFault::Memory)),
-        ));
-        stopped = stopped.saturating_add(u32::from(comes == Some(row.comes)));
-        let is_known = comes == Some(Comes::NotSpawned(PoolFault::Memory))
-            || comes == Some(Comes::Lost(PoolFault::Memory))
-            || comes == Some(row.comes);
-        assert!(rt; is_known, "{}", row.shows);
+        let free = Some(step * 20_000);
+        match run(&rt, rt.alloc(), &Row { free, ..FORKING }) {
+            Some(Comes::NotSpawned(PoolFault::Memory)) => is_unspawned = true,
+            Some(Comes::Stopped(PoolFault::Memory, 1)) => is_stopped = true,
+            Some(Comes::Lost(PoolFault::Memory)) => {}
+            _ => return Err(FORKING.shows.into()),
+        }
     }
-    assert!(rt;
-        unspawned > 0 && stopped > 0,
-        "memory ends before the job is spawned, and later"
-    );
+    assert!(rt; is_unspawned && is_stopped, "{is_unspawned} {is_stopped}");
     Ok(())
 }

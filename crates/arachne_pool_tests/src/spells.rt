@@ -182,13 +182,10 @@ impl<'p, C: Contexts<Spawned<Task>>, R: Wait + Clock> Bench<'p, C, R> {
         ensures worker { IsWorkerOf self.now.pool.now worker.new }
     {
         for job in 0..jobs {
-            let Some(task) = Task::of("leaf", self.board) else {
-                return;
-            };
             self.await_sign(Sign::Asleep);
             let is_begun = match job % 2 {
-                0 => self.pool.spawn(self.rt, worker, task).is_ok(),
-                _ => self.pool.try_spawn(self.rt, worker, task).is_ok(),
+                0 => self.spawns(worker, 1, "leaf"),
+                _ => self.tries(worker, None, "leaf"),
             };
             if !is_begun {
                 self.pool.stop();
@@ -258,16 +255,13 @@ impl<'p, C: Contexts<Spawned<Task>>, R: Wait + Clock> Bench<'p, C, R> {
         ensures worker { IsWorkerOf self.now.pool.now worker.new }
     {
         self.await_sign(Sign::Begun(0));
-        if let Some(task) = Task::of("leaf", self.board) {
-            let _ = self.pool.spawn(self.rt, worker, task);
-        }
+        let _ = self.spawns(worker, 1, "leaf");
         let _ = self.pool.turn(self.rt, worker, 0);
         for _ in self.rt.forever() {
-            if self.board.begun.load(Ordering::SeqCst) > 2 || self.board.answers() > 0 {
+            if self.shows(Sign::Begun(2)) || self.board.answers() > 0 {
                 break;
             }
-            let found = matches!(self.pool.turn(self.rt, worker, 0), Ok(true));
-            if found && self.board.begun.load(Ordering::SeqCst) <= 2 {
+            if self.turns(worker, 0, 1) && !self.shows(Sign::Begun(2)) {
                 self.board.answer();
             }
         }
@@ -275,19 +269,22 @@ impl<'p, C: Contexts<Spawned<Task>>, R: Wait + Clock> Bench<'p, C, R> {
         let _ = self.pool.work(self.rt, worker, 0);
     }
 
+    fn shows(&self, sign: Sign) -> bool {
+        match sign {
+            Sign::Begun(than) => self.board.begun.load(Ordering::SeqCst) > than,
+            Sign::Sleeps(than) => self.board.sleeps.load(Ordering::SeqCst) > than,
+            Sign::Turns(than) => self.board.turns.load(Ordering::SeqCst) > than,
+            Sign::Returns(than) => self.board.returns.load(Ordering::SeqCst) > than,
+            Sign::Live(most) => self.pool.live() <= most,
+            Sign::Asleep => self.pool.is_asleep(1),
+        }
+    }
+
     /// Checks `LOOKS` times without a pause, and then yields the processor before each check.
     fn await_sign(&self, sign: Sign) {
         let mut looks: u32 = 0;
         for _ in self.rt.forever() {
-            let is_so = match sign {
-                Sign::Begun(than) => self.board.begun.load(Ordering::SeqCst) > than,
-                Sign::Sleeps(than) => self.board.sleeps.load(Ordering::SeqCst) > than,
-                Sign::Turns(than) => self.board.turns.load(Ordering::SeqCst) > than,
-                Sign::Returns(than) => self.board.returns.load(Ordering::SeqCst) > than,
-                Sign::Live(most) => self.pool.live() <= most,
-                Sign::Asleep => self.pool.is_asleep(1),
-            };
-            if is_so || self.pool.is_stopped() {
+            if self.shows(sign) || self.pool.is_stopped() {
                 return;
             }
             if looks < LOOKS {

@@ -79,6 +79,16 @@ impl Sort {
         }
         Some(sort)
     }
+
+    /// Returns the sort of a child of such a job, or `None` if the job has no children.
+    fn of_child(self, is_first: bool) -> Option<Sort> {
+        Some(Sort {
+            depth: self.depth.checked_sub(1)?,
+            answers: self.answers.saturating_sub(1),
+            is_exclusive: self.is_exclusive || self.is_first_exclusive && is_first,
+            ..self
+        })
+    }
 }
 
 /// Counts the children that it has forked and not joined, the steps since its last fork, and the jobs that it has
@@ -115,16 +125,10 @@ impl Task {
     }
 
     fn child(&mut self) -> Option<Task> {
-        if self.sort.depth == 0 || self.forked >= self.sort.forks {
+        if self.forked >= self.sort.forks {
             return None;
         }
-        let sort = Sort {
-            depth: self.sort.depth - 1,
-            answers: self.sort.answers.saturating_sub(1),
-            is_exclusive: self.sort.is_exclusive
-                || self.sort.is_first_exclusive && self.forked == 0,
-            ..self.sort
-        };
+        let sort = self.sort.of_child(self.forked == 0)?;
         let child = Task::new(sort, &self.board)?;
         self.forked += 1;
         self.awaited = self.awaited.wrapping_add(1);

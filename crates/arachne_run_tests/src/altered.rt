@@ -4,6 +4,7 @@ ghost use Rattle.arachne_contexts.specs.Answers.{RestsAs};
 ghost use Rattle.arachne_contexts.specs.Out.{Thread as a_thread, Spends};
 ghost use Rattle.arachne_locked.specs.Seats.{HasCounted, CountsOut};
 
+use crate::gates::comes;
 use arachne_contexts::{Claimed, Contexts, Held, Moved, Rested, Seats, Tagged, Taken, Woken};
 use arachne_core::{Place, Rest, ThreadId};
 use arachne_locked::{LockedClaim, LockedContexts, LockedHold, LockedSeat};
@@ -32,6 +33,21 @@ enum Alteration {
     /// On core 1, `glance` and `claim` wait until a slot is free.
     AwaitsPlace,
     OpensLate,
+}
+
+impl Alteration {
+    /// Returns the alteration of a table with these numbers of cores and slots.
+    fn of(cores: u8, slots: u8) -> Alteration {
+        match (cores, slots) {
+            (5, _) => Alteration::HandsBack,
+            (6, _) => Alteration::RefusesMemory,
+            (7, _) => Alteration::IsFull,
+            (_, 5) => Alteration::Loses,
+            (2, 3) => Alteration::AwaitsPlace,
+            (_, 9) => Alteration::OpensLate,
+            _ => Alteration::None,
+        }
+    }
 }
 
 /// In the alteration `RefusesMemory`, `finish` waits until a claim was refused memory, but for at most this number of
@@ -99,18 +115,9 @@ impl<T: Tagged + Drop> Seats for Altered<T> {
         first_generation: u64,
     ) -> Result<(Altered<T>, LockedSeat), AllocError> {
         let (inner, seat) = LockedContexts::new(alloc, cores, slots, first_generation)?;
-        let alteration = match (cores, slots) {
-            (5, _) => Alteration::HandsBack,
-            (6, _) => Alteration::RefusesMemory,
-            (7, _) => Alteration::IsFull,
-            (_, 5) => Alteration::Loses,
-            (2, 3) => Alteration::AwaitsPlace,
-            (_, 9) => Alteration::OpensLate,
-            _ => Alteration::None,
-        };
         let altered = Altered {
             inner,
-            alteration,
+            alteration: Alteration::of(cores, slots),
             answered: AtomicU64::new(0),
         };
         Ok((altered, seat))
@@ -257,12 +264,7 @@ impl<T: Tagged + Drop> Contexts<T> for Altered<T> {
         match self.alteration {
             Alteration::HandsBack => Err(held),
             Alteration::RefusesMemory => {
-                for _ in 0..POLLS {
-                    if self.answered.load(Ordering::SeqCst) > 0 {
-                        break;
-                    }
-                    yield_now();
-                }
+                let _ = comes(&self.answered, 1, POLLS);
                 give_time();
                 Err(held)
             }

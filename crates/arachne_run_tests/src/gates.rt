@@ -95,7 +95,7 @@ fn count(word: &AtomicU64) {
 }
 
 /// Returns true if the word became at least `wanted`.
-fn comes(word: &AtomicU64, wanted: u64, polls: u32) -> bool {
+pub(crate) fn comes(word: &AtomicU64, wanted: u64, polls: u32) -> bool {
     for _ in 0..polls {
         if get(word) >= wanted {
             return true;
@@ -249,22 +249,17 @@ impl Watch {
     }
 
     fn slice_ended(&self, core: u8, end: SliceEnd) {
-        match (self.watching, core) {
-            (Watching::ParksLast(_, _), 1) => match end {
-                SliceEnd::Ended => set(&self.zero),
-                SliceEnd::AwaitsChild => set(&self.one),
-                SliceEnd::GoesOn | SliceEnd::Awaits(_) => {}
-            },
-            (Watching::Emptied(emptied, _), _) if core == emptied => {
+        match (self.watching, core, end) {
+            (Watching::ParksLast(_, _), 1, SliceEnd::Ended) => set(&self.zero),
+            (Watching::ParksLast(_, _), 1, SliceEnd::AwaitsChild) => set(&self.one),
+            (Watching::Emptied(emptied, _), _, _) if core == emptied && end != SliceEnd::GoesOn => {
                 if end == SliceEnd::Ended && get(&self.slices) == 0 {
                     set(&self.zero);
                 }
-                if end != SliceEnd::GoesOn {
-                    set(&self.ended);
-                }
+                set(&self.ended);
             }
-            (Watching::Holding(_), 1) => self.wait(&self.zero, 1),
-            (Watching::Stopping(_), 0) | (Watching::Parking(_), 1) => set(&self.ended),
+            (Watching::Holding(_), 1, _) => self.wait(&self.zero, 1),
+            (Watching::Stopping(_), 0, _) | (Watching::Parking(_), 1, _) => set(&self.ended),
             _ => {}
         }
     }

@@ -41,13 +41,12 @@ pub struct Report {
 pub fn send<R: Wait + Clock, C: Contexts<Spawned<Job>>>(
     rt: &R,
     server: &Server<'_, C>,
-    worker: Worker<C::Seat, Job>,
+    mut worker: Worker<C::Seat, Job>,
 ) -> Option<(Worker<C::Seat, Job>, Report)>
     requires { IsWorkerOf server.now.pool worker }
     ensures worker { IfSome result (λ sent. IsWorkerOf server.now.pool sent.0) }
     ensures all { IfSome result (λ sent. vec_len sent.1.answers + sent.1.refused ≡ length server.now.requests.now) }
 {
-    let mut worker = worker;
     let begin = now(rt);
     let mut report = Report {
         begin,
@@ -139,10 +138,7 @@ fn settles<R: Wait, C: Contexts<Spawned<Job>>>(
 {
     let job = Job::new(request, server.clock, &server.timer)?;
     match server.pool.try_spawn(rt, worker, job) {
-        Ok(handle) => {
-            sent.push_back(handle).ok()?;
-            Some(true)
-        }
+        Ok(handle) => sent.push_back(handle).ok().map(|_| true),
         Err(refused) => match refused.why {
             Refusal::NoPlace => {
                 let due = report.begin.saturating_add(request.due.at);

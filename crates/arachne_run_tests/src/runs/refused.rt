@@ -20,21 +20,22 @@ const LEFT: &[usize] = &[
     0, 40, 80, 120, 160, 200, 240, 320, 400, 480, 560, 640, 720, 800, 1_600, 100_000,
 ];
 
+/// Returns `None` if the job doesn't end within `SLICES` slices.
 fn ends<'p>(
     job: &mut Job<'p>,
     spares: &mut JobSpares<'p>,
     room: &Room,
     openings: &mut Openings,
-) -> bool {
+) -> Option<()> {
     for _ in 0..SLICES {
         let mut left = STEPS;
         match job.slice(&mut left, spares, room, openings) {
             Ok(Slice::Goes) => {}
-            Ok(Slice::Ends) => return true,
-            _ => return false,
+            Ok(Slice::Ends) => return Some(()),
+            _ => return None,
         }
     }
-    false
+    None
 }
 
 /// Runs the root until its child waits for a slot, and tries to create the child's job with `bytes` bytes of free
@@ -62,17 +63,11 @@ fn is_refused(alloc: Global, program: &Program, bytes: usize) -> Option<bool>
     drop(hoard);
     let is_refused = job.is_none();
     if let Some(mut child) = job {
-        if !ends(&mut child, &mut spares, &room, &mut openings)
-            || child.leave(&mut spares).is_err()
-        {
-            return None;
-        }
+        ends(&mut child, &mut spares, &room, &mut openings)?;
+        child.leave(&mut spares).ok()?;
     }
-    if ends(&mut root, &mut spares, &room, &mut openings) {
-        Some(is_refused)
-    } else {
-        None
-    }
+    ends(&mut root, &mut spares, &room, &mut openings)?;
+    Some(is_refused)
 }
 
 #[test]
@@ -82,13 +77,12 @@ fn a_child_waits_on_if_its_job_is_refused_memory(rt: HostRuntime) -> Result<(), 
     let program = program_of(alloc, &row)?;
     for (nth, &bytes) in LEFT.iter().enumerate() {
         let refused = is_refused(alloc, &program, bytes);
-        let (is_first, is_last) = (nth == 0, nth + 1 == LEFT.len());
-        if refused.is_none()
-            || is_first && refused != Some(true)
-            || is_last && refused != Some(false)
-        {
-            return Err(Fail::new(format_args!("{bytes}: {refused:?}")));
-        }
+        let is_so = match refused {
+            Some(true) => nth + 1 < LEFT.len(),
+            Some(false) => nth > 0,
+            None => false,
+        };
+        assert!(rt; is_so, "{bytes}: {refused:?}");
     }
     Ok(())
 }
