@@ -147,6 +147,15 @@ const ROWS: &[Row] = &[
         ..NOTHING
     },
     Row {
+        shows: "trees of exclusive jobs end, of which most find no empty core",
+        cores: 2,
+        slots: 3,
+        acts: "spawn alone tree",
+        spells: TO_THE_END,
+        then: "lives 0 | counts 121",
+        ..NOTHING
+    },
+    Row {
         shows: "trees end while a core comes and goes, and its kernel thread is woken at the last end",
         cores: 2,
         slots: 2,

@@ -150,6 +150,24 @@ pub(crate) const ROWS: &[Row] = &[
         ..NOTHING
     },
     Row {
+        shows: "a round takes over a job of a core before its own",
+        cores: 2,
+        orders: "0 release 1",
+        acts: "works 0 | turns 0 0 | spawn steps=10 | orders 0 grant 1 | turns 0 1 | turns 1 1 | open 0 0 | open 1 1",
+        left: (1, 0),
+        alive: 1,
+        ..NOTHING
+    },
+    Row {
+        shows: "jobs that name no core come to each of two",
+        cores: 2,
+        slots: 8,
+        acts: "spawns 6 leaf | open 0 3 | open 1 3",
+        left: (6, 0),
+        alive: 6,
+        ..NOTHING
+    },
+    Row {
         shows: "a sleep that ends by its time is counted, where a job gets a place that came free untold",
         cores: 2,
         acts: "turns 0 0 | spawn answers=1 alone | turns 0 1 | spawn steps=2000000 bound=2000000 | spawn leaf",

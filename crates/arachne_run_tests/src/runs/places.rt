@@ -50,6 +50,13 @@ const ROWS: &[Row] = &[
         facts: &[(Value, 61), (Threads, 61), (InPlace, 0)],
         ..CHAIN
     },
+    // Forks must get past many full cores.
+    Row {
+        machines: (&[64], &[100]),
+        slots: 2,
+        facts: &[(Value, 61), (Slot, 61), (InPlace, 0)],
+        ..CHAIN
+    },
     // When most of the threads are forked, the queue of waiting children is full.
     Row {
         expr: MANY,
