@@ -19,5 +19,5 @@ pub use arbiter::Arbiter;
 pub use backoff::Backoff;
 pub use choice::first_core;
 pub use cores::Cores;
-pub use parking::{Parking, Unparked};
+pub use parking::Parking;
 pub use slices::SliceCounts;

@@ -16,12 +16,6 @@ pub struct Parking {
     parkers: Vec<CachePadded<Parker>>,
 }
 
-/// A proof, without data, that the kernel threads of all cores were unparked at least once.
-#[derive(Drop)]
-pub struct Unparked {
-    all: (),
-}
-
 impl Parking {
     pub fn new(alloc: Global, cores: u8) -> Result<Parking, AllocError>
         ensures { IfOk result (λ parking. parked_cores parking ≡ cores) }
@@ -48,10 +42,9 @@ impl Parking {
     }
 
     /// Unparks the kernel threads of all cores.
-    pub fn unpark_all(&self) -> Unparked {
+    pub fn unpark_all(&self) {
         for parker in &self.parkers {
             parker.unpark();
         }
-        Unparked { all: () }
     }
 }
