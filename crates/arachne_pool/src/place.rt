@@ -90,12 +90,12 @@ pub(crate) fn claim<H: Wait, J: PoolJob, C: Contexts<Spawned<J>>>(
             return Ok(Some(claim));
         }
     }
-    let place = cores.claim_normal(seat, chooser);
-    if let Ok(None) = place {
+    let claimed = cores.claim_normal(seat, chooser);
+    if let Ok(None) = claimed {
         // The next worker that frees a place, or that sees a free one while it looks for work, notes that there is one.
         pool.room.store(0, Ordering::SeqCst);
     }
-    place
+    claimed
 }
 
 pub(crate) fn place_oldest<H: Wait, J: PoolJob, C: Contexts<Spawned<J>>>(
@@ -126,7 +126,7 @@ pub(crate) fn place_oldest<H: Wait, J: PoolJob, C: Contexts<Spawned<J>>>(
     Ok(Some(post))
 }
 
-/// Puts the oldest child that waits inside `held` into a free slot, or sets `is_short` if memory is refused.
+/// Puts the oldest child that waits inside `held` into a free slot, or sets `lacks_memory` if memory is refused.
 #[inline(always)]
 pub(crate) fn post_oldest<H: Wait, J: PoolJob, C: Contexts<Spawned<J>>>(
     rt: &H,
@@ -141,7 +141,7 @@ pub(crate) fn post_oldest<H: Wait, J: PoolJob, C: Contexts<Spawned<J>>>(
     ensures out { OnOk result (C.has pool.now.table seat.new (thread_in (λ s. s.tag) held.new ∷ [])) }
     ensures parted { IfOk result (λ posted. MatchOption posted (held.new.value ≡ held.old.value) (λ p. PartsOne (C.Hold.id_of held.old.hold) held.old.value held.new.value p.job.value)) }
     ensures hold { held.new.hold ≡ held.old.hold }
-    ensures same { state.new ≡ record state.old { cells = state.new.cells; chooser = state.new.chooser; is_short = state.new.is_short } }
+    ensures same { state.new ≡ record state.old { cells = state.new.cells; chooser = state.new.chooser; lacks_memory = state.new.lacks_memory } }
 {
     if held.value.stack.links.aside() == 0 || !pool.has_room() {
         return Ok(None);
@@ -154,7 +154,7 @@ pub(crate) fn post_oldest<H: Wait, J: PoolJob, C: Contexts<Spawned<J>>>(
     let me = held.id();
     let child = held.value.part_oldest(state.alloc, &mut state.cells, me);
     let Some(child) = child else {
-        state.is_short = true;
+        state.lacks_memory = true;
         return match pool.table.give_back(rt, seat, claim) {
             Ok(()) => Ok(None),
             Err(_) => Err(disowned()),

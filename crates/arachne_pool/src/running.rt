@@ -108,10 +108,10 @@ where
         };
         // Called so that the workers don't return before the first kernel thread has spawned the job.
         pool.keep_open();
-        let asked = Snapshot::of(&job);
+        let as_spawned = Snapshot::of(&job);
         let crew = Crew {
             pool: &pool,
-            asked: Snapshot::of(&job),
+            as_spawned: Snapshot::of(&job),
             first_fault: Mutex::new(None),
         };
         let share = Share {
@@ -121,7 +121,7 @@ where
         };
         let share = work_together(rt, alloc, &crew, share);
         let fault = crew.into_first_fault();
-        end(rt, alloc, pool, share, fault, &asked)
+        end(rt, alloc, pool, share, fault, &as_spawned)
     }
 }
 
@@ -138,7 +138,7 @@ fn processors<R: Threads>(rt: &R) -> u8
 #[derive(Drop)]
 struct Crew<'p, C: Seats, J> {
     pool: &'p Pool<C>,
-    asked: Snapshot<J>,
+    as_spawned: Snapshot<J>,
     first_fault: Mutex<Option<PoolFault>>,
 }
 
@@ -175,11 +175,11 @@ impl<'p, C: Seats, J: PoolJob> Crew<'p, C, J> {
     where
         C: Contexts<Spawned<J>>,
         requires worker { IsWorkerOf self.now.pool.now worker.old }
-        requires fresh { J.awaits self.now.asked.value [] }
-        requires job { IfSome job (λ job. job ≡ self.now.asked.value) }
+        requires fresh { J.awaits self.now.as_spawned.value [] }
+        requires job { IfSome job (λ job. job ≡ self.now.as_spawned.value) }
         ensures worker { IsWorkerOf self.now.pool.now worker.new }
-        ensures job { IfSome result.0 (λ job. job ≡ self.now.asked.value) }
-        ensures handle { IfSome result.1 (λ handle. handle ≡ self.now.asked.value) }
+        ensures job { IfSome result.0 (λ job. job ≡ self.now.as_spawned.value) }
+        ensures handle { IfSome result.1 (λ handle. handle ≡ self.now.as_spawned.value) }
     {
         let Some(job) = job else {
             return (None, None);
@@ -203,7 +203,7 @@ impl<'p, C: Seats, J: PoolJob> Crew<'p, C, J> {
 
 impl<'p, J: PoolJob, C: Contexts<Spawned<J>>> Team<Share<C::Seat, J>> for Crew<'p, C, J> {
     ghost has = { λ crew share. IsWorkerOf crew.pool.now share.worker
-        × IfSome share.job (λ job. job ≡ crew.asked.value) × IfSome share.handle (λ handle. handle ≡ crew.asked.value) × J.awaits crew.asked.value [] };
+        × IfSome share.job (λ job. job ≡ crew.as_spawned.value) × IfSome share.handle (λ handle. handle ≡ crew.as_spawned.value) × J.awaits crew.as_spawned.value [] };
 
     ghost size = { λ crew. crew.pool.now.cores };
 
@@ -287,14 +287,14 @@ fn end<C: Contexts<Spawned<J>> + Drop, R: Wait, J: PoolJob>(
     pool: Pool<C>,
     share: Option<Share<C::Seat, J>>,
     fault: Option<PoolFault>,
-    asked: &Snapshot<J>,
+    as_spawned: &Snapshot<J>,
 ) -> Result<Finished<J::Output>, Unfinished<J>>
     requires worker { IfSome share (λ share. IsWorkerOf pool share.worker) }
-    requires job { IfSome share (λ share. IfSome share.job (λ job. job ≡ asked.now.value)) }
-    requires handle { IfSome share (λ share. IfSome share.handle (λ handle. handle ≡ asked.now.value)) }
-    ensures output { IfOk result (λ done. J.is_result asked.now.value done.output) }
+    requires job { IfSome share (λ share. IfSome share.job (λ job. job ≡ as_spawned.now.value)) }
+    requires handle { IfSome share (λ share. IfSome share.handle (λ handle. handle ≡ as_spawned.now.value)) }
+    ensures output { IfOk result (λ done. J.is_result as_spawned.now.value done.output) }
     ensures all { IfOk result (λ done. done.tally.ended ≡ done.tally.spawned) }
-    ensures handed_back { IfErr result (HandsBackRun asked.now.value) }
+    ensures handed_back { IfErr result (HandsBackRun as_spawned.now.value) }
 {
     let why = fault.unwrap_or(PoolFault::Stopped);
     let Some(share) = share else {

@@ -31,7 +31,7 @@ pub(crate) struct Seat<'a, H, J: PoolJob, C: Contexts<Spawned<J>>> {
     pub(crate) seat: C::Seat,
     pub(crate) held: Option<Held<Spawned<J>, C::Hold>>,
     /// The state, ready or blocked, in which the current job goes back to the table.
-    pub(crate) asked: Rest,
+    pub(crate) rests_as: Rest,
     /// True if the worker has begun to run a job since it last looked for jobs of other cores.
     pub(crate) has_taken: bool,
     pub(crate) state: WorkerState<J>,
@@ -82,7 +82,7 @@ impl<'a, H: Wait, J: PoolJob, C: Contexts<Spawned<J>>> Dispatch for Seat<'a, H, 
     }
 
     #[inline(always)]
-    fn advance(&mut self, _pace: &mut Backoff, left: &mut u32) -> Result<ThreadStop, Halt> {
+    fn advance(&mut self, _backoff: &mut Backoff, left: &mut u32) -> Result<ThreadStop, Halt> {
         let mut stop = self.go_on(left);
         if stop == JobStop::Sleeps {
             stop = self.fall_asleep(left);
@@ -91,16 +91,16 @@ impl<'a, H: Wait, J: PoolJob, C: Contexts<Spawned<J>>> Dispatch for Seat<'a, H, 
             // `end` counts the job as ended, after the job's slot is free and its result was sent.
             return Ok(ThreadStop::Ends);
         }
-        self.asked = stop.rest();
+        self.rests_as = stop.rest();
         // Reports the spawn before the child gets a slot, since its end must not be counted before its spawn.
-        self.pool.live.add(self.core, self.state.unreported());
+        self.pool.live.add(self.core, self.state.take_unreported());
         match stop {
             JobStop::Waits | JobStop::Sleeps => Ok(ThreadStop::Blocks),
             JobStop::LetsGo => Ok(ThreadStop::Goes),
-            JobStop::Short => {
+            JobStop::NoMemory => {
                 // Uses up the slice: the job tries again in its next one.
                 *left = 0;
-                self.state.is_short = true;
+                self.state.lacks_memory = true;
                 Ok(ThreadStop::Goes)
             }
             _ => self.post_oldest(),
@@ -120,10 +120,10 @@ impl<'a, H: Wait, J: PoolJob, C: Contexts<Spawned<J>>> Dispatch for Seat<'a, H, 
         let Some(held) = self.held.take() else {
             return Err(disowned());
         };
-        let asked = self.asked;
+        let rests_as = self.rests_as;
         let table = &self.pool.table;
-        match table.put_back(self.rt, &mut self.seat, held, asked) {
-            Ok(rested) => Ok(rested.or(asked)),
+        match table.put_back(self.rt, &mut self.seat, held, rests_as) {
+            Ok(rested) => Ok(rested.or(rests_as)),
             Err(held) => {
                 self.held = Some(held);
                 Err(disowned())
@@ -202,7 +202,7 @@ impl<'a, H: Wait, J: PoolJob, C: Contexts<Spawned<J>>> Dispatch for Seat<'a, H, 
 
     #[inline(always)]
     fn may_take_ticket(&mut self) -> bool {
-        if self.held.is_some() && (!self.works || self.state.is_short) {
+        if self.held.is_some() && (!self.works || self.state.lacks_memory) {
             // The current job has used its slice, so other jobs must run.
             return true;
         }
@@ -300,7 +300,7 @@ impl<'a, H: Wait, J: PoolJob, C: Contexts<Spawned<J>>> Seat<'a, H, J, C> {
         ensures dispatch { self.new ≡ self.old }
         ensures parent { result ≡ ended.parent }
     {
-        self.pool.live.add(self.core, self.state.unreported());
+        self.pool.live.add(self.core, self.state.take_unreported());
         ended.parent
     }
 

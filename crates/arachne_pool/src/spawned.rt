@@ -29,9 +29,9 @@ impl<J: PoolJob> Model for Spawned<J> {
 
     ghost Value = { Being J };
 
-    ghost view = { λ s. record { tag = s.tag; asked = s.stack.asked; parent = s.parent; many = s.stack.many; jobs = s.stack.jobs } };
+    ghost view = { λ s. record { tag = s.tag; asked = s.stack.as_spawned; parent = s.parent; many = s.stack.many; jobs = s.stack.jobs } };
 
-    ghost invariant = { λ s. IfSome s.sender (λ sender. sender.key.job.value ≡ s.stack.asked) };
+    ghost invariant = { λ s. IfSome s.sender (λ sender. sender.key.job.value ≡ s.stack.as_spawned) };
 }
 
 impl<J: PoolJob> Tagged for Spawned<J> {

@@ -120,7 +120,7 @@ impl<C: Seats> Pool<C> {
     {
         match worker.state.begin(job) {
             Ok((handle, job)) => {
-                self.live.add(worker.core, worker.state.unreported());
+                self.live.add(worker.core, worker.state.take_unreported());
                 worker.state.near.push_back_reserved(job);
                 Ok(handle)
             }
@@ -155,7 +155,7 @@ impl<C: Seats> Pool<C> {
         match worker.state.begin(job) {
             Ok((handle, job)) => {
                 // Before the job is posted: its end must not be counted before its spawn.
-                self.live.add(worker.core, worker.state.unreported());
+                self.live.add(worker.core, worker.state.take_unreported());
                 match post::<H, J, C>(rt, self, &mut seat, claim, job) {
                     Ok(posted) => {
                         // Also the worker's own core: it may make no round.

@@ -27,7 +27,7 @@ pub(crate) enum JobStop {
     LetsGo,
     Ends,
     /// Memory was refused, and the job's next slice tries the same again.
-    Short,
+    NoMemory,
 }
 
 impl JobStop {
@@ -37,7 +37,7 @@ impl JobStop {
     {
         match self {
             JobStop::Waits | JobStop::Sleeps => Rest::Blocked,
-            JobStop::Goes | JobStop::Forks | JobStop::LetsGo | JobStop::Ends | JobStop::Short =>
+            JobStop::Goes | JobStop::Forks | JobStop::LetsGo | JobStop::Ends | JobStop::NoMemory =>
                 Rest::Ready,
         }
     }
@@ -46,7 +46,7 @@ impl JobStop {
 /// `awaited` is the number of the job's unjoined children, without the child above it in the stack.
 #[derive(Drop)]
 struct JobFrame<J: PoolJob> {
-    asked: Snapshot<J>,
+    as_spawned: Snapshot<J>,
     job: J,
     awaited: usize,
 }
@@ -56,15 +56,15 @@ impl<J: PoolJob> Model for JobFrame<J> {
 
     ghost Value = { Framed J };
 
-    ghost view = { λ f. record { asked = f.asked.value; job = f.job; awaited = f.awaited } };
+    ghost view = { λ f. record { as_spawned = f.as_spawned.value; job = f.job; awaited = f.awaited } };
 }
 
 impl<J: PoolJob> JobFrame<J> {
     fn begin(job: J) -> JobFrame<J>
-        ensures { result ≡ record { asked = job; job = job; awaited = 0 } }
+        ensures { result ≡ record { as_spawned = job; job = job; awaited = 0 } }
     {
         JobFrame {
-            asked: Snapshot::of(&job),
+            as_spawned: Snapshot::of(&job),
             job,
             awaited: 0,
         }
@@ -74,7 +74,7 @@ impl<J: PoolJob> JobFrame<J> {
 /// The jobs that run inside one slot, as a stack. Each job waits for the child above it.
 #[derive(Drop)]
 pub(crate) struct Stack<J: PoolJob> {
-    asked: Snapshot<J>,
+    as_spawned: Snapshot<J>,
     top: JobFrame<J>,
     below: Vec<JobFrame<J>>,
     /// The unjoined children of all jobs in this stack, except for children in the stack.
@@ -93,7 +93,7 @@ impl<J: PoolJob> Model for Stack<J> {
     ghost Value = { Stacked J J.Output };
 
     ghost view = { λ s. record {
-      asked = s.asked.value;
+      as_spawned = s.as_spawned.value;
       many = count_none s.ended + vec_len s.below + s.links.aside + count_one s.child;
       jobs = children_of s.child (take s.links.aside s.links.all
           ++ children_of (unless_ended s.ended s.top.job) (map (λ f. f.job) (reverse s.below.items)));
@@ -102,16 +102,16 @@ impl<J: PoolJob> Model for Stack<J> {
       waits = s.waits;
     } };
 
-    ghost invariant = { λ s. RunTogether J.is_result J.awaits s.top (reverse s.below.items) s.links.all s.child s.ended s.asked.value };
+    ghost invariant = { λ s. RunTogether J.is_result J.awaits s.top (reverse s.below.items) s.links.all s.child s.ended s.as_spawned.value };
 }
 
 impl<J: PoolJob> Stack<J> {
     pub(crate) fn begin(alloc: Global, job: J) -> Stack<J>
         requires { J.awaits job [] }
-        ensures { result ≡ record { asked = job; many = 1; jobs = job ∷ []; child = None; ended = None; waits = false } }
+        ensures { result ≡ record { as_spawned = job; many = 1; jobs = job ∷ []; child = None; ended = None; waits = false } }
     {
         Stack {
-            asked: Snapshot::of(&job),
+            as_spawned: Snapshot::of(&job),
             top: JobFrame::begin(job),
             below: Vec::new(alloc),
             links: Links::new(alloc),
@@ -148,7 +148,7 @@ impl<J: PoolJob> Stack<J> {
         left: &mut u32,
         may_post: bool,
     ) -> JobStop
-        ensures asked { self.new.asked ≡ self.old.asked }
+        ensures as_spawned { self.new.as_spawned ≡ self.old.as_spawned }
         ensures left { left.new ≤ left.old }
         ensures counts { CountsEach tally.old tally.new self.old.many self.new.many }
     {
@@ -173,7 +173,7 @@ impl<J: PoolJob> Stack<J> {
         left: &mut u32,
         may_post: bool,
     ) -> JobStop
-        ensures asked { self.new.asked ≡ self.old.asked }
+        ensures as_spawned { self.new.as_spawned ≡ self.old.as_spawned }
         ensures left { left.new ≤ left.old }
         ensures counts { CountsEach tally.old tally.new self.old.many self.new.many }
     {
@@ -192,7 +192,7 @@ impl<J: PoolJob> Stack<J> {
 
     fn step(&mut self, tally: &mut Tally, may_post: bool) -> JobStop
         requires running { (self.old.ended ≡ None) × (self.old.child ≡ None) × (self.old.waits ≡ false) }
-        ensures asked { self.new.asked ≡ self.old.asked }
+        ensures as_spawned { self.new.as_spawned ≡ self.old.as_spawned }
         ensures counts { CountsEach tally.old tally.new self.old.many self.new.many }
     {
         match self.top.job.step() {
@@ -222,7 +222,7 @@ impl<J: PoolJob> Stack<J> {
         ensures { KeepsMany self.old self.new }
     {
         let Some(awaited) = self.top.awaited.checked_add(1) else {
-            return JobStop::Short;
+            return JobStop::NoMemory;
         };
         let Some(child) = self.child.take() else {
             return JobStop::Goes;
@@ -238,7 +238,7 @@ impl<J: PoolJob> Stack<J> {
             }
             Err(child) => {
                 self.child = Some(child);
-                JobStop::Short
+                JobStop::NoMemory
             }
         }
     }
@@ -273,7 +273,7 @@ impl<J: PoolJob> Stack<J> {
         ensures served { IsServed result self.new }
     {
         if self.below.try_reserve(1).is_err() {
-            return JobStop::Short;
+            return JobStop::NoMemory;
         }
         self.waits = false;
         let Some(awaited) = self.top.awaited.checked_sub(1) else {
@@ -323,7 +323,7 @@ impl<J: PoolJob> Stack<J> {
     /// If `has_room` is false and a child that has not begun is left, changes nothing and returns `None`.
     pub(crate) fn let_go(&mut self, has_room: bool) -> Option<J>
         ensures room { IsSome result → has_room ≡ true }
-        ensures asked { self.new.asked ≡ self.old.asked }
+        ensures as_spawned { self.new.as_spawned ≡ self.old.as_spawned }
         ensures many { MatchOption result (self.new.many ≡ self.old.many) (λ child. self.new.many + 1 ≡ self.old.many) }
         ensures fresh { IfSome result (λ child. J.awaits child []) }
     {
@@ -335,7 +335,7 @@ impl<J: PoolJob> Stack<J> {
     }
 
     pub(crate) fn into_output(self) -> Option<J::Output>
-        ensures result { IfSome result (J.is_result self.asked) }
+        ensures result { IfSome result (J.is_result self.as_spawned) }
         ensures over { self.many ≡ 0 → IsSome result }
     {
         let Stack { below, ended, .. } = self;
@@ -346,7 +346,7 @@ impl<J: PoolJob> Stack<J> {
     pub(crate) fn into_jobs(self) -> (Jobs<J>, Option<J::Output>)
         ensures jobs { result.0 ≡ self.jobs }
         ensures many { length result.0 ≡ self.many }
-        ensures output { IfSome result.1 (J.is_result self.asked) }
+        ensures output { IfSome result.1 (J.is_result self.as_spawned) }
     {
         let Stack {
             top,
