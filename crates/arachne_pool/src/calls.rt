@@ -143,9 +143,11 @@ impl<C: Seats> Pool<C> {
         unreachable!()
     }
 
-    /// Moves the worker's data into a `CoreWorker`, which runs the loop for `core`; `leave` moves it back.
+    /// Moves the worker's data into a `CoreWorker`, which runs the loop for `core`. Until `leave` moves it back,
+    /// `worker` is an empty stub.
     ///
-    /// `works` is true in `Pool::work`. Returns `None` if the worker has lost the right to use the table.
+    /// `works` is true in `Pool::work`. `helps` is false, since jobs have no locks. Returns `None` if the worker has
+    /// lost the right to use the table.
     fn enter<'a, H: Wait + Clock, J: PoolJob>(
         &'a self,
         rt: &'a H,
@@ -250,7 +252,9 @@ impl<C: Seats> Pool<C> {
     }
 }
 
-/// Makes a pass of the worker's loop, and a second one if the first found something to do but ran no job.
+/// Makes a pass of the worker's loop, and a second one if the first found something to do but ran no job. Carries out
+/// due orders first, since a pass does so only before a slice. The 0 makes a pass that finds no ready job visit all
+/// occupied slots.
 fn run_once<H: Wait + Clock, D: Dispatch>(
     core_worker: &mut CoreWorker<'_, H, D>,
 ) -> Result<bool, PoolFault>
@@ -269,6 +273,8 @@ fn run_once<H: Wait + Clock, D: Dispatch>(
     Ok(found?)
 }
 
+/// Makes passes of the worker's loop until the pool is stopped or over. `is_over` is slow, since it reads the counts of
+/// all cores. So it is called only at first, and after a pass without a slice: after the last job's end none has one.
 fn run<'a, H: Wait + Clock, J: PoolJob, C: Contexts<Spawned<J>>>(
     core_worker: &mut CoreWorker<'a, H, Seat<'a, H, J, C>>,
 ) -> Result<(), PoolFault>

@@ -17,7 +17,7 @@ use std::snapshot::Snapshot;
 use std::sync::Wait;
 use std::sync::atomic::Ordering;
 
-/// A job that was just put into a slot.
+/// A job that was just put into a slot. `job` is only for contracts.
 ///
 /// Not `Drop`, so that no caller forgets to signal the core's worker.
 pub(crate) struct Posted<J: PoolJob> {
@@ -26,7 +26,7 @@ pub(crate) struct Posted<J: PoolJob> {
 }
 
 impl<J: PoolJob> Posted<J> {
-    /// Signals the worker of the job's core, or returns the job's id and slot if that core is `core`.
+    /// Signals the worker of the job's core, or returns the job's id and slot if that is `core`, the caller's own.
     #[inline(always)]
     pub(crate) fn tell_unless_on(self, core: u8, shared: &SharedWords) -> Option<PostedThread>
         ensures { IfSome result (λ post. post.place.core ≡ core) }
@@ -40,7 +40,7 @@ impl<J: PoolJob> Posted<J> {
     }
 }
 
-/// The caller must have counted the job as spawned before it puts the job into a claimed slot.
+/// Puts `job` into the claimed slot. Before that, the caller must have counted the job as spawned.
 #[inline(always)]
 pub(crate) fn post<H: Wait, J: PoolJob, C: Contexts<Spawned<J>>>(
     rt: &H,
@@ -68,8 +68,8 @@ pub(crate) fn post<H: Wait, J: PoolJob, C: Contexts<Spawned<J>>>(
 
 /// Claims a free slot for a job, on the less loaded of two random cores, or else on any core with a free slot.
 ///
-/// An exclusive job (one that wants a core for itself) needs an empty core. If no slot is free, returns `None`, and
-/// sets `pool.room` to 0 until a worker sees a free slot.
+/// An exclusive job (one that wants a core for itself) gets an empty core, or shares one if none is empty. If no slot
+/// is free, returns `None`, and sets `pool.room` to 0 until a worker sees a free slot.
 pub(crate) fn claim<H: Wait, J: PoolJob, C: Contexts<Spawned<J>>>(
     rt: &H,
     pool: &Pool<C>,
@@ -98,6 +98,7 @@ pub(crate) fn claim<H: Wait, J: PoolJob, C: Contexts<Spawned<J>>>(
     claimed
 }
 
+/// Puts the oldest job of the queue `near` into a free slot, or leaves it in the queue if it can't claim a slot.
 pub(crate) fn place_oldest<H: Wait, J: PoolJob, C: Contexts<Spawned<J>>>(
     rt: &H,
     pool: &Pool<C>,

@@ -25,7 +25,6 @@ use std::time::Clock;
 /// The result of `Pool::run` after the job and all jobs that it has forked have ended.
 #[derive(Drop)]
 pub struct Finished<O> {
-    /// The job's result.
     pub output: O,
     /// The number of jobs that were spawned (with this one), and the number of jobs that have ended.
     pub tally: Tally,
@@ -135,6 +134,7 @@ fn processors<R: Threads>(rt: &R) -> u8
     }
 }
 
+/// What all kernel threads of a run share. `as_spawned` is the run's job before its first step, only for contracts.
 #[derive(Drop)]
 struct Crew<'p, C: Seats, J> {
     pool: &'p Pool<C>,
@@ -142,7 +142,7 @@ struct Crew<'p, C: Seats, J> {
     first_fault: Mutex<Option<PoolFault>>,
 }
 
-/// Only the first kernel thread has the job, and later its handle.
+/// What one kernel thread of a run has. Only the first has the job, and later its handle.
 #[derive(Drop)]
 struct Share<S, J: PoolJob> {
     worker: Worker<S, J>,
@@ -165,7 +165,8 @@ impl<'p, C: Seats, J: PoolJob> Crew<'p, C, J> {
         first_fault.into_inner()
     }
 
-    /// Returns the handle of `job`, or `job` if it can't be spawned. Only the first worker has a job.
+    /// Returns the handle of `job`, or `job` if it can't be spawned. Only the first worker has a job. The pool is
+    /// already stopped if a kernel thread was refused. After the spawn it needn't be kept open any more.
     fn spawn<R: Wait>(
         &self,
         rt: &R,
@@ -235,6 +236,7 @@ impl<'p, J: PoolJob, C: Contexts<Spawned<J>>> Team<Share<C::Seat, J>> for Crew<'
         (own, Some(theirs))
     }
 
+    /// Returns the share also after a fault, since `end` then hands back the jobs that are left.
     fn work<R: Wait + Clock>(
         &self,
         rt: &R,
@@ -257,6 +259,7 @@ impl<'p, J: PoolJob, C: Contexts<Spawned<J>>> Team<Share<C::Seat, J>> for Crew<'
         })
     }
 
+    /// Returns `None` if memory for the waiting jobs is refused. Then `end` has no jobs to hand back.
     fn join<R: Wait>(
         &self,
         rt: &R,
@@ -281,6 +284,8 @@ impl<'p, J: PoolJob, C: Contexts<Spawned<J>>> Team<Share<C::Seat, J>> for Crew<'
     }
 }
 
+/// Closes the pool, and returns the job's output, or the reason why there is none, with the job if it was not spawned,
+/// or else the jobs that are left. The reason is `Stopped` if no fault was recorded.
 fn end<C: Contexts<Spawned<J>> + Drop, R: Wait, J: PoolJob>(
     rt: &R,
     alloc: Global,

@@ -26,7 +26,8 @@ pub(crate) struct Seat<'a, H, J: PoolJob, C: Contexts<Spawned<J>>> {
     pub(crate) core: u8,
     /// True in `Pool::work`, which may wait; `Pool::turn` never does.
     pub(crate) works: bool,
-    /// True if the table has rejected a slot or a job that it had given to this worker, which must then stop.
+    /// True if the table has rejected a slot or a job that it had given to this worker, which must then stop. Also true
+    /// while a job is put into a slot, so that it stays true if that fails.
     pub(crate) is_broken: bool,
     pub(crate) seat: C::Seat,
     pub(crate) held: Option<Held<Spawned<J>, C::Hold>>,
@@ -81,6 +82,7 @@ impl<'a, H: Wait, J: PoolJob, C: Contexts<Spawned<J>>> Dispatch for Seat<'a, H, 
         }
     }
 
+    /// If the job goes on, also tries to put the oldest child that waits inside its slot into one that is free by now.
     #[inline(always)]
     fn advance(&mut self, _backoff: &mut Backoff, left: &mut u32) -> Result<ThreadStop, Halt> {
         let mut stop = self.go_on(left);
@@ -107,11 +109,13 @@ impl<'a, H: Wait, J: PoolJob, C: Contexts<Spawned<J>>> Dispatch for Seat<'a, H, 
         }
     }
 
+    /// Returns false, since jobs have no locks.
     #[inline(always)]
     fn holds(&self) -> bool {
         false
     }
 
+    /// If the table rejects the job, keeps it in `held`, and `leave` then takes the worker's seat away.
     #[inline(always)]
     fn rest(&mut self) -> Result<Rest, Halt> {
         if self.is_broken {
@@ -131,6 +135,7 @@ impl<'a, H: Wait, J: PoolJob, C: Contexts<Spawned<J>>> Dispatch for Seat<'a, H, 
         }
     }
 
+    /// Fails if a job in the slot has not ended: `taken_from(0)` then returns `None`.
     #[inline(always)]
     fn end(&mut self, _before: OccWord) -> Result<Option<ThreadId>, Halt> {
         if self.is_broken {
@@ -161,6 +166,7 @@ impl<'a, H: Wait, J: PoolJob, C: Contexts<Spawned<J>>> Dispatch for Seat<'a, H, 
         }
     }
 
+    /// Returns 0, since this worker keeps no slots claimed for later jobs.
     fn kept(&self) -> usize {
         0
     }
@@ -169,6 +175,7 @@ impl<'a, H: Wait, J: PoolJob, C: Contexts<Spawned<J>>> Dispatch for Seat<'a, H, 
         Ok(false)
     }
 
+    /// Returns the core's occupancy word, and records in the pool if the core has a slot for another job.
     #[inline(always)]
     fn look(&mut self) -> OccWord {
         let table = &self.pool.table;
@@ -196,10 +203,14 @@ impl<'a, H: Wait, J: PoolJob, C: Contexts<Spawned<J>>> Dispatch for Seat<'a, H, 
         table.wake(self.rt, &mut self.seat, id)
     }
 
+    /// Moves no job once one has asked for a core for itself, since an empty core must stay empty for such a job.
     fn pull(&mut self, place: Place) -> bool {
         !self.pool.has_exclusive() && self.move_here(place)
     }
 
+    /// A ticket is a job in the queue `near`, or a job that can be moved here from another core. Looks for the latter
+    /// only if the worker has begun to run no job since it last looked. Also returns true if the current job must be
+    /// put back: after one slice in `Pool::turn`, and if memory was refused, so that the call soon returns this.
     #[inline(always)]
     fn may_take_ticket(&mut self) -> bool {
         if self.held.is_some() && (!self.works || self.state.lacks_memory) {
@@ -212,6 +223,7 @@ impl<'a, H: Wait, J: PoolJob, C: Contexts<Spawned<J>>> Dispatch for Seat<'a, H, 
         self.held.is_none() && !replace(&mut self.has_taken, false) && self.is_any_waiting()
     }
 
+    /// Returns `Gone` also if a job of `near` was put on another core, or a job was moved here.
     fn take_ticket(&mut self) -> Result<TicketResult, Halt> {
         if self.is_broken {
             return Err(disowned());
@@ -274,13 +286,15 @@ impl<'a, H: Wait, J: PoolJob, C: Contexts<Spawned<J>>> Dispatch for Seat<'a, H, 
 }
 
 impl<'a, H: Wait, J: PoolJob, C: Contexts<Spawned<J>>> Seat<'a, H, J, C> {
-    /// Runs the current job for at most `left` steps, and detaches the children that an ended job never joined.
+    /// Runs the current job for at most `left` steps, and detaches the children that an ended job never joined. If it
+    /// returns `LetsGo`, there are more such children, or memory for them was refused: the next call goes on with them.
     #[inline(always)]
     fn go_on(&mut self, left: &mut u32) -> JobStop
         ensures dispatch { self.new ≡ self.old }
         ensures left { left.new ≤ left.old }
     {
         let Some(held) = &mut self.held else {
+            // Never after `take`; `rest` then fails with `Token`.
             return JobStop::Waits;
         };
         let state = &mut self.state;
@@ -294,7 +308,7 @@ impl<'a, H: Wait, J: PoolJob, C: Contexts<Spawned<J>>> Seat<'a, H, J, C> {
         stack.slice(&mut state.cells, &mut state.tally, left, may_post)
     }
 
-    /// Returns the ended job's parent, if it must be woken.
+    /// Reports the worker's counts, with this end, and returns the ended job's parent, if it must be woken.
     #[inline(always)]
     fn count_end(&mut self, ended: Ended<J>) -> Option<ThreadId>
         ensures dispatch { self.new ≡ self.old }
@@ -304,6 +318,7 @@ impl<'a, H: Wait, J: PoolJob, C: Contexts<Spawned<J>>> Seat<'a, H, J, C> {
         ended.parent
     }
 
+    /// Puts the oldest child that waits inside the current job's slot into a slot of its own, if one is free.
     #[inline(always)]
     fn post_oldest(&mut self) -> Result<ThreadStop, Halt>
         ensures { self.new ≡ self.old }
@@ -335,6 +350,7 @@ impl<'a, H: Wait, J: PoolJob, C: Contexts<Spawned<J>>> Seat<'a, H, J, C> {
         ensures { left.new ≤ left.old }
     {
         let Some(held) = &self.held else {
+            // Never after `take`; `rest` then fails with `Token`.
             return JobStop::Waits;
         };
         if held.value.stack.links.aside() > 0 {
@@ -354,7 +370,8 @@ impl<'a, H: Wait, J: PoolJob, C: Contexts<Spawned<J>>> Seat<'a, H, J, C> {
         false
     }
 
-    /// Returns true if it has moved a job here from another core whose worker has not reached the job yet.
+    /// Returns true if it has moved a job here from another core whose worker has not reached the job yet. Then hints
+    /// all occupied slots of this core, since the table doesn't say which one the job got.
     fn fetch(&mut self) -> bool
         ensures { self.new ≡ self.old }
     {

@@ -107,6 +107,7 @@ impl<C: Seats> Pool<C> {
         }
     }
 
+    /// Spawns a job into the worker's queue `near`, or returns the job if memory is refused.
     fn keep<J: PoolJob>(
         &self,
         worker: &mut Worker<C::Seat, J>,
@@ -131,7 +132,8 @@ impl<C: Seats> Pool<C> {
         }
     }
 
-    /// Spawns a job into a claimed slot, or frees the slot and returns the job if memory is refused.
+    /// Spawns a job into a claimed slot, or frees the slot and returns the job if memory is refused. If the table
+    /// rejects the slot, the worker loses its seat, and a job that was counted already is lost.
     fn begin_at<H: Wait, J: PoolJob>(
         &self,
         rt: &H,

@@ -16,8 +16,10 @@ use std::marker::Model;
 use std::mem::replace;
 use std::snapshot::Snapshot;
 
+/// The reason why the jobs of a stack make no more steps for now.
 #[derive(Clone, Copy, Debug, PartialEq, Eq)]
 pub(crate) enum JobStop {
+    /// The topmost job can go on, in this slice or, if its steps are used up, in the next.
     Goes,
     Waits,
     Sleeps,
@@ -25,6 +27,7 @@ pub(crate) enum JobStop {
     Forks,
     /// A job has ended without joining all of its children, so the caller must detach those children by `let_go`.
     LetsGo,
+    /// The first job has ended, and so have all others of the stack.
     Ends,
     /// Memory was refused, and the job's next slice tries the same again.
     NoMemory,
@@ -43,7 +46,8 @@ impl JobStop {
     }
 }
 
-/// `awaited` is the number of the job's unjoined children, without the child above it in the stack.
+/// A job of a stack. `as_spawned` is the job before its first step, only for contracts. `awaited` is the number of the
+/// job's unjoined children, without the child above it in the stack.
 #[derive(Drop)]
 struct JobFrame<J: PoolJob> {
     as_spawned: Snapshot<J>,
@@ -71,7 +75,8 @@ impl<J: PoolJob> JobFrame<J> {
     }
 }
 
-/// The jobs that run inside one slot, as a stack. Each job waits for the child above it.
+/// The jobs that run inside one slot, as a stack. Each job waits for the child above it. `as_spawned` is the first job
+/// before its first step, only for contracts.
 #[derive(Drop)]
 pub(crate) struct Stack<J: PoolJob> {
     as_spawned: Snapshot<J>,
@@ -81,7 +86,9 @@ pub(crate) struct Stack<J: PoolJob> {
     pub(crate) links: Links<J>,
     /// A child that was just forked, and is not in `links` yet.
     child: Option<J>,
+    /// The topmost job's result, if that job has ended.
     ended: Option<J::Output>,
+    /// True if the topmost job waits for the result of its newest child.
     waits: bool,
 }
 
@@ -190,6 +197,7 @@ impl<J: PoolJob> Stack<J> {
         self.step(tally, may_post)
     }
 
+    /// Makes a step of the topmost job, and counts in `tally` the child that it forks, or its end.
     fn step(&mut self, tally: &mut Tally, may_post: bool) -> JobStop
         requires running { (self.old.ended ≡ None) × (self.old.child ≡ None) × (self.old.waits ≡ false) }
         ensures as_spawned { self.new.as_spawned ≡ self.old.as_spawned }
@@ -215,8 +223,9 @@ impl<J: PoolJob> Stack<J> {
         }
     }
 
-    /// If `may_post` is true (a slot may be free), returns `Forks`, so that the caller tries to claim one for the
-    /// child.
+    /// Adds the child that was just forked to those that wait inside this slot. If `may_post` is true (a slot may be
+    /// free), returns `Forks`, so that the caller tries to claim one for the child. A count that can't grow is treated
+    /// as refused memory.
     fn put_aside(&mut self, may_post: bool) -> JobStop
         requires { self.old.ended ≡ None }
         ensures { KeepsMany self.old self.new }
@@ -243,7 +252,7 @@ impl<J: PoolJob> Stack<J> {
         }
     }
 
-    /// Gives the topmost job the result of its newest child, or begins that child inside this slot.
+    /// Gives the topmost job its newest child's result, or begins that child here. Without a child the job goes on.
     fn receive(&mut self, cells: &mut Cells<J>) -> JobStop
         requires running { (self.old.ended ≡ None) × (self.old.child ≡ None) × (self.old.waits ≡ true) }
         ensures same { KeepsMany self.old self.new }
@@ -267,6 +276,7 @@ impl<J: PoolJob> Stack<J> {
         }
     }
 
+    /// Begins the newest child, which has not begun, above the topmost job, which waits for it.
     fn enter(&mut self) -> JobStop
         requires running { (self.old.ended ≡ None) × (self.old.child ≡ None) × (self.old.waits ≡ true) }
         ensures same { KeepsMany self.old self.new }
@@ -288,7 +298,8 @@ impl<J: PoolJob> Stack<J> {
         JobStop::Goes
     }
 
-    /// Removes the topmost job, which has ended, and gives its result to the job below it, if there is one.
+    /// Removes the topmost job, which has ended, and gives its result to the job below it. The first job stays, with
+    /// its result. A job with unjoined children stays until these are detached.
     fn pass_on(&mut self) -> JobStop
         requires { IsSome self.old.ended }
         ensures same { KeepsMany self.old self.new }
@@ -310,6 +321,7 @@ impl<J: PoolJob> Stack<J> {
         JobStop::Goes
     }
 
+    /// Returns the number of children that the topmost job never joined, if that job has ended.
     pub(crate) fn orphans(&self) -> usize {
         if self.ended.is_some() {
             self.top.awaited
@@ -334,6 +346,7 @@ impl<J: PoolJob> Stack<J> {
         self.links.forget_newest()
     }
 
+    /// Returns the result of the first job, if that job has ended (`ended` is then its result, as no job is below).
     pub(crate) fn into_output(self) -> Option<J::Output>
         ensures result { IfSome result (J.is_result self.as_spawned) }
         ensures over { self.many ≡ 0 → IsSome result }

@@ -35,7 +35,7 @@ impl Live {
         Ok(Live { by_core })
     }
 
-    /// A spawn must be added before another worker can run the job.
+    /// Adds what a worker of `core` has not reported yet. A spawn must be added before another worker can run the job.
     pub(crate) fn add(&self, core: u8, unreported: Tally) {
         if let Some(own) = self.by_core.get(usize::from(core)).or(self.by_core.last()) {
             // Spawns are added first: `count` must not see the end of a job whose spawn it misses.

@@ -40,6 +40,7 @@ pub enum PoolFault {
     KernelThread,
 }
 
+/// Returns the error of a call in which the table has rejected a slot or a job that it had given to the worker.
 pub(crate) fn disowned() -> Halt {
     Halt::Token
 }
@@ -63,6 +64,7 @@ pub(crate) struct WorkerState<J: PoolJob> {
     /// The jobs that wait for a slot before their first step, the oldest first.
     pub(crate) near: VecDeque<Spawned<J>>,
     pub(crate) cells: Cells<J>,
+    /// Draws the cores on which a slot is looked for.
     pub(crate) chooser: Xoshiro256PlusPlus,
     pub(crate) tally: Tally,
     /// The part of `tally` that was reported to the pool.
@@ -130,6 +132,7 @@ impl<J: PoolJob> WorkerState<J> {
         true
     }
 
+    /// Returns the counts that were not reported to the pool yet, and counts them as reported.
     pub(crate) fn take_unreported(&mut self) -> Tally
         ensures same { self.new ≡ record self.old { reported = self.new.tally } }
         ensures spawned { self.old.reported.spawned ≤ self.old.tally.spawned → self.old.reported.spawned + result.spawned ≡ self.old.tally.spawned }
@@ -153,6 +156,7 @@ impl<J: PoolJob> WorkerState<J> {
 pub struct Worker<S, J: PoolJob> {
     pub(crate) seat: Option<S>,
     pub(crate) state: WorkerState<J>,
+    /// The core on which the worker last worked, or at first `u8::MAX`, which is no core.
     pub(crate) core: u8,
     pub(crate) queue: RunQueue,
     pub(crate) backoff: Backoff,
@@ -291,6 +295,7 @@ impl<C: Seats> Pool<C> {
         Ok(worker)
     }
 
+    /// Joins two seats. If one is missing, returns `None`, and the pool can't be closed any more.
     pub(crate) fn join_seats<H: Wait>(
         &self,
         rt: &H,
