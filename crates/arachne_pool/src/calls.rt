@@ -41,13 +41,13 @@ impl<C: Seats> Pool<C> {
         ensures same { WorksFor core worker.new }
         ensures heeds { LooksWithin (max 1 J.most_steps) worker.old.queue worker.new.queue }
     {
-        let mut kernel = self.enter(rt, worker, core, false);
-        let Some(rounds) = &mut kernel else {
+        let mut entered = self.enter(rt, worker, core, false);
+        let Some(core_worker) = &mut entered else {
             return Err(PoolFault::Token);
         };
-        let found = run_once(rounds);
-        let has_seat = self.leave(worker, core, &mut kernel);
-        let is_short = replace(&mut worker.state.is_short, false);
+        let found = run_once(core_worker);
+        let has_seat = self.leave(worker, core, &mut entered);
+        let lacks_memory = replace(&mut worker.state.lacks_memory, false);
         // Even if the round failed: a job may have ended in the round.
         if replace(&mut worker.state.has_ended, false) {
             self.wake_if_over();
@@ -55,7 +55,7 @@ impl<C: Seats> Pool<C> {
         if !has_seat {
             return Err(PoolFault::Token);
         }
-        if is_short {
+        if lacks_memory {
             return Err(PoolFault::Memory);
         }
         found
@@ -82,13 +82,13 @@ impl<C: Seats> Pool<C> {
         ensures heeds { LooksWithin (max 1 J.most_steps) worker.old.queue worker.new.queue }
     {
         self.worked.fetch_or(1 << u32::from(core), Ordering::SeqCst);
-        let mut kernel = self.enter(rt, worker, core, true);
-        let Some(rounds) = &mut kernel else {
+        let mut entered = self.enter(rt, worker, core, true);
+        let Some(core_worker) = &mut entered else {
             self.stop();
             return Err(PoolFault::Token);
         };
-        let ended = run(rounds);
-        if !self.leave(worker, core, &mut kernel) {
+        let ended = run(core_worker);
+        if !self.leave(worker, core, &mut entered) {
             self.stop();
             return Err(PoolFault::Token);
         }
@@ -143,9 +143,11 @@ impl<C: Seats> Pool<C> {
         unreachable!()
     }
 
-    /// Moves the worker's data into a `CoreWorker`, which runs the loop for `core`; `leave` moves it back.
+    /// Moves the worker's data into a `CoreWorker`, which runs the loop for `core`. Until `leave` moves it back,
+    /// `worker` is an empty stub.
     ///
-    /// `works` is true in `Pool::work`. Returns `None` if the worker has lost the right to use the table.
+    /// `works` is true in `Pool::work`. `helps` is false, since jobs have no locks. Returns `None` if the worker has
+    /// lost the right to use the table.
     fn enter<'a, H: Wait + Clock, J: PoolJob>(
         &'a self,
         rt: &'a H,
@@ -157,7 +159,7 @@ impl<C: Seats> Pool<C> {
         C: Contexts<Spawned<J>>,
         requires worker { IsWorkerOf self.now worker.old }
         requires core { core < self.now.cores }
-        ensures kernel { IfSome result (λ k. (k.dispatch ≡ ground_at self.now.table self.now.cores) × (k.queue ≡ worker.old.queue)) }
+        ensures core_worker { IfSome result (λ k. (k.dispatch ≡ ground_at self.now.table self.now.cores) × (k.queue ≡ worker.old.queue)) }
         ensures worker { IsNone result → IsWorkerOf self.now worker.new }
         ensures same { IsNone result → WorksFor core worker.new × (worker.new.queue ≡ worker.old.queue) }
     {
@@ -192,7 +194,7 @@ impl<C: Seats> Pool<C> {
                 is_broken: false,
                 seat,
                 held: None,
-                asked: Rest::Ready,
+                rests_as: Rest::Ready,
                 has_taken: false,
                 state,
             },
@@ -202,24 +204,24 @@ impl<C: Seats> Pool<C> {
     /// Moves the loop's data back into `worker`. If the table has rejected a slot or a job, or a job was not put back,
     /// returns false, and `worker` loses the right to use the table.
     ///
-    /// `kernel` is borrowed, since the prover can't check a call that takes it by value.
+    /// `entered` is borrowed, since the prover can't check a call that takes it by value.
     fn leave<'a, H: Wait + Clock, J: PoolJob>(
         &'a self,
         worker: &mut Worker<C::Seat, J>,
         core: u8,
-        kernel: &mut Option<CoreWorker<'a, H, Seat<'a, H, J, C>>>,
+        entered: &mut Option<CoreWorker<'a, H, Seat<'a, H, J, C>>>,
     ) -> bool
     where
         C: Contexts<Spawned<J>>,
-        requires some { IsSome kernel.old }
-        requires dispatch { IfSome kernel.old (λ k. k.dispatch ≡ ground_at self.now.table self.now.cores) }
+        requires some { IsSome entered.old }
+        requires dispatch { IfSome entered.old (λ k. k.dispatch ≡ ground_at self.now.table self.now.cores) }
         requires core { core < self.now.cores }
         ensures worker { IsWorkerOf self.now worker.new }
         ensures same { WorksFor core worker.new }
-        ensures queue { IfSome kernel.old (λ k. worker.new.queue ≡ k.queue) }
+        ensures queue { IfSome entered.old (λ k. worker.new.queue ≡ k.queue) }
         ensures seat { IsTrue result ↔ IsSome worker.new.seat }
     {
-        let Some(kernel) = kernel.take() else {
+        let Some(core_worker) = entered.take() else {
             unreachable!()
         };
         let CoreWorker {
@@ -227,7 +229,7 @@ impl<C: Seats> Pool<C> {
             backoff,
             dispatch,
             ..
-        } = kernel;
+        } = core_worker;
         let Seat {
             is_broken,
             seat,
@@ -250,54 +252,58 @@ impl<C: Seats> Pool<C> {
     }
 }
 
-/// Makes a pass of the worker's loop, and a second one if the first found something to do but ran no job.
+/// Makes a pass of the worker's loop, and a second one if the first found something to do but ran no job. Carries out
+/// due orders first, since a pass does so only before a slice. The 0 makes a pass that finds no ready job visit all
+/// occupied slots.
 fn run_once<H: Wait + Clock, D: Dispatch>(
-    kernel: &mut CoreWorker<'_, H, D>,
+    core_worker: &mut CoreWorker<'_, H, D>,
 ) -> Result<bool, PoolFault>
-    ensures dispatch { kernel.new.dispatch ≡ kernel.old.dispatch }
-    ensures heeds { LooksWithin (D.largest_quantum kernel.old.dispatch) kernel.old.queue kernel.new.queue }
+    ensures dispatch { core_worker.new.dispatch ≡ core_worker.old.dispatch }
+    ensures heeds { LooksWithin (D.largest_quantum core_worker.old.dispatch) core_worker.old.queue core_worker.new.queue }
 {
-    kernel.tend();
-    let mut found = kernel.round(0);
+    core_worker.tend();
+    let mut found = core_worker.round(0);
     // The job that was moved to this core or got a place has had no slice yet.
-    if kernel.slices == 0
+    if core_worker.slices == 0
         && let Ok(true) = found
-        && let Err(halt) = kernel.round(0)
+        && let Err(halt) = core_worker.round(0)
     {
         found = Err(halt);
     }
     Ok(found?)
 }
 
+/// Makes passes of the worker's loop until the pool is stopped or over. `is_over` is slow, since it reads the counts of
+/// all cores. So it is called only at first, and after a pass without a slice: after the last job's end none has one.
 fn run<'a, H: Wait + Clock, J: PoolJob, C: Contexts<Spawned<J>>>(
-    kernel: &mut CoreWorker<'a, H, Seat<'a, H, J, C>>,
+    core_worker: &mut CoreWorker<'a, H, Seat<'a, H, J, C>>,
 ) -> Result<(), PoolFault>
-    ensures dispatch { kernel.new.dispatch ≡ kernel.old.dispatch }
-    ensures heeds { LooksWithin (max 1 J.most_steps) kernel.old.queue kernel.new.queue }
+    ensures dispatch { core_worker.new.dispatch ≡ core_worker.old.dispatch }
+    ensures heeds { LooksWithin (max 1 J.most_steps) core_worker.old.queue core_worker.new.queue }
 {
-    let pool = kernel.dispatch.pool;
+    let pool = core_worker.dispatch.pool;
     // The number of consecutive rounds that have found nothing.
     let mut idle: u32 = 0;
     let mut may_be_over = true;
-    for _ in kernel.rt.forever() {
-        if kernel.shared.is_stopped() || may_be_over && pool.is_over() {
-            if idle > 0 && kernel.shared.hints().is_asleep(kernel.core) {
+    for _ in core_worker.rt.forever() {
+        if core_worker.shared.is_stopped() || may_be_over && pool.is_over() {
+            if idle > 0 && core_worker.shared.hints().is_asleep(core_worker.core) {
                 // The worker's sleep timed out: nobody has woken the worker at the end.
-                kernel.dispatch.told(WorkerEvent::Overslept);
+                core_worker.dispatch.told(WorkerEvent::Overslept);
             }
             return Ok(());
         }
-        let slices = kernel.slices;
-        let found = kernel.round(idle)?;
-        if replace(&mut kernel.dispatch.state.is_short, false) {
+        let slices = core_worker.slices;
+        let found = core_worker.round(idle)?;
+        if replace(&mut core_worker.dispatch.state.lacks_memory, false) {
             return Err(PoolFault::Memory);
         }
         // A round without a slice may have parked, and the worker may have been unparked because all jobs have ended.
-        may_be_over = kernel.slices == slices;
+        may_be_over = core_worker.slices == slices;
         if found {
             idle = 0;
         } else {
-            kernel.rest_for(idle);
+            core_worker.rest_for(idle);
             idle = idle.saturating_add(1);
         }
     }

@@ -68,7 +68,8 @@ impl<C: Seats> Pool<C> {
     /// Replaces the orders by which `worker` closes and opens cores. Give all orders of a pool to one worker.
     ///
     /// Drops the old orders that were not carried out yet. A core that an old order has closed stays closed until a new
-    /// order opens it. If memory is refused, returns an error, and the worker keeps its old orders.
+    /// order opens it: the new list begins with an order that closes it again. No order closes core 0. If memory is
+    /// refused, returns an error, and the worker keeps its old orders.
     pub fn order<H: Wait, J: PoolJob>(
         &self,
         rt: &H,
@@ -135,6 +136,7 @@ impl<C: Seats> Pool<C> {
         }
     }
 
+    /// Returns true if the worker's seat is the table's only one: all other workers were joined into this one.
     fn is_whole<J: PoolJob>(&self, worker: &Worker<C::Seat, J>) -> bool
         ensures { IsTrue result ↔ IsWhole C.weight worker.now.seat }
     {
@@ -146,6 +148,7 @@ impl<C: Seats> Pool<C> {
 }
 
 impl Tally {
+    /// Returns true if `left` has as many jobs as were spawned and have not ended.
     fn is_over<J: PoolJob>(self, left: &Left<J>) -> bool
         ensures { IsTrue result ↔ (self.spawned ≡ self.ended + count_of left.now) }
     {

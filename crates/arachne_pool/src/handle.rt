@@ -30,6 +30,7 @@ pub(crate) type ResultReceiver<J> = Receiver<JobOutcome<J>, WantedResult<J>>;
 /// Empty cells that a worker reuses for the results of later jobs.
 pub(crate) type Cells<J> = SpareCells<JobOutcome<J>, WantedResult<J>>;
 
+/// Sends the result of a job. There is no sender for a job whose parent has ended without joining it.
 #[inline(always)]
 pub(crate) fn leave_at<J: PoolJob>(sender: Option<ResultSender<J>>, output: J::Output)
     requires { IfSome sender (λ sender. J.is_result sender.key.job.value output) }

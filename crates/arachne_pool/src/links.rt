@@ -41,13 +41,14 @@ impl<J: PoolJob> Links<J> {
         }
     }
 
+    /// Returns the number of children that have not begun.
     pub(crate) fn aside(&self) -> usize
         ensures { result ≡ self.now.aside }
     {
         self.aside.len()
     }
 
-    /// Returns the child as the error if memory is refused.
+    /// Adds `child` as the newest, which has not begun. Returns it as the error if memory is refused.
     pub(crate) fn put_aside(&mut self, child: J) -> Result<(), J>
         requires fresh { J.awaits child [] }
         ensures put { OnOk result (self.new ≡ with_aside child self.old) }
@@ -60,6 +61,7 @@ impl<J: PoolJob> Links<J> {
         }
     }
 
+    /// Removes and returns the newest child, if it has not begun.
     pub(crate) fn take_newest(&mut self) -> Option<J>
         ensures taken { MatchOption result ((self.new ≡ self.old) × (self.old.aside ≡ 0)) (λ child. LosesAside child self.old self.new) }
         ensures fresh { IfSome result (λ child. J.awaits child []) }
@@ -86,7 +88,7 @@ impl<J: PoolJob> Links<J> {
     }
 
     /// Returns the oldest child that has not begun, so that it can run in a slot of its own, and a sender for its
-    /// result. Returns `None` if every child has begun or memory is refused.
+    /// result. Returns `None`, and removes no child, if every child has begun or memory is refused.
     pub(crate) fn part_oldest(
         &mut self,
         alloc: Global,
@@ -109,7 +111,7 @@ impl<J: PoolJob> Links<J> {
         Some((child, sender))
     }
 
-    /// Removes the newest child, which its parent will never join, and returns it if it had not begun.
+    /// Removes the newest child, whose result nobody will fetch, and returns it if it had not begun.
     pub(crate) fn forget_newest(&mut self) -> Option<J>
         ensures forgotten { MatchOption result (LosesBegun self.old self.new) (λ child. LosesAside child self.old self.new) }
         ensures fresh { IfSome result (λ child. J.awaits child []) }

@@ -17,7 +17,7 @@ use std::snapshot::Snapshot;
 use std::sync::Wait;
 use std::sync::atomic::Ordering;
 
-/// A job that was just put into a slot.
+/// A job that was just put into a slot. `job` is only for contracts.
 ///
 /// Not `Drop`, so that no caller forgets to signal the core's worker.
 pub(crate) struct Posted<J: PoolJob> {
@@ -26,7 +26,7 @@ pub(crate) struct Posted<J: PoolJob> {
 }
 
 impl<J: PoolJob> Posted<J> {
-    /// Signals the worker of the job's core, or returns the job's id and slot if that core is `core`.
+    /// Signals the worker of the job's core, or returns the job's id and slot if that is `core`, the caller's own.
     #[inline(always)]
     pub(crate) fn tell_unless_on(self, core: u8, shared: &SharedWords) -> Option<PostedThread>
         ensures { IfSome result (λ post. post.place.core ≡ core) }
@@ -40,7 +40,7 @@ impl<J: PoolJob> Posted<J> {
     }
 }
 
-/// The caller must have counted the job as spawned before it puts the job into a claimed slot.
+/// Puts `job` into the claimed slot. Before that, the caller must have counted the job as spawned.
 #[inline(always)]
 pub(crate) fn post<H: Wait, J: PoolJob, C: Contexts<Spawned<J>>>(
     rt: &H,
@@ -68,8 +68,8 @@ pub(crate) fn post<H: Wait, J: PoolJob, C: Contexts<Spawned<J>>>(
 
 /// Claims a free slot for a job, on the less loaded of two random cores, or else on any core with a free slot.
 ///
-/// An exclusive job (one that wants a core for itself) needs an empty core. If no slot is free, returns `None`, and
-/// sets `pool.room` to 0 until a worker sees a free slot.
+/// An exclusive job (one that wants a core for itself) gets an empty core, or shares one if none is empty. If no slot
+/// is free, returns `None`, and sets `pool.room` to 0 until a worker sees a free slot.
 pub(crate) fn claim<H: Wait, J: PoolJob, C: Contexts<Spawned<J>>>(
     rt: &H,
     pool: &Pool<C>,
@@ -88,14 +88,15 @@ pub(crate) fn claim<H: Wait, J: PoolJob, C: Contexts<Spawned<J>>>(
     if is_exclusive && let Ok(Some(claim)) = cores.claim_exclusive(seat) {
         return Ok(Some(claim));
     }
-    let place = cores.claim_normal(seat, chooser);
-    if let Ok(None) = place {
+    let claimed = cores.claim_normal(seat, chooser);
+    if let Ok(None) = claimed {
         // The next worker that frees a place, or that sees a free one while it looks for work, notes that there is one.
         pool.room.store(0, Ordering::SeqCst);
     }
-    place
+    claimed
 }
 
+/// Puts the oldest job of the queue `near` into a free slot, or leaves it in the queue if it can't claim a slot.
 pub(crate) fn place_oldest<H: Wait, J: PoolJob, C: Contexts<Spawned<J>>>(
     rt: &H,
     pool: &Pool<C>,
@@ -124,7 +125,7 @@ pub(crate) fn place_oldest<H: Wait, J: PoolJob, C: Contexts<Spawned<J>>>(
     Ok(Some(post))
 }
 
-/// Puts the oldest child that waits inside `held` into a free slot, or sets `is_short` if memory is refused.
+/// Puts the oldest child that waits inside `held` into a free slot, or sets `lacks_memory` if memory is refused.
 #[inline(always)]
 pub(crate) fn post_oldest<H: Wait, J: PoolJob, C: Contexts<Spawned<J>>>(
     rt: &H,
@@ -139,7 +140,7 @@ pub(crate) fn post_oldest<H: Wait, J: PoolJob, C: Contexts<Spawned<J>>>(
     ensures out { OnOk result (C.has pool.now.table seat.new (thread_in (λ s. s.tag) held.new ∷ [])) }
     ensures parted { IfOk result (λ posted. MatchOption posted (held.new.value ≡ held.old.value) (λ p. PartsOne (C.Hold.id_of held.old.hold) held.old.value held.new.value p.job.value)) }
     ensures hold { held.new.hold ≡ held.old.hold }
-    ensures same { state.new ≡ record state.old { cells = state.new.cells; chooser = state.new.chooser; is_short = state.new.is_short } }
+    ensures same { state.new ≡ record state.old { cells = state.new.cells; chooser = state.new.chooser; lacks_memory = state.new.lacks_memory } }
 {
     if held.value.stack.links.aside() == 0 || !pool.has_room() {
         return Ok(None);
@@ -152,7 +153,7 @@ pub(crate) fn post_oldest<H: Wait, J: PoolJob, C: Contexts<Spawned<J>>>(
     let me = held.id();
     let child = held.value.part_oldest(state.alloc, &mut state.cells, me);
     let Some(child) = child else {
-        state.is_short = true;
+        state.lacks_memory = true;
         return match pool.table.give_back(rt, seat, claim) {
             Ok(()) => Ok(None),
             Err(_) => Err(disowned()),

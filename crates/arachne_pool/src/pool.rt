@@ -22,16 +22,18 @@ use std::sync::atomic::{AtomicU64, Ordering};
 /// A pool of jobs, which its workers share.
 #[derive(Drop)]
 pub struct Pool<C: Seats> {
-    /// The context table, which has the slots and the jobs in them.
+    /// The context table, which has the slots and the jobs in them. It has a context (record of one job) for each slot.
     pub table: C,
     /// The number of cores, 1 to 64.
     pub cores: u8,
     /// The number of slots (places for one job each) of each core, 1 to 56.
     pub slots: u8,
+    /// The words by which workers are signalled, sleep, park and stop.
     pub(crate) shared: SharedWords,
     pub(crate) live: Live,
     /// 1 if a slot may be free, and 0 after a search has found none.
     pub(crate) room: CachePadded<AtomicU64>,
+    /// 1 once a job has asked for a core for itself, and never 0 again.
     pub(crate) exclusive: AtomicU64,
     open: AtomicU64,
     /// The cores for which a kernel thread has called `work`, one bit each.
@@ -48,7 +50,8 @@ impl<C: Seats + Drop> Pool<C> {
     ghost use Rattle.arachne_pool.specs.Workers.{HasMadeNoStep, HasNoCore, IsWorkerOf};
 
     /// Creates a pool without jobs, and its first worker. `orders` says which cores are closed and opened while the
-    /// pool works, and when. Returns an error if memory is refused.
+    /// pool works, and when. The generations of contexts and the worker's random generator begin with 0. Returns an
+    /// error if memory is refused.
     pub fn new<J: PoolJob>(
         alloc: Global,
         cores: u8,
@@ -140,7 +143,8 @@ impl<C: Seats> Pool<C> {
         self.open.load(Ordering::SeqCst) == 0 && self.live.count() == 0
     }
 
-    /// Wakes all workers, so that they return, if all jobs have ended and the pool is not kept open.
+    /// Wakes all workers, so that they return, if all jobs have ended and the pool is not kept open. A hint, for any
+    /// slot, wakes a worker that sleeps, but not one that is parked.
     pub(crate) fn wake_if_over(&self) {
         if self.is_over() {
             for core in 0..self.cores {
@@ -162,6 +166,7 @@ impl<C: Seats> Pool<C> {
         self.room.load(Ordering::SeqCst) != 0
     }
 
+    /// Sets `room` to 1. Reads it first, since a store would slow down the other cores, which read it often.
     #[inline(always)]
     pub(crate) fn room_was_seen(&self) {
         if !self.has_room() {
@@ -173,6 +178,7 @@ impl<C: Seats> Pool<C> {
         self.exclusive.load(Ordering::SeqCst) != 0
     }
 
+    /// Returns the occupancy word of `core` (a bit for each occupied slot). It is only a hint, as no seat is used.
     pub(crate) fn glance<H: Wait, J: PoolJob>(&self, rt: &H, core: u8) -> OccWord
     where
         C: Contexts<Spawned<J>>,
@@ -181,6 +187,7 @@ impl<C: Seats> Pool<C> {
         OccWord::from_word(self.table.glance(rt, core)).unwrap_or(OccWord::empty())
     }
 
+    /// Returns the table with its numbers of cores and slots, by which an arbiter claims slots and carries out orders.
     pub(crate) fn cores<'a, H, T>(&'a self, rt: &'a H) -> Cores<'a, H, T, C>
         ensures table { result.table.now ≡ self.now.table }
         ensures count { result.count ≡ self.now.cores }

@@ -24,7 +24,6 @@ use std::time::Clock;
 /// The result of `Pool::run` after the job and all jobs that it has forked have ended.
 #[derive(Drop)]
 pub struct Finished<O> {
-    /// The job's result.
     pub output: O,
     /// The number of jobs that were spawned (with this one), and the number of jobs that have ended.
     pub tally: Tally,
@@ -107,10 +106,10 @@ where
         };
         // Called so that the workers don't return before the first kernel thread has spawned the job.
         pool.keep_open();
-        let asked = Snapshot::of(&job);
+        let as_spawned = Snapshot::of(&job);
         let crew = Crew {
             pool: &pool,
-            asked: Snapshot::of(&job),
+            as_spawned: Snapshot::of(&job),
             first_fault: Mutex::new(None),
         };
         let share = Share {
@@ -120,7 +119,7 @@ where
         };
         let share = work_together(rt, alloc, &crew, share);
         let why = crew.into_first_fault();
-        end(rt, alloc, pool, share, why, &asked)
+        end(rt, alloc, pool, share, why, &as_spawned)
     }
 }
 
@@ -134,14 +133,15 @@ fn processors<R: Threads>(rt: &R) -> u8
     }
 }
 
+/// What all kernel threads of a run share. `as_spawned` is the run's job before its first step, only for contracts.
 #[derive(Drop)]
 struct Crew<'p, C: Seats, J> {
     pool: &'p Pool<C>,
-    asked: Snapshot<J>,
+    as_spawned: Snapshot<J>,
     first_fault: Mutex<Option<PoolFault>>,
 }
 
-/// Only the first kernel thread has the job, and later its handle.
+/// What one kernel thread of a run has. Only the first has the job, and later its handle.
 #[derive(Drop)]
 struct Share<S, J: PoolJob> {
     worker: Worker<S, J>,
@@ -165,7 +165,8 @@ impl<'p, C: Seats, J: PoolJob> Crew<'p, C, J> {
         first_fault.into_inner().unwrap_or(PoolFault::Stopped)
     }
 
-    /// Returns the handle of `job`, or `job` if it can't be spawned. Only the first worker has a job.
+    /// Returns the handle of `job`, or `job` if it can't be spawned. Only the first worker has a job. The pool is
+    /// already stopped if a kernel thread was refused. After the spawn it needn't be kept open any more.
     fn spawn<R: Wait>(
         &self,
         rt: &R,
@@ -175,11 +176,11 @@ impl<'p, C: Seats, J: PoolJob> Crew<'p, C, J> {
     where
         C: Contexts<Spawned<J>>,
         requires worker { IsWorkerOf self.now.pool.now worker.old }
-        requires fresh { J.awaits self.now.asked.value [] }
-        requires job { IfSome job (λ job. job ≡ self.now.asked.value) }
+        requires fresh { J.awaits self.now.as_spawned.value [] }
+        requires job { IfSome job (λ job. job ≡ self.now.as_spawned.value) }
         ensures worker { IsWorkerOf self.now.pool.now worker.new }
-        ensures job { IfSome result.0 (λ job. job ≡ self.now.asked.value) }
-        ensures handle { IfSome result.1 (λ handle. handle ≡ self.now.asked.value) }
+        ensures job { IfSome result.0 (λ job. job ≡ self.now.as_spawned.value) }
+        ensures handle { IfSome result.1 (λ handle. handle ≡ self.now.as_spawned.value) }
     {
         let Some(job) = job else { return (None, None) };
         if self.pool.is_stopped() {
@@ -199,7 +200,7 @@ impl<'p, C: Seats, J: PoolJob> Crew<'p, C, J> {
 
 impl<'p, J: PoolJob, C: Contexts<Spawned<J>>> Team<Share<C::Seat, J>> for Crew<'p, C, J> {
     ghost has = { λ crew share. IsWorkerOf crew.pool.now share.worker
-        × IfSome share.job (λ job. job ≡ crew.asked.value) × IfSome share.handle (λ handle. handle ≡ crew.asked.value) × J.awaits crew.asked.value [] };
+        × IfSome share.job (λ job. job ≡ crew.as_spawned.value) × IfSome share.handle (λ handle. handle ≡ crew.as_spawned.value) × J.awaits crew.as_spawned.value [] };
 
     ghost size = { λ crew. crew.pool.now.cores };
 
@@ -221,6 +222,7 @@ impl<'p, J: PoolJob, C: Contexts<Spawned<J>>> Team<Share<C::Seat, J>> for Crew<'
         (Share { worker, ..share }, Some(theirs))
     }
 
+    /// Returns the share also after a fault, since `end` then hands back the jobs that are left.
     fn work<R: Wait + Clock>(
         &self,
         rt: &R,
@@ -239,6 +241,7 @@ impl<'p, J: PoolJob, C: Contexts<Spawned<J>>> Team<Share<C::Seat, J>> for Crew<'
         })
     }
 
+    /// Returns `None` if memory for the waiting jobs is refused. Then `end` has no jobs to hand back.
     fn join<R: Wait>(
         &self,
         rt: &R,
@@ -254,20 +257,22 @@ impl<'p, J: PoolJob, C: Contexts<Spawned<J>>> Team<Share<C::Seat, J>> for Crew<'
     }
 }
 
+/// Closes the pool, and returns the job's output, or the reason why there is none, with the job if it was not spawned,
+/// or else the jobs that are left. The reason is `Stopped` if no fault was recorded.
 fn end<C: Contexts<Spawned<J>> + Drop, R: Wait, J: PoolJob>(
     rt: &R,
     alloc: Global,
     pool: Pool<C>,
     share: Option<Share<C::Seat, J>>,
     why: PoolFault,
-    asked: &Snapshot<J>,
+    as_spawned: &Snapshot<J>,
 ) -> Result<Finished<J::Output>, Unfinished<J>>
     requires worker { IfSome share (λ share. IsWorkerOf pool share.worker) }
-    requires job { IfSome share (λ share. IfSome share.job (λ job. job ≡ asked.now.value)) }
-    requires handle { IfSome share (λ share. IfSome share.handle (λ handle. handle ≡ asked.now.value)) }
-    ensures output { IfOk result (λ done. J.is_result asked.now.value done.output) }
+    requires job { IfSome share (λ share. IfSome share.job (λ job. job ≡ as_spawned.now.value)) }
+    requires handle { IfSome share (λ share. IfSome share.handle (λ handle. handle ≡ as_spawned.now.value)) }
+    ensures output { IfOk result (λ done. J.is_result as_spawned.now.value done.output) }
     ensures all { IfOk result (λ done. done.tally.ended ≡ done.tally.spawned) }
-    ensures handed_back { IfErr result (HandsBackRun asked.now.value) }
+    ensures handed_back { IfErr result (HandsBackRun as_spawned.now.value) }
 {
     let share = share.ok_or(Unfinished::<J>::Lost(why))?;
     if let Some(job) = share.job {

@@ -26,12 +26,13 @@ pub(crate) struct Seat<'a, H, J: PoolJob, C: Contexts<Spawned<J>>> {
     pub(crate) core: u8,
     /// True in `Pool::work`, which may wait; `Pool::turn` never does.
     pub(crate) works: bool,
-    /// True if the table has rejected a slot or a job that it had given to this worker, which must then stop.
+    /// True if the table has rejected a slot or a job that it had given to this worker, which must then stop. Also true
+    /// while a job is put into a slot, so that it stays true if that fails.
     pub(crate) is_broken: bool,
     pub(crate) seat: C::Seat,
     pub(crate) held: Option<Held<Spawned<J>, C::Hold>>,
     /// The state, ready or blocked, in which the current job goes back to the table.
-    pub(crate) asked: Rest,
+    pub(crate) rests_as: Rest,
     /// True if the worker has begun to run a job since it last looked for jobs of other cores.
     pub(crate) has_taken: bool,
     pub(crate) state: WorkerState<J>,
@@ -77,8 +78,9 @@ impl<'a, H: Wait, J: PoolJob, C: Contexts<Spawned<J>>> Dispatch for Seat<'a, H, 
         }
     }
 
+    /// If the job goes on, also tries to put the oldest child that waits inside its slot into one that is free by now.
     #[inline(always)]
-    fn advance(&mut self, _pace: &mut Backoff, left: &mut u32) -> Result<ThreadStop, Halt> {
+    fn advance(&mut self, _backoff: &mut Backoff, left: &mut u32) -> Result<ThreadStop, Halt> {
         let mut stop = self.go_on(left);
         if stop == JobStop::Sleeps {
             stop = self.fall_asleep(left);
@@ -87,27 +89,29 @@ impl<'a, H: Wait, J: PoolJob, C: Contexts<Spawned<J>>> Dispatch for Seat<'a, H, 
             // `end` counts the job as ended, after the job's slot is free and its result was sent.
             return Ok(ThreadStop::Ends);
         }
-        self.asked = stop.rest();
+        self.rests_as = stop.rest();
         // Reports the spawn before the child gets a slot, since its end must not be counted before its spawn.
-        self.pool.live.add(self.core, self.state.unreported());
+        self.pool.live.add(self.core, self.state.take_unreported());
         match stop {
             JobStop::Waits | JobStop::Sleeps => Ok(ThreadStop::Blocks),
             JobStop::LetsGo => Ok(ThreadStop::Goes),
-            JobStop::Short => {
+            JobStop::NoMemory => {
                 // Uses up the slice: the job tries again in its next one.
                 *left = 0;
-                self.state.is_short = true;
+                self.state.lacks_memory = true;
                 Ok(ThreadStop::Goes)
             }
             _ => self.post_oldest(),
         }
     }
 
+    /// Returns false, since jobs have no locks.
     #[inline(always)]
     fn holds(&self) -> bool {
         false
     }
 
+    /// If the table rejects the job, keeps it in `held`, and `leave` then takes the worker's seat away.
     #[inline(always)]
     fn rest(&mut self) -> Result<Rest, Halt> {
         if self.is_broken {
@@ -116,10 +120,10 @@ impl<'a, H: Wait, J: PoolJob, C: Contexts<Spawned<J>>> Dispatch for Seat<'a, H, 
         let Some(held) = self.held.take() else {
             return Err(disowned());
         };
-        let asked = self.asked;
+        let rests_as = self.rests_as;
         let table = &self.pool.table;
-        match table.put_back(self.rt, &mut self.seat, held, asked) {
-            Ok(rested) => Ok(rested.or(asked)),
+        match table.put_back(self.rt, &mut self.seat, held, rests_as) {
+            Ok(rested) => Ok(rested.or(rests_as)),
             Err(held) => {
                 self.held = Some(held);
                 Err(disowned())
@@ -127,6 +131,7 @@ impl<'a, H: Wait, J: PoolJob, C: Contexts<Spawned<J>>> Dispatch for Seat<'a, H, 
         }
     }
 
+    /// Fails if a job in the slot has not ended: `taken_from(0)` then returns `None`.
     #[inline(always)]
     fn end(&mut self, _before: OccWord) -> Result<Option<ThreadId>, Halt> {
         if self.is_broken {
@@ -157,6 +162,7 @@ impl<'a, H: Wait, J: PoolJob, C: Contexts<Spawned<J>>> Dispatch for Seat<'a, H, 
         }
     }
 
+    /// Returns 0, since this worker keeps no slots claimed for later jobs.
     fn kept(&self) -> usize {
         0
     }
@@ -165,6 +171,7 @@ impl<'a, H: Wait, J: PoolJob, C: Contexts<Spawned<J>>> Dispatch for Seat<'a, H, 
         Ok(false)
     }
 
+    /// Returns the core's occupancy word, and records in the pool if the core has a slot for another job.
     #[inline(always)]
     fn look(&mut self) -> OccWord {
         let table = &self.pool.table;
@@ -192,13 +199,17 @@ impl<'a, H: Wait, J: PoolJob, C: Contexts<Spawned<J>>> Dispatch for Seat<'a, H, 
         table.wake(self.rt, &mut self.seat, id)
     }
 
+    /// Moves no job once one has asked for a core for itself, since an empty core must stay empty for such a job.
     fn pull(&mut self, place: Place) -> bool {
         !self.pool.has_exclusive() && self.move_here(place)
     }
 
+    /// A ticket is a job in the queue `near`, or a job that can be moved here from another core. Looks for the latter
+    /// only if the worker has begun to run no job since it last looked. Also returns true if the current job must be
+    /// put back: after one slice in `Pool::turn`, and if memory was refused, so that the call soon returns this.
     #[inline(always)]
     fn may_take_ticket(&mut self) -> bool {
-        if self.held.is_some() && (!self.works || self.state.is_short) {
+        if self.held.is_some() && (!self.works || self.state.lacks_memory) {
             // The current job has used its slice, so other jobs must run.
             return true;
         }
@@ -208,6 +219,7 @@ impl<'a, H: Wait, J: PoolJob, C: Contexts<Spawned<J>>> Dispatch for Seat<'a, H, 
         self.held.is_none() && !replace(&mut self.has_taken, false) && self.is_any_waiting()
     }
 
+    /// Returns `Gone` also if a job of `near` was put on another core, or a job was moved here.
     fn take_ticket(&mut self) -> Result<TicketResult, Halt> {
         if replace(&mut self.is_broken, true) {
             return Err(disowned());
@@ -265,13 +277,15 @@ impl<'a, H: Wait, J: PoolJob, C: Contexts<Spawned<J>>> Dispatch for Seat<'a, H, 
 }
 
 impl<'a, H: Wait, J: PoolJob, C: Contexts<Spawned<J>>> Seat<'a, H, J, C> {
-    /// Runs the current job for at most `left` steps, and detaches the children that an ended job never joined.
+    /// Runs the current job for at most `left` steps, and detaches the children that an ended job never joined. If it
+    /// returns `LetsGo`, there are more such children, or memory for them was refused: the next call goes on with them.
     #[inline(always)]
     fn go_on(&mut self, left: &mut u32) -> JobStop
         ensures dispatch { self.new ≡ self.old }
         ensures left { left.new ≤ left.old }
     {
         let Some(held) = &mut self.held else {
+            // Never after `take`; `rest` then fails with `Token`.
             return JobStop::Waits;
         };
         let state = &mut self.state;
@@ -285,16 +299,17 @@ impl<'a, H: Wait, J: PoolJob, C: Contexts<Spawned<J>>> Seat<'a, H, J, C> {
         stack.slice(&mut state.cells, &mut state.tally, left, may_post)
     }
 
-    /// Returns the ended job's parent, if it must be woken.
+    /// Reports the worker's counts, with this end, and returns the ended job's parent, if it must be woken.
     #[inline(always)]
     fn count_end(&mut self, ended: Ended<J>) -> Option<ThreadId>
         ensures dispatch { self.new ≡ self.old }
         ensures parent { result ≡ ended.parent }
     {
-        self.pool.live.add(self.core, self.state.unreported());
+        self.pool.live.add(self.core, self.state.take_unreported());
         ended.parent
     }
 
+    /// Puts the oldest child that waits inside the current job's slot into a slot of its own, if one is free.
     #[inline(always)]
     fn post_oldest(&mut self) -> Result<ThreadStop, Halt>
         ensures { self.new ≡ self.old }
@@ -326,6 +341,7 @@ impl<'a, H: Wait, J: PoolJob, C: Contexts<Spawned<J>>> Seat<'a, H, J, C> {
         ensures { left.new ≤ left.old }
     {
         let Some(held) = &self.held else {
+            // Never after `take`; `rest` then fails with `Token`.
             return JobStop::Waits;
         };
         if held.value.stack.links.aside() > 0 {
@@ -345,7 +361,8 @@ impl<'a, H: Wait, J: PoolJob, C: Contexts<Spawned<J>>> Seat<'a, H, J, C> {
         false
     }
 
-    /// Returns true if it has moved a job here from another core whose worker has not reached the job yet.
+    /// Returns true if it has moved a job here from another core whose worker has not reached the job yet. Then hints
+    /// all occupied slots of this core, since the table doesn't say which one the job got.
     fn fetch(&mut self) -> bool
         ensures { self.new ≡ self.old }
     {

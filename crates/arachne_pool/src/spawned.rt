@@ -19,7 +19,9 @@ use std::snapshot::Snapshot;
 pub struct Spawned<J: PoolJob> {
     tag: u64,
     pub(crate) stack: Stack<J>,
+    /// `None` if the parent has ended without joining this job.
     sender: Option<ResultSender<J>>,
+    /// The parent's id, if this job's end must wake the parent.
     parent: Option<ThreadId>,
 }
 
@@ -29,9 +31,9 @@ impl<J: PoolJob> Model for Spawned<J> {
 
     ghost Value = { Being J };
 
-    ghost view = { λ s. record { tag = s.tag; asked = s.stack.asked; parent = s.parent; many = s.stack.many; jobs = s.stack.jobs } };
+    ghost view = { λ s. record { tag = s.tag; asked = s.stack.as_spawned; parent = s.parent; many = s.stack.many; jobs = s.stack.jobs } };
 
-    ghost invariant = { λ s. IfSome s.sender (λ sender. sender.key.job.value ≡ s.stack.asked) };
+    ghost invariant = { λ s. IfSome s.sender (λ sender. sender.key.job.value ≡ s.stack.as_spawned) };
 }
 
 impl<J: PoolJob> Tagged for Spawned<J> {
@@ -99,7 +101,7 @@ impl<J: PoolJob> Spawned<J> {
         Some(Spawned::begin(alloc, job, Some(sender), Some(me)))
     }
 
-    /// All jobs inside this slot must have ended.
+    /// Sends the result of the spawned job. All jobs inside this slot must have ended.
     pub(crate) fn leave(self) -> Ended<J>
         requires { self.many ≡ 0 }
         ensures { result.job.value ≡ self }

@@ -99,6 +99,7 @@ impl<C: Seats> Pool<C> {
         }
     }
 
+    /// Spawns a job into the worker's queue `near`, or returns the job if memory is refused.
     fn keep<J: PoolJob>(
         &self,
         worker: &mut Worker<C::Seat, J>,
@@ -112,7 +113,7 @@ impl<C: Seats> Pool<C> {
     {
         match worker.state.begin(job) {
             Ok((handle, job)) => {
-                self.live.add(worker.core, worker.state.unreported());
+                self.live.add(worker.core, worker.state.take_unreported());
                 worker.state.near.push_back_reserved(job);
                 Ok(handle)
             }
@@ -123,7 +124,8 @@ impl<C: Seats> Pool<C> {
         }
     }
 
-    /// Spawns a job into a claimed slot, or frees the slot and returns the job if memory is refused.
+    /// Spawns a job into a claimed slot, or frees the slot and returns the job if memory is refused. If the table
+    /// rejects the slot, the worker loses its seat, and a job that was counted already is lost.
     fn begin_at<H: Wait, J: PoolJob>(
         &self,
         rt: &H,
@@ -147,7 +149,7 @@ impl<C: Seats> Pool<C> {
         match worker.state.begin(job) {
             Ok((handle, job)) => {
                 // Before the job is posted: its end must not be counted before its spawn.
-                self.live.add(worker.core, worker.state.unreported());
+                self.live.add(worker.core, worker.state.take_unreported());
                 match post::<H, J, C>(rt, self, &mut seat, claim, job) {
                     Ok(posted) => {
                         // Also the worker's own core: it may make no round.

@@ -16,8 +16,10 @@ use std::marker::Model;
 use std::mem::replace;
 use std::snapshot::Snapshot;
 
+/// The reason why the jobs of a stack make no more steps for now.
 #[derive(Clone, Copy, Debug, PartialEq, Eq)]
 pub(crate) enum JobStop {
+    /// The topmost job can go on, in this slice or, if its steps are used up, in the next.
     Goes,
     Waits,
     Sleeps,
@@ -25,9 +27,10 @@ pub(crate) enum JobStop {
     Forks,
     /// A job has ended without joining all of its children, so the caller must detach those children by `let_go`.
     LetsGo,
+    /// The first job has ended, and so have all others of the stack.
     Ends,
     /// Memory was refused, and the job's next slice tries the same again.
-    Short,
+    NoMemory,
 }
 
 impl JobStop {
@@ -37,16 +40,17 @@ impl JobStop {
     {
         match self {
             JobStop::Waits | JobStop::Sleeps => Rest::Blocked,
-            JobStop::Goes | JobStop::Forks | JobStop::LetsGo | JobStop::Ends | JobStop::Short =>
+            JobStop::Goes | JobStop::Forks | JobStop::LetsGo | JobStop::Ends | JobStop::NoMemory =>
                 Rest::Ready,
         }
     }
 }
 
-/// `awaited` is the number of the job's unjoined children, without the child above it in the stack.
+/// A job of a stack. `as_spawned` is the job before its first step, only for contracts. `awaited` is the number of the
+/// job's unjoined children, without the child above it in the stack.
 #[derive(Drop)]
 struct JobFrame<J: PoolJob> {
-    asked: Snapshot<J>,
+    as_spawned: Snapshot<J>,
     job: J,
     awaited: usize,
 }
@@ -56,32 +60,35 @@ impl<J: PoolJob> Model for JobFrame<J> {
 
     ghost Value = { Framed J };
 
-    ghost view = { λ f. record { asked = f.asked.value; job = f.job; awaited = f.awaited } };
+    ghost view = { λ f. record { as_spawned = f.as_spawned.value; job = f.job; awaited = f.awaited } };
 }
 
 impl<J: PoolJob> JobFrame<J> {
     fn begin(job: J) -> JobFrame<J>
-        ensures { result ≡ record { asked = job; job = job; awaited = 0 } }
+        ensures { result ≡ record { as_spawned = job; job = job; awaited = 0 } }
     {
         JobFrame {
-            asked: Snapshot::of(&job),
+            as_spawned: Snapshot::of(&job),
             job,
             awaited: 0,
         }
     }
 }
 
-/// The jobs that run inside one slot, as a stack. Each job waits for the child above it.
+/// The jobs that run inside one slot, as a stack. Each job waits for the child above it. `as_spawned` is the first job
+/// before its first step, only for contracts.
 #[derive(Drop)]
 pub(crate) struct Stack<J: PoolJob> {
-    asked: Snapshot<J>,
+    as_spawned: Snapshot<J>,
     top: JobFrame<J>,
     below: Vec<JobFrame<J>>,
     /// The unjoined children of all jobs in this stack, except for children in the stack.
     pub(crate) links: Links<J>,
     /// A child that was just forked, and is not in `links` yet.
     child: Option<J>,
+    /// The topmost job's result, if that job has ended.
     ended: Option<J::Output>,
+    /// True if the topmost job waits for the result of its newest child.
     waits: bool,
 }
 
@@ -93,7 +100,7 @@ impl<J: PoolJob> Model for Stack<J> {
     ghost Value = { Stacked J J.Output };
 
     ghost view = { λ s. record {
-      asked = s.asked.value;
+      as_spawned = s.as_spawned.value;
       many = count_none s.ended + vec_len s.below + s.links.aside + count_one s.child;
       jobs = children_of s.child (take s.links.aside s.links.all
           ++ children_of (unless_ended s.ended s.top.job) (map (λ f. f.job) (reverse s.below.items)));
@@ -102,16 +109,16 @@ impl<J: PoolJob> Model for Stack<J> {
       waits = s.waits;
     } };
 
-    ghost invariant = { λ s. RunTogether J.is_result J.awaits s.top (reverse s.below.items) s.links.all s.child s.ended s.asked.value };
+    ghost invariant = { λ s. RunTogether J.is_result J.awaits s.top (reverse s.below.items) s.links.all s.child s.ended s.as_spawned.value };
 }
 
 impl<J: PoolJob> Stack<J> {
     pub(crate) fn begin(alloc: Global, job: J) -> Stack<J>
         requires { J.awaits job [] }
-        ensures { result ≡ record { asked = job; many = 1; jobs = job ∷ []; child = None; ended = None; waits = false } }
+        ensures { result ≡ record { as_spawned = job; many = 1; jobs = job ∷ []; child = None; ended = None; waits = false } }
     {
         Stack {
-            asked: Snapshot::of(&job),
+            as_spawned: Snapshot::of(&job),
             top: JobFrame::begin(job),
             below: Vec::new(alloc),
             links: Links::new(alloc),
@@ -148,7 +155,7 @@ impl<J: PoolJob> Stack<J> {
         left: &mut u32,
         may_post: bool,
     ) -> JobStop
-        ensures asked { self.new.asked ≡ self.old.asked }
+        ensures as_spawned { self.new.as_spawned ≡ self.old.as_spawned }
         ensures left { left.new ≤ left.old }
         ensures counts { CountsEach tally.old tally.new self.old.many self.new.many }
     {
@@ -173,7 +180,7 @@ impl<J: PoolJob> Stack<J> {
         left: &mut u32,
         may_post: bool,
     ) -> JobStop
-        ensures asked { self.new.asked ≡ self.old.asked }
+        ensures as_spawned { self.new.as_spawned ≡ self.old.as_spawned }
         ensures left { left.new ≤ left.old }
         ensures counts { CountsEach tally.old tally.new self.old.many self.new.many }
     {
@@ -190,9 +197,10 @@ impl<J: PoolJob> Stack<J> {
         self.step(tally, may_post)
     }
 
+    /// Makes a step of the topmost job, and counts in `tally` the child that it forks, or its end.
     fn step(&mut self, tally: &mut Tally, may_post: bool) -> JobStop
         requires running { (self.old.ended ≡ None) × (self.old.child ≡ None) × (self.old.waits ≡ false) }
-        ensures asked { self.new.asked ≡ self.old.asked }
+        ensures as_spawned { self.new.as_spawned ≡ self.old.as_spawned }
         ensures counts { CountsEach tally.old tally.new self.old.many self.new.many }
     {
         match self.top.job.step() {
@@ -215,14 +223,15 @@ impl<J: PoolJob> Stack<J> {
         }
     }
 
-    /// If `may_post` is true (a slot may be free), returns `Forks`, so that the caller tries to claim one for the
-    /// child.
+    /// Adds the child that was just forked to those that wait inside this slot. If `may_post` is true (a slot may be
+    /// free), returns `Forks`, so that the caller tries to claim one for the child. A count that can't grow is treated
+    /// as refused memory.
     fn put_aside(&mut self, may_post: bool) -> JobStop
         requires { self.old.ended ≡ None }
         ensures { KeepsMany self.old self.new }
     {
         let Some(awaited) = self.top.awaited.checked_add(1) else {
-            return JobStop::Short;
+            return JobStop::NoMemory;
         };
         let Some(child) = self.child.take() else {
             return JobStop::Goes;
@@ -238,12 +247,12 @@ impl<J: PoolJob> Stack<J> {
             }
             Err(child) => {
                 self.child = Some(child);
-                JobStop::Short
+                JobStop::NoMemory
             }
         }
     }
 
-    /// Gives the topmost job the result of its newest child, or begins that child inside this slot.
+    /// Gives the topmost job its newest child's result, or begins that child here. Without a child the job goes on.
     fn receive(&mut self, cells: &mut Cells<J>) -> JobStop
         requires running { (self.old.ended ≡ None) × (self.old.child ≡ None) × (self.old.waits ≡ true) }
         ensures same { KeepsMany self.old self.new }
@@ -267,13 +276,14 @@ impl<J: PoolJob> Stack<J> {
         }
     }
 
+    /// Begins the newest child, which has not begun, above the topmost job, which waits for it.
     fn enter(&mut self) -> JobStop
         requires running { (self.old.ended ≡ None) × (self.old.child ≡ None) × (self.old.waits ≡ true) }
         ensures same { KeepsMany self.old self.new }
         ensures served { IsServed result self.new }
     {
         if self.below.try_reserve(1).is_err() {
-            return JobStop::Short;
+            return JobStop::NoMemory;
         }
         self.waits = false;
         let Some(awaited) = self.top.awaited.checked_sub(1) else {
@@ -288,7 +298,8 @@ impl<J: PoolJob> Stack<J> {
         JobStop::Goes
     }
 
-    /// Removes the topmost job, which has ended, and gives its result to the job below it, if there is one.
+    /// Removes the topmost job, which has ended, and gives its result to the job below it. The first job stays, with
+    /// its result. A job with unjoined children stays until these are detached.
     fn pass_on(&mut self) -> JobStop
         requires { IsSome self.old.ended }
         ensures same { KeepsMany self.old self.new }
@@ -309,6 +320,7 @@ impl<J: PoolJob> Stack<J> {
         JobStop::Goes
     }
 
+    /// Returns the number of children that the topmost job never joined, if that job has ended.
     pub(crate) fn orphans(&self) -> usize {
         if self.ended.is_some() {
             self.top.awaited
@@ -322,7 +334,7 @@ impl<J: PoolJob> Stack<J> {
     /// If `has_room` is false and a child that has not begun is left, changes nothing and returns `None`.
     pub(crate) fn let_go(&mut self, has_room: bool) -> Option<J>
         ensures room { IsSome result → has_room ≡ true }
-        ensures asked { self.new.asked ≡ self.old.asked }
+        ensures as_spawned { self.new.as_spawned ≡ self.old.as_spawned }
         ensures many { MatchOption result (self.new.many ≡ self.old.many) (λ child. self.new.many + 1 ≡ self.old.many) }
         ensures fresh { IfSome result (λ child. J.awaits child []) }
     {
@@ -333,8 +345,9 @@ impl<J: PoolJob> Stack<J> {
         self.links.forget_newest()
     }
 
+    /// Returns the result of the first job, if that job has ended (`ended` is then its result, as no job is below).
     pub(crate) fn into_output(self) -> Option<J::Output>
-        ensures result { IfSome result (J.is_result self.asked) }
+        ensures result { IfSome result (J.is_result self.as_spawned) }
         ensures over { self.many ≡ 0 → IsSome result }
     {
         let Stack { below, ended, .. } = self;
@@ -345,7 +358,7 @@ impl<J: PoolJob> Stack<J> {
     pub(crate) fn into_jobs(self) -> (Jobs<J>, Option<J::Output>)
         ensures jobs { result.0 ≡ self.jobs }
         ensures many { length result.0 ≡ self.many }
-        ensures output { IfSome result.1 (J.is_result self.asked) }
+        ensures output { IfSome result.1 (J.is_result self.as_spawned) }
     {
         let Stack {
             top,

@@ -35,30 +35,30 @@ struct CoreCounts {
 /// the last entry is for workers without a core.
 #[derive(Drop)]
 pub(crate) struct Live {
-    told: Vec<CachePadded<CoreCounts>>,
+    by_core: Vec<CachePadded<CoreCounts>>,
 }
 
 impl Live {
     pub(crate) fn new(alloc: Global, cores: u8) -> Result<Live, AllocError> {
-        let mut told = Vec::new(alloc);
+        let mut by_core = Vec::new(alloc);
         for _ in 0..=cores {
-            told.push(CachePadded::new(CoreCounts {
+            by_core.push(CachePadded::new(CoreCounts {
                 spawned: AtomicU64::new(0),
                 ended: AtomicU64::new(0),
             }))?;
         }
-        Ok(Live { told })
+        Ok(Live { by_core })
     }
 
-    /// A spawn must be added before another worker can run the job.
+    /// Adds what a worker of `core` has not reported yet. A spawn must be added before another worker can run the job.
     pub(crate) fn add(&self, core: u8, unreported: Tally) {
-        if let Some(told) = self.told.get(usize::from(core)).or(self.told.last()) {
+        if let Some(own) = self.by_core.get(usize::from(core)).or(self.by_core.last()) {
             // Spawns are added first: `count` must not see the end of a job whose spawn it misses.
             if unreported.spawned != 0 {
-                told.spawned.fetch_add(unreported.spawned, Ordering::SeqCst);
+                own.spawned.fetch_add(unreported.spawned, Ordering::SeqCst);
             }
             if unreported.ended != 0 {
-                told.ended.fetch_add(unreported.ended, Ordering::SeqCst);
+                own.ended.fetch_add(unreported.ended, Ordering::SeqCst);
             }
         }
     }
@@ -66,13 +66,13 @@ impl Live {
     pub(crate) fn count(&self) -> u64 {
         // Ends are read first: a job that is spawned or ends between the two reads counts as living, so 0 is never too
         // early.
-        let ended = self.told.iter().fold(
+        let ended = self.by_core.iter().fold(
             0u64,
-            |sum, told| sum.wrapping_add(told.ended.load(Ordering::SeqCst)),
+            |sum, counts| sum.wrapping_add(counts.ended.load(Ordering::SeqCst)),
         );
-        let spawned = self.told.iter().fold(
+        let spawned = self.by_core.iter().fold(
             0u64,
-            |sum, told| sum.wrapping_add(told.spawned.load(Ordering::SeqCst)),
+            |sum, counts| sum.wrapping_add(counts.spawned.load(Ordering::SeqCst)),
         );
         spawned.wrapping_sub(ended)
     }

@@ -40,6 +40,7 @@ pub enum PoolFault {
     KernelThread,
 }
 
+/// Returns the error of a call in which the table has rejected a slot or a job that it had given to the worker.
 pub(crate) fn disowned() -> Halt {
     Halt::Token
 }
@@ -63,13 +64,14 @@ pub(crate) struct WorkerState<J: PoolJob> {
     /// The jobs that wait for a slot before their first step, the oldest first.
     pub(crate) near: VecDeque<Spawned<J>>,
     pub(crate) cells: Cells<J>,
+    /// Draws the cores on which a slot is looked for.
     pub(crate) chooser: Xoshiro256PlusPlus,
     pub(crate) tally: Tally,
     /// The part of `tally` that was reported to the pool.
-    pub(crate) told: Tally,
+    pub(crate) reported: Tally,
     pub(crate) orders: Option<Arbiter>,
     /// True if memory was refused, and no call has returned this as an error yet.
-    pub(crate) is_short: bool,
+    pub(crate) lacks_memory: bool,
     /// True if a job has ended since this field was last read.
     pub(crate) has_ended: bool,
 }
@@ -104,17 +106,17 @@ impl<J: PoolJob> WorkerState<J> {
     }
 
     /// Detaches the children that an ended job has not joined, and moves those that have not begun to the queue `near`.
-    /// If memory for such a child is refused, sets `is_short` and returns false.
+    /// If memory for such a child is refused, sets `lacks_memory` and returns false.
     #[tactic(auto, using(crate::proofs::Counts::count_near_push))]
     pub(crate) fn let_go(&mut self, job: &mut Spawned<J>) -> bool
-        ensures same { self.new ≡ record self.old { near = self.new.near; is_short = if result then self.old.is_short else true } }
+        ensures same { self.new ≡ record self.old { near = self.new.near; lacks_memory = if result then self.old.lacks_memory else true } }
         ensures job { job.new ≡ record job.old { many = job.new.many; jobs = job.new.jobs } }
         ensures many { count_near self.new.near.items + job.new.many ≡ count_near self.old.near.items + job.old.many }
     {
         for _ in 0..job.stack.orphans() {
             let has_room = self.near.reserve(1).is_ok();
             if !has_room && job.stack.links.aside() > 0 {
-                self.is_short = true;
+                self.lacks_memory = true;
                 return false;
             }
             // Without room, the children that are left have begun elsewhere, and take none.
@@ -125,16 +127,17 @@ impl<J: PoolJob> WorkerState<J> {
         true
     }
 
-    pub(crate) fn unreported(&mut self) -> Tally
-        ensures same { self.new ≡ record self.old { told = self.new.tally } }
-        ensures spawned { self.old.told.spawned ≤ self.old.tally.spawned → self.old.told.spawned + result.spawned ≡ self.old.tally.spawned }
-        ensures ended { self.old.told.ended ≤ self.old.tally.ended → self.old.told.ended + result.ended ≡ self.old.tally.ended }
+    /// Returns the counts that were not reported to the pool yet, and counts them as reported.
+    pub(crate) fn take_unreported(&mut self) -> Tally
+        ensures same { self.new ≡ record self.old { reported = self.new.tally } }
+        ensures spawned { self.old.reported.spawned ≤ self.old.tally.spawned → self.old.reported.spawned + result.spawned ≡ self.old.tally.spawned }
+        ensures ended { self.old.reported.ended ≤ self.old.tally.ended → self.old.reported.ended + result.ended ≡ self.old.tally.ended }
     {
         let unreported = Tally {
-            spawned: self.tally.spawned.wrapping_sub(self.told.spawned),
-            ended: self.tally.ended.wrapping_sub(self.told.ended),
+            spawned: self.tally.spawned.wrapping_sub(self.reported.spawned),
+            ended: self.tally.ended.wrapping_sub(self.reported.ended),
         };
-        self.told = self.tally;
+        self.reported = self.tally;
         unreported
     }
 }
@@ -148,6 +151,7 @@ impl<J: PoolJob> WorkerState<J> {
 pub struct Worker<S, J: PoolJob> {
     pub(crate) seat: Option<S>,
     pub(crate) state: WorkerState<J>,
+    /// The core on which the worker last worked, or at first `u8::MAX`, which is no core.
     pub(crate) core: u8,
     pub(crate) queue: RunQueue,
     pub(crate) backoff: Backoff,
@@ -162,7 +166,7 @@ impl<S, J: PoolJob> Model for Worker<S, J> {
       seat = w.seat;
       waiting = w.state.near.items;
       tally = w.state.tally;
-      told = w.state.told;
+      told = w.state.reported;
       arbiter = w.state.orders;
       core = w.core;
       queue = w.queue;
@@ -196,9 +200,9 @@ impl<S, J: PoolJob> Worker<S, J> {
             cells: Cells::new(alloc),
             chooser: Xoshiro256PlusPlus::seed_from_u64(seed),
             tally: none,
-            told: none,
+            reported: none,
             orders: None,
-            is_short: false,
+            lacks_memory: false,
             has_ended: false,
         };
         Worker {
@@ -276,12 +280,13 @@ impl<C: Seats> Pool<C> {
         }
         // Both workers have reported their counts to the pool.
         worker.state.tally = worker.state.tally.plus(other.state.tally);
-        worker.state.told = worker.state.tally;
+        worker.state.reported = worker.state.tally;
         worker.state.orders = worker.state.orders.take().or(other.state.orders.take());
         worker.seat = self.join_seats(rt, worker.seat.take(), other.seat.take());
         Ok(worker)
     }
 
+    /// Joins two seats. If one is missing, returns `None`, and the pool can't be closed any more.
     pub(crate) fn join_seats<H: Wait>(
         &self,
         rt: &H,

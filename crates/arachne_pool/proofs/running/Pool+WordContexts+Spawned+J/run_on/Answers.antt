@@ -53,9 +53,9 @@ work_together-share-requires-sync-W g c κs within =
 pub end-requires-clause-job : goal.end-requires-clause-job
 end-requires-clause-job g c =
     if_some c.work_together-share.result c.work_together-share.ensures
-    (λ share has. if_some share.job has.1 (λ job is. is ∙ (c.of.ensures ∙ sym c.of-asked.ensures)))
+    (λ share has. if_some share.job has.1 (λ job is. is ∙ (c.of.ensures ∙ sym c.of-as_spawned.ensures)))
 
 pub end-requires-clause-handle : goal.end-requires-clause-handle
 end-requires-clause-handle g c =
     if_some c.work_together-share.result c.work_together-share.ensures
-    (λ share has. if_some share.handle has.2 (λ job is. is ∙ (c.of.ensures ∙ sym c.of-asked.ensures)))
+    (λ share has. if_some share.handle has.2 (λ job is. is ∙ (c.of.ensures ∙ sym c.of-as_spawned.ensures)))

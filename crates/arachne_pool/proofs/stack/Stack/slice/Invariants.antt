@@ -5,4 +5,4 @@ use Rattle.arachne_pool.proofs.stack.Stack.slice.Given as goal
 -- after each step it is the same first job, and each job that began or ended is counted
 abbrev pub invariant-loop : goal.invariant-loop
 invariant-loop g l =
-    (l.self.asked ≡ l.initial.self.asked) × (l.left ≤ l.initial.left) × CountsEach l.initial.tally l.tally l.initial.self.many l.self.many
+    (l.self.as_spawned ≡ l.initial.self.as_spawned) × (l.left ≤ l.initial.left) × CountsEach l.initial.tally l.tally l.initial.self.many l.self.many
