@@ -206,7 +206,7 @@ impl<'p> RunJob for Job<'p> {
         let mut child = child;
         child.set_tag(tag);
         let (job, receiver) = Job::of(alloc, child, Some(me), spares)?;
-        parts.expect(receiver)?;
+        parts.add_receiver(receiver)?;
         parts.thread.forked();
         Ok(job)
     }
@@ -233,12 +233,12 @@ impl<'p> RunJob for Job<'p> {
         let mut child = child;
         child.set_tag(tag);
         if !waits {
-            parts.place(child)?;
+            parts.run_inside(child)?;
             return Ok(None);
         }
         // Memory is reserved first, because the child can't be taken back when its ticket is in the queue.
         if reserve_both(&mut parts.ties.ends, &mut parts.waits).is_err() {
-            parts.place(child)?;
+            parts.run_inside(child)?;
             return Ok(None);
         }
         match WaitCell::wait(alloc, child, me) {
@@ -249,7 +249,7 @@ impl<'p> RunJob for Job<'p> {
                 Ok(Some(ticket))
             }
             Err(child) => {
-                parts.place(child)?;
+                parts.run_inside(child)?;
                 Ok(None)
             }
         }

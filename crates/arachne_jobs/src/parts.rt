@@ -105,13 +105,13 @@ impl<'p> Parts<'p> {
         ensures tallied { OnOk result (GoesOnOver left.old left.new self.old.thread self.new.thread (due_to openings.old.due) (due_to openings.new.due)) }
     {
         let mut due = openings.due;
-        let mut asked = ForkPlacing {
+        let mut placing = ForkPlacing {
             room,
             openings: &mut *openings,
         };
         let paused = self
             .thread
-            .advance_tallying(left, &mut spares.threads, &mut asked, &mut due);
+            .advance_tallying(left, &mut spares.threads, &mut placing, &mut due);
         openings.due = due;
         match paused? {
             Pause::Budget => Ok(Slice::Goes),
@@ -131,7 +131,7 @@ impl<'p> Parts<'p> {
     }
 
     /// Puts `child` inside this job's thread slot, in which it runs once the job waits for it.
-    pub(crate) fn place(&mut self, child: Thread<'p>) -> Result<(), JobFault>
+    pub(crate) fn run_inside(&mut self, child: Thread<'p>) -> Result<(), JobFault>
         requires pending { IsPlacing (pause_of self.old.thread) }
         requires child { MayBePlaced self.old.thread child }
         requires forked { pause_of self.old.thread ≡ Some pause.Forks → awaited self.old.thread.running ≡ Some (name_of child) }
@@ -145,7 +145,7 @@ impl<'p> Parts<'p> {
     }
 
     /// Adds the receiving end of the join cell of a child that this job has forked.
-    pub(crate) fn expect(&mut self, receiver: OutcomeReceiver) -> Result<(), JobFault>
+    pub(crate) fn add_receiver(&mut self, receiver: OutcomeReceiver) -> Result<(), JobFault>
         requires { IsOf (program_of self.old.thread) receiver.opening.key }
         ensures { self.new ≡ self.old }
     {
@@ -170,7 +170,7 @@ impl<'p> Parts<'p> {
                 Ok(true)
             }
             Found::Child(child) => {
-                self.place(child)?;
+                self.run_inside(child)?;
                 Ok(true)
             }
             Found::Nothing => Ok(false),

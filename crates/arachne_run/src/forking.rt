@@ -188,7 +188,7 @@ pub(crate) fn give_place_back<H: Wait, T: RunJob, C: Contexts<T>>(
 }
 
 /// Returns a claimed slot of `core`: one from `kept`, or else a free one.
-pub(crate) fn free_place<H: Wait, T: RunJob, C: Contexts<T>>(
+pub(crate) fn claim_slot<H: Wait, T: RunJob, C: Contexts<T>>(
     rt: &H,
     machine: &Machine<C, T::Ticket>,
     spare: &mut C::Seat,

@@ -143,7 +143,7 @@ impl<C: Seats + Drop, K: Tagged + Drop> Machine<C, K> {
         requires { IfSome tokens (AreIdle C.sits C.idle self) }
         ensures sound { IfOk result (λ closed. (closed.1 ≤ self.orders) × AreOfLocks (length self.resources.locks) closed.0.histories.items) }
         ensures applied { IfOk result (λ closed. IfSome tokens (λ tokens. IfSome tokens.arbiter (λ progress. closed.1 ≡ progress.applied))) }
-        ensures words { IfOk result (λ closed. IfSome tokens (λ tokens. closed.0.words.items ≡ map (λ sum. sum % 2 ^ 64) tokens.holdings.share.sums)) }
+        ensures sums { IfOk result (λ closed. IfSome tokens (λ tokens. closed.0.sums.items ≡ map (λ sum. sum % 2 ^ 64) tokens.holdings.share.sums)) }
         ensures back { IsOk result → IsSome tokens × IfSome tokens (AreAllBack C.weight) }
     {
         let first = self.shared.first_fault.into_inner();

@@ -24,7 +24,7 @@ pub(crate) struct Holdings {
 
 #[derive(Drop)]
 pub(crate) struct Remains {
-    pub(crate) words: Vec<u64>,
+    pub(crate) sums: Vec<u64>,
     pub(crate) histories: Vec<History>,
 }
 
@@ -63,14 +63,14 @@ impl Resources {
         ensures count { IfOk result (λ remains. length remains.histories.items ≡ length self.locks) }
         ensures sound { IfOk result (λ remains. All (λ history. IsSound history.items) remains.histories.items) }
         ensures one_holder { IfOk result (λ remains. All (λ history. HasOneHolderAtATime history.items) remains.histories.items) }
-        ensures words { IfOk result (λ remains. remains.words.items ≡ map (λ sum. sum % 2 ^ 64) holdings.share.sums) }
+        ensures sums { IfOk result (λ remains. remains.sums.items ≡ map (λ sum. sum % 2 ^ 64) holdings.share.sums) }
     {
         let Ok(histories) = self.locks.close(alloc, holdings.lock_seats) else {
             return Err(AllocError);
         };
-        let Ok(words) = self.ledgers.close(alloc, holdings.share) else {
+        let Ok(sums) = self.ledgers.close(alloc, holdings.share) else {
             return Err(AllocError);
         };
-        Ok(Remains { words, histories })
+        Ok(Remains { sums, histories })
     }
 }

@@ -6,7 +6,7 @@ ghost use Rattle.arachne_run.specs.Tokens.{AreIdle, IsSetUp, ground_of};
 
 use crate::access::Access;
 use crate::fault::WorkerFault;
-use crate::forking::{ForkSupplies, free_place, give_place_back, go_on, post_at, post_waiting};
+use crate::forking::{ForkSupplies, claim_slot, give_place_back, go_on, post_at, post_waiting};
 use crate::gate::Gate;
 use crate::granted::Granted;
 use crate::machine::{Machine, Tokens};
@@ -135,7 +135,7 @@ impl<'a, H: Wait, T: RunJob, C: Contexts<T>, R: Rng + Drop, G: Gate> RunSeat<'a,
         self.is_broken = true;
         let (rt, machine) = (self.rt, self.machine);
         let (spare, kept) = (&mut self.spare, &mut self.kept);
-        let Some(claim) = free_place::<H, T, C>(rt, machine, spare, kept, self.core)? else {
+        let Some(claim) = claim_slot::<H, T, C>(rt, machine, spare, kept, self.core)? else {
             return Err(WorkerFault::Token);
         };
         let index = claim.place().index;
@@ -366,7 +366,7 @@ impl<'a, H: Wait + Clock, T: RunJob, C: Contexts<T>, R: Rng + Drop, G: Gate> Dis
         }
         self.is_broken = true;
         let (spare, kept) = (&mut self.spare, &mut self.kept);
-        let Some(claim) = free_place::<H, T, C>(rt, machine, spare, kept, self.core)? else {
+        let Some(claim) = claim_slot::<H, T, C>(rt, machine, spare, kept, self.core)? else {
             self.is_broken = false;
             return Ok(TicketResult::Gone);
         };

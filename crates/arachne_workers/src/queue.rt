@@ -80,7 +80,7 @@ impl RunQueue {
     }
 
     /// Returns true, and restarts the count of scans, if the next scan must visit all occupied slots.
-    pub(crate) fn is_look_due(&mut self) -> bool
+    pub(crate) fn take_look_due(&mut self) -> bool
         ensures due { IsTrue result ↔ SCANS_BETWEEN_LOOKS ≤ self.old.scans }
         ensures counted { self.new ≡ record self.old { scans = if result then 0 else self.old.scans } }
     {
@@ -111,7 +111,7 @@ impl RunQueue {
     }
 
     /// Makes the thread in slot `place` run before all others, or returns false if another must already run first.
-    pub(crate) fn goes_next(&mut self, place: Place) -> bool
+    pub(crate) fn try_set_next(&mut self, place: Place) -> bool
         ensures will { IsTrue result ↔ (self.old.next ≡ None) }
         ensures next { self.new ≡ record self.old { next = if result then Some place else self.old.next } }
     {

@@ -110,9 +110,9 @@ impl<'a, H: Wait + Clock, D: Dispatch> CoreWorker<'a, H, D> {
                 break;
             }
             let stretch = self.queue.stretch(left);
-            let mut rest = stretch;
-            let stop = self.dispatch.advance(&mut self.backoff, &mut rest)?;
-            let steps = stretch - rest;
+            let mut unused = stretch;
+            let stop = self.dispatch.advance(&mut self.backoff, &mut unused)?;
+            let steps = stretch - unused;
             left -= steps;
             made += steps;
             self.queue.lag.add(steps);

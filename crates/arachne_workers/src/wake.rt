@@ -36,7 +36,7 @@ impl<'a, H: Wait + Clock, D: Dispatch> CoreWorker<'a, H, D> {
         let is_served = cause == Cause::IsServed;
         let mut place = mark.place();
         let is_elsewhere = place.core != self.core;
-        if is_served && (self.helps || !is_elsewhere) && self.queue.goes_next(place) {
+        if is_served && (self.helps || !is_elsewhere) && self.queue.try_set_next(place) {
             if is_elsewhere {
                 self.dispatch.told(WorkerEvent::Helps(id, place.core));
             }

@@ -66,7 +66,7 @@ impl<'a, H: Wait + Clock, D: Dispatch> CoreWorker<'a, H, D> {
         let overslept = sleeps && self.shared.hints().is_asleep(self.core);
         thin_out(&mut self.dispatch, self.slots)?;
         let mut indexes = self.shared.hints().take(self.core);
-        if self.queue.is_look_due() {
+        if self.queue.take_look_due() {
             indexes |= self.dispatch.look().mask();
         }
         self.queue.begin_scan(indexes);
