@@ -77,7 +77,8 @@ impl Report {
     }
 }
 
-/// Returns a list that is true at each thread's tag, or `None` if two tags are equal or one is `u64::MAX`.
+/// Returns a list that is true at each thread's tag, or `None` if two tags are equal or one is `u64::MAX`, which has no
+/// next number and so can't be an index.
 fn marks_of(alloc: Global, threads: &ThreadLines) -> Result<Option<Vec<bool>>, AllocError>
     ensures distinct { IfOk result (λ found. IfSome found (λ marks. AreDistinct (map (λ line. line.tag) threads.now))) }
     ensures marks { IfOk result (λ found. IfSome found (λ marks. AreMarksOf (map (λ line. line.tag) threads.now) marks.items)) }
@@ -126,6 +127,8 @@ fn are_grants_holds(
     Ok(true)
 }
 
+/// Returns true if the lock of this number was granted to each thread as often as the thread's line says, and to no
+/// other. `marks` is true at each thread's tag.
 fn is_granted_as_held(
     alloc: Global,
     threads: &ThreadLines,
@@ -172,6 +175,7 @@ fn grants_by_tag(
     Ok(Some(grants))
 }
 
+/// Returns the number at `index`. A list without that index has no grant or hold to count there, so 0.
 fn number_at(numbers: &[u64], index: usize) -> u64
     ensures { result ≡ slice_index numbers.now index }
 {

@@ -16,12 +16,14 @@ pub(crate) struct Resources {
     pub(crate) locks: SleepLocks,
 }
 
+/// A worker's rights to use the ledgers and locks: its share of the ledgers' sums, and its seat at each lock.
 #[derive(Drop)]
 pub(crate) struct Holdings {
     pub(crate) share: Share,
     pub(crate) lock_seats: LockSeats,
 }
 
+/// What the ledgers and locks leave for the report: each ledger's sum modulo 2^64, and each lock's history.
 #[derive(Drop)]
 pub(crate) struct Remains {
     pub(crate) sums: Vec<u64>,
@@ -56,7 +58,7 @@ impl Resources {
         Ok((own, others))
     }
 
-    /// Requires all rights to use the ledgers and locks.
+    /// Closes the ledgers and locks, for which all rights to use them are required.
     pub(crate) fn close(self, alloc: Global, holdings: Holdings) -> Result<Remains, AllocError>
         requires holdings { AreHoldingsOf self holdings }
         requires all { IsWholeShare holdings.share × All IsWholeSeat holdings.lock_seats }

@@ -24,6 +24,7 @@ use std::marker::Model;
 use std::sync::Wait;
 use std::time::Clock;
 
+/// A worker's tokens (rights to use the shared objects), its current thread, and the slots that it keeps claimed.
 #[derive(Drop)]
 pub(crate) struct RunSeat<'a, H, T: RunJob, C: Contexts<T>, R, G> {
     pub(crate) rt: &'a H,
@@ -33,20 +34,23 @@ pub(crate) struct RunSeat<'a, H, T: RunJob, C: Contexts<T>, R, G> {
     pub(crate) core: u8,
     /// True if the table has rejected a slot or a thread that it had given to the worker.
     ///
-    /// `held` and `kept` may then be wrong, so the worker ends.
+    /// `held` and `kept` may then be wrong, so the worker ends. A method that could leave them wrong sets this first,
+    /// and clears it if all went well, so that each early return leaves it set.
     pub(crate) is_broken: bool,
-    /// The seat that holds the thread that the worker runs now.
+    /// The seat that holds the current thread, the one that the worker runs now, which is `held`.
     pub(crate) seat: C::Seat,
     pub(crate) held: Option<InHand<T, C::Hold>>,
     /// The seat that holds the slots in `kept`, which are claimed for threads forked later.
     pub(crate) spare: C::Seat,
     pub(crate) kept: Vec<C::Claim>,
     pub(crate) pass: SpillPass<T::Ticket>,
+    /// Carries out orders to close or open cores. Only core 0's worker has it.
     pub(crate) arbiter: Option<Arbiter>,
     pub(crate) forks: ForkSupplies<R, T::Spares>,
     pub(crate) access: Access<'a>,
 }
 
+/// A thread that the worker has taken from the table.
 #[derive(Drop)]
 pub(crate) struct InHand<T, H> {
     pub(crate) held: Held<T, H>,
@@ -168,6 +172,7 @@ impl<'a, H: Wait + Clock, T: RunJob, C: Contexts<T>, R: Rng + Drop, G: Gate> Dis
     for RunSeat<'a, H, T, C, R, G> {
     ghost largest_quantum = { λ seat. seat.quantum };
 
+    /// A broken seat takes no thread. The next call that can return an error ends the worker.
     #[inline(always)]
     fn take(&mut self, place: Place) -> Grip {
         let Place { core, index } = place;
@@ -352,6 +357,7 @@ impl<'a, H: Wait + Clock, T: RunJob, C: Contexts<T>, R: Rng + Drop, G: Gate> Dis
         may_take_ticket(self.look(), kept, machine.slots)
     }
 
+    /// If the core has no free slot, the ticket is lost, and its child waits until the parent runs it.
     fn take_ticket(&mut self) -> Result<TicketResult, Halt> {
         if self.is_broken {
             return Err(Halt::Token);
@@ -413,6 +419,7 @@ impl<'a, H: Wait + Clock, T: RunJob, C: Contexts<T>, R: Rng + Drop, G: Gate> Dis
     }
 }
 
+/// Returns the result of taking a ticket, by the thread that was posted for its child, if any.
 #[inline(always)]
 fn of_ticket(posted: Option<PostedThread>) -> TicketResult
     ensures { MatchOption posted (result ≡ TicketResult.Gone) (λ post. result ≡ TicketResult.Posted post) }
@@ -423,6 +430,7 @@ fn of_ticket(posted: Option<PostedThread>) -> TicketResult
     }
 }
 
+/// Returns true if there is a current thread, and evidence that it holds a lock.
 #[inline(always)]
 fn has_lock<T, H>(in_hand: &Option<InHand<T, H>>) -> bool
     ensures { MatchOption in_hand.now (result ≡ false) (λ thread. result ≡ is_some thread.grant) }

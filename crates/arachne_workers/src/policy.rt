@@ -130,6 +130,7 @@ pub(crate) fn spins(round: u32, may_yield: bool) -> bool
     round <= last
 }
 
+/// Returns how often a worker spins in its idle round (pass without work) `round`: doubled each time, up to a limit.
 #[inline(always)]
 pub(crate) fn spins_of(round: u32) -> u32
     ensures { result ≡ 2 ^ min round LAST_SPIN_ALONE }
