@@ -27,6 +27,7 @@ use std::marker::Model;
 /// job as one word.
 #[derive(Drop)]
 pub struct Job<'p> {
+    /// Never `None` in a job. When the job ends, the empty box is kept for a later job.
     parts: Box<Option<Parts<'p>>>,
 }
 
@@ -47,6 +48,7 @@ impl<'p> Model for Job<'p> {
 }
 
 impl<'p> Job<'p> {
+    /// Makes a job, in memory of ended jobs if there is some, and the receiving end for its outcome (result).
     #[inline(always)]
     fn of(
         alloc: Global,
@@ -206,11 +208,13 @@ impl<'p> RunJob for Job<'p> {
         let mut child = child;
         child.set_tag(tag);
         let (job, receiver) = Job::of(alloc, child, Some(me), spares)?;
-        parts.expect(receiver)?;
+        parts.add_receiver(receiver)?;
         parts.thread.forked();
         Ok(job)
     }
 
+    /// A waiting child gets two entries: `End::Waits` in `ties`, which keeps the order of the forks, and its cell in
+    /// `waits`, since `ties`, which a job of any program may reuse, can't own a thread.
     fn put_aside(
         &mut self,
         alloc: Global,
@@ -233,12 +237,12 @@ impl<'p> RunJob for Job<'p> {
         let mut child = child;
         child.set_tag(tag);
         if !waits {
-            parts.place(child)?;
+            parts.run_inside(child)?;
             return Ok(None);
         }
         // Memory is reserved first, because the child can't be taken back when its ticket is in the queue.
         if reserve_both(&mut parts.ties.ends, &mut parts.waits).is_err() {
-            parts.place(child)?;
+            parts.run_inside(child)?;
             return Ok(None);
         }
         match WaitCell::wait(alloc, child, me) {
@@ -249,7 +253,7 @@ impl<'p> RunJob for Job<'p> {
                 Ok(Some(ticket))
             }
             Err(child) => {
-                parts.place(child)?;
+                parts.run_inside(child)?;
                 Ok(None)
             }
         }
@@ -289,6 +293,7 @@ impl<'p> RunJob for Job<'p> {
         Some(Job { parts })
     }
 
+    /// Each end of a child was removed when this job joined the child, so the last end is for the job's own outcome.
     #[inline(always)]
     fn leave(self, spares: &mut JobSpares<'p>) -> Result<Option<ThreadId>, JobFault> {
         let Job { mut parts } = self;

@@ -11,6 +11,7 @@ pub struct Waiting<'p> {
     pub(crate) parent: ThreadId,
 }
 
+/// The contents of a join cell: a child that waits for a thread slot, or its outcome (result) once it has ended.
 #[derive(Drop)]
 pub enum LeftInCell<'p> {
     Child(Waiting<'p>),

@@ -67,6 +67,7 @@ impl Openings {
         }
     }
 
+    /// Counts a random word that the worker must draw later, unless the child may get a slot, for which one is drawn.
     #[inline(always)]
     fn owe_unless(&mut self, may: bool)
         ensures { self.new ≡ record self.old { draws = if may then self.old.draws else (self.old.draws + 1) % 2 ^ 64 } }

@@ -21,7 +21,7 @@ use arachne_machine::{Contents, Pause, Thread};
 use std::alloc::{AllocError, Global};
 use std::marker::Model;
 
-/// A job's thread, with the join cells that bring outcomes to parents. The first end is for the job's own outcome.
+/// A job's thread, with its ends of the join cells by which outcomes (results) get to parents.
 ///
 /// The first end is for the job's own outcome. The other ends are for children that the job has forked and not yet
 /// joined, the newest child's last.
@@ -30,8 +30,10 @@ pub struct Parts<'p> {
     pub(crate) thread: Thread<'p>,
     /// The type `Ties` has no lifetime parameter, so that any later job can reuse the box.
     pub(crate) ties: Box<Ties>,
+    /// The box for the thread's outcome, allocated in advance, so that the end of the thread needs no memory.
     pub(crate) contents: Box<Contents>,
-    /// The join cells of queued children, one for each `End::Waits` in `ties`.
+    /// The join cells of threads that were queued for a slot (children, or this job), one for each `End::Waits` in
+    /// `ties`, in the same order.
     pub(crate) waits: Vec<WaitEnd<'p>>,
 }
 
@@ -53,8 +55,10 @@ impl<'p> Model for Parts<'p> {
         × All (IsWaitEnd (program_of p.thread) (name_of p.thread)) p.waits.items };
 }
 
+/// The greatest number of empty boxes that a worker keeps.
 const MOST: usize = 64;
 
+/// The empty boxes of ended jobs, which new jobs reuse.
 #[derive(Drop)]
 pub struct SpareBoxes<'p> {
     pub(crate) boxes: Vec<Box<Option<Parts<'p>>>>,
@@ -88,7 +92,8 @@ impl<'p> SpareBoxes<'p> {
 }
 
 impl<'p> Parts<'p> {
-    /// Runs the job for at most `left` steps. Tries to join a child at once if the job begins to wait for it.
+    /// Runs the job for at most `left` steps. Tries to join a child at once if the job begins to wait for it. `due` is
+    /// copied out of `openings` and back, since `placing` borrows all of `openings`.
     pub(crate) fn advance(
         &mut self,
         left: &mut u32,
@@ -105,13 +110,13 @@ impl<'p> Parts<'p> {
         ensures tallied { OnOk result (GoesOnOver left.old left.new self.old.thread self.new.thread (due_to openings.old.due) (due_to openings.new.due)) }
     {
         let mut due = openings.due;
-        let mut asked = ForkPlacing {
+        let mut placing = ForkPlacing {
             room,
             openings: &mut *openings,
         };
         let paused = self
             .thread
-            .advance_tallying(left, &mut spares.threads, &mut asked, &mut due);
+            .advance_tallying(left, &mut spares.threads, &mut placing, &mut due);
         openings.due = due;
         match paused? {
             Pause::Budget => Ok(Slice::Goes),
@@ -131,7 +136,7 @@ impl<'p> Parts<'p> {
     }
 
     /// Puts `child` inside this job's thread slot, in which it runs once the job waits for it.
-    pub(crate) fn place(&mut self, child: Thread<'p>) -> Result<(), JobFault>
+    pub(crate) fn run_inside(&mut self, child: Thread<'p>) -> Result<(), JobFault>
         requires pending { IsPlacing (pause_of self.old.thread) }
         requires child { MayBePlaced self.old.thread child }
         requires forked { pause_of self.old.thread ≡ Some pause.Forks → awaited self.old.thread.running ≡ Some (name_of child) }
@@ -145,7 +150,7 @@ impl<'p> Parts<'p> {
     }
 
     /// Adds the receiving end of the join cell of a child that this job has forked.
-    pub(crate) fn expect(&mut self, receiver: OutcomeReceiver) -> Result<(), JobFault>
+    pub(crate) fn add_receiver(&mut self, receiver: OutcomeReceiver) -> Result<(), JobFault>
         requires { IsOf (program_of self.old.thread) receiver.opening.key }
         ensures { self.new ≡ self.old }
     {
@@ -170,7 +175,7 @@ impl<'p> Parts<'p> {
                 Ok(true)
             }
             Found::Child(child) => {
-                self.place(child)?;
+                self.run_inside(child)?;
                 Ok(true)
             }
             Found::Nothing => Ok(false),
@@ -178,6 +183,8 @@ impl<'p> Parts<'p> {
     }
 
     /// Takes out of the join cell what the job awaits: the child's outcome, or the child if it still waits for a slot.
+    ///
+    /// The newest end is that of the awaited child. If neither is there yet, the end is put back for the next call.
     fn find(&mut self, spares: &mut JobSpares<'p>) -> Result<Found<'p>, JobFault>
         ensures same { self.new ≡ self.old }
         ensures found { IfOk result (IsFoundOf (program_of self.old.thread)) }

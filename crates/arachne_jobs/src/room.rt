@@ -16,7 +16,9 @@ pub const BLOCK: u64 = 64;
 pub struct Room {
     free: CachePadded<AtomicU64>,
     waiting: CachePadded<AtomicU64>,
+    /// The most children that may wait at a time.
     most: u64,
+    /// The number of blocks of tags that were handed out.
     blocks: CachePadded<AtomicU64>,
 }
 
@@ -82,7 +84,8 @@ impl Room {
         self.waiting.fetch_sub(1, Ordering::SeqCst);
     }
 
-    /// Hands out `BLOCK` tags (thread numbers), and returns the first. Fewer than 2^58 calls hand out no tag twice.
+    /// Hands out `BLOCK` tags (thread numbers), and returns the first. Fewer than 2^58 calls hand out no tag twice. The
+    /// number of the block is reduced modulo 2^58, so that its tags are less than 2^64.
     pub fn next_block(&self) -> u64
         ensures { result % BLOCK ≡ 1 }
     {
@@ -111,6 +114,7 @@ fn or_zero(number: u64) -> u64
     if number > u64::MAX / 2 { 0 } else { number }
 }
 
+/// A worker's unused tags (numbers for new threads): `next` and those after it, `left` in all.
 #[derive(Debug, Drop)]
 pub struct Tags {
     pub next: u64,

@@ -89,6 +89,9 @@ pub trait RunSpares: Drop {
 }
 
 /// A thread with a slot of its own, which a worker runs for some steps at a time.
+///
+/// `run` has the job's type as a parameter, of which it knows only these traits, since the prover can't check `run` at
+/// a job and a table that are both written out. One trait of all their calls would be too large to check.
 pub trait RunJob: RunThread {
     /// A child that was forked and has no slot yet.
     type Child: Drop;

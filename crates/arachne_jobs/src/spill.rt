@@ -236,6 +236,7 @@ pub fn next_ticket<R: Wait, K: Tagged + Drop>(
     Some(ticket)
 }
 
+/// The most entries, of children that still wait, that one call of `make_room` pushes again.
 const MOST_LIVE: u32 = 8;
 
 /// If `is_wanted` is true and the queue is full, tries to make room for one more child's entry. Pops entries, the

@@ -13,6 +13,7 @@ pub struct Ties {
     pub(crate) parent: Option<ThreadId>,
 }
 
+/// The greatest number of boxes that a worker keeps.
 const MOST: usize = 64;
 
 /// The boxes of ended jobs, which new jobs reuse, and the capacity of their lists.
@@ -32,6 +33,7 @@ impl Model for SpareTies {
 }
 
 impl SpareTies {
+    /// Returns a box with no ends, but with room for two: the job's own, and that of a first child.
     #[inline(always)]
     pub(crate) fn take(
         &mut self,

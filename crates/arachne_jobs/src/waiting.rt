@@ -21,6 +21,7 @@ type Cell<'p> = JoinCell<LeftInCell<'p>, Wanted>;
 
 type CellEnd<'p> = SendingEnd<LeftInCell<'p>, Wanted>;
 
+/// A reference to the join cell of a child that waits, or has waited, for a slot. Parent and child have one each.
 #[derive(Drop)]
 pub struct WaitCell<'p> {
     cell: Arc<Cell<'p>>,
@@ -75,7 +76,7 @@ impl<'p> Tagged for Ticket<'p> {
 }
 
 impl<'p> WaitCell<'p> {
-    /// Returns `child` as the error if memory is refused.
+    /// Puts `child` into a new join cell, to wait there for a slot. Returns `child` as the error if memory is refused.
     pub(crate) fn wait(
         alloc: Global,
         child: Thread<'p>,
@@ -104,7 +105,7 @@ impl<'p> WaitCell<'p> {
 
     /// Takes the child's outcome, or the child if it still waits, out of the cell.
     ///
-    /// If the cell has neither, the error is the cell's state.
+    /// If the cell has neither, the error is its state. `fetch` returns only outcomes, and `take_back` only children.
     pub(crate) fn find(&self) -> Result<Found<'p>, Missed<Wanted>>
         ensures found { IfOk result (IsFoundFor self.now.key) }
         ensures missed { IfErr result (λ missed. (missed.state ≢ CellState.Waiting) × (missed.receipt ≡ shown self.now.table (Saw missed.state))) }
@@ -128,6 +129,7 @@ impl<'p> WaitCell<'p> {
         }
     }
 
+    /// Puts the child's outcome into the cell, from which the parent takes it.
     pub(crate) fn leave(self, end: CellEnd<'p>, outcome: DetachedOutcome) -> Receipt<Wanted>
         requires end { end ≡ self.table }
         requires outcome { IsWanted self.key outcome }

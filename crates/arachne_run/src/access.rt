@@ -24,6 +24,7 @@ use std::marker::Model;
 use std::sync::Wait;
 use std::time::Clock;
 
+/// The run's locks and ledgers, and a worker's rights to use them.
 #[derive(Drop)]
 pub(crate) struct Access<'a> {
     pub(crate) resources: &'a Resources,
@@ -108,6 +109,7 @@ impl<'a> Access<'a> {
         unreachable!()
     }
 
+    /// Adds the amount of the thread's tally (an addition to a ledger), and resumes the thread.
     pub(crate) fn tally<T: RunThread>(
         &mut self,
         ledger: u64,
@@ -191,6 +193,7 @@ fn stop_after(freed: Freed) -> ThreadStop
     }
 }
 
+/// Tries once to free a lock. The error is `Foreign` if there is no such lock.
 fn free_at(
     locks: &SleepLocks,
     seats: &mut LockSeats,

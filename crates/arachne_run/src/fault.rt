@@ -63,7 +63,7 @@ impl From<WorkerFault> for RunFault {
     }
 }
 
-/// A worker that has begun meets no `Ledgers` and no `KernelThread`.
+/// A worker that has begun meets no `Ledgers` and no `KernelThread`, so it doesn't matter what these become.
 impl From<WorkerFault> for Halt {
     ghost use Rattle.std.specs.Prelude.{◌≡◌};
     ghost use Rattle.arachne_run.specs.Setups.{halt_of};

@@ -21,9 +21,11 @@ use std::alloc::{AllocError, Global};
 use std::sync::Wait;
 use std::time::Clock;
 
+/// What a worker needs for forks: `chooser` is the random generator that chooses a child's core.
 #[derive(Drop)]
 pub(crate) struct ForkSupplies<R, P> {
     pub(crate) chooser: R,
+    /// What the worker's threads change while they run: unused tags, random numbers still to draw, an amount to add.
     pub(crate) openings: Openings,
     /// Memory of ended threads, which the worker uses for new threads.
     pub(crate) spares: P,
@@ -94,7 +96,8 @@ fn draw<R: Rng>(chooser: &mut R, words: u64) {
 ///
 /// A normal child gets a slot on the less loaded of two random cores, or else on the first other core with a free slot;
 /// if there is none, it waits if the queue has room. An exclusive child, which wants a core for itself, gets an empty
-/// core. Any other child runs inside its parent's slot.
+/// core. Any other child runs inside its parent's slot. For a child with much work (`is_large`), useless tickets are
+/// first removed from a full queue.
 fn answer_fork<H: Wait, T: RunJob, C: Contexts<T>, R: Rng>(
     rt: &H,
     alloc: Global,
@@ -142,6 +145,7 @@ fn answer_fork<H: Wait, T: RunJob, C: Contexts<T>, R: Rng>(
     Ok(ThreadStop::Goes)
 }
 
+/// Tries to claim a slot for a child of this class. Only for a normal child, draws a random number to choose the core.
 #[inline(always)]
 fn claim_for<H: Wait, T: RunJob, C: Contexts<T>, R: Rng>(
     cores: &Cores<'_, H, T, C>,
@@ -187,8 +191,8 @@ pub(crate) fn give_place_back<H: Wait, T: RunJob, C: Contexts<T>>(
     }
 }
 
-/// Returns a claimed slot of `core`: one from `kept`, or else a free one.
-pub(crate) fn free_place<H: Wait, T: RunJob, C: Contexts<T>>(
+/// Returns a claimed slot of `core`: one from `kept`, which was never counted as free, or else a free one, if any.
+pub(crate) fn claim_slot<H: Wait, T: RunJob, C: Contexts<T>>(
     rt: &H,
     machine: &Machine<C, T::Ticket>,
     spare: &mut C::Seat,
@@ -212,6 +216,7 @@ pub(crate) fn free_place<H: Wait, T: RunJob, C: Contexts<T>>(
     Ok(claim)
 }
 
+/// Puts `job` into a claimed slot, as a thread that is ready to run.
 #[inline(always)]
 pub(crate) fn post_at<H: Wait, T: RunJob, C: Contexts<T>>(
     rt: &H,

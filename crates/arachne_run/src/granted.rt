@@ -11,10 +11,11 @@ ghost use Rattle.arachne_run.specs.declared.granted.Granted.{Granted};
 use arachne_sleep::{AskFault, Asked, LockSeats, Pass, SleepLocks, Tried, Who};
 use std::snapshot::Snapshot;
 
+/// The call by which a worker tries to get a lock for a thread.
 #[derive(Clone, Copy)]
 pub(crate) enum LockCall {
     Ask,
-    /// The thread has asked for the lock before.
+    /// The thread has asked for the lock before. The call looks if the lock was granted to the thread since then.
     Check,
 }
 
@@ -43,6 +44,7 @@ impl Granted {
     }
 }
 
+/// Asks for a lock. If another thread holds it, the lock records that the thread waits.
 #[inline(always)]
 pub(crate) fn ask(locks: &SleepLocks, seats: &mut LockSeats, lock: u8, who: Who) -> Attempt
     requires own { AreSeatsOf locks.now seats.old }
@@ -65,6 +67,7 @@ pub(crate) fn ask(locks: &SleepLocks, seats: &mut LockSeats, lock: u8, who: Who)
     }
 }
 
+/// Looks if a lock for which the thread has asked was granted to it.
 #[inline(always)]
 pub(crate) fn check(locks: &SleepLocks, seats: &mut LockSeats, lock: u8, who: Who) -> Attempt
     requires own { AreSeatsOf locks.now seats.old }

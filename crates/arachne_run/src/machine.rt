@@ -27,6 +27,7 @@ use std::alloc::{AllocError, Global};
 use std::marker::PhantomData;
 use std::sync::Wait;
 
+/// The objects that the workers of a run share, and the run's settings.
 #[derive(Drop)]
 pub(crate) struct Machine<C, K: Tagged + Drop> {
     pub(crate) shared: SharedState,
@@ -36,6 +37,7 @@ pub(crate) struct Machine<C, K: Tagged + Drop> {
     pub(crate) cores: u8,
     pub(crate) slots: u8,
     pub(crate) quantum: u32,
+    /// The number of the run's orders to close or open cores.
     pub(crate) orders: usize,
     /// True if workers may keep slots of ended threads claimed for threads that are forked later.
     pub(crate) may_keep: bool,
@@ -46,7 +48,8 @@ pub(crate) struct Machine<C, K: Tagged + Drop> {
     pub(crate) may_pull: bool,
 }
 
-/// A worker's rights to use the objects of a run. One worker also has the arbiter, which opens and closes cores.
+/// A worker's rights to use the objects of a run: the table by `seat`, the tickets by `pass`, the ledgers and locks by
+/// `holdings`. One worker also has the arbiter, which opens and closes cores.
 #[derive(Drop)]
 pub(crate) struct Tokens<S, K> {
     pub(crate) seat: S,
@@ -83,6 +86,7 @@ impl<C: Seats, K: Tagged + Drop> Machine<C, K> {
 }
 
 impl<C: Seats + Drop, K: Tagged + Drop> Machine<C, K> {
+    /// Makes the objects of a run, with the tokens (rights) of which those of all workers are split off.
     pub(crate) fn new(
         alloc: Global,
         cores: u8,
@@ -130,7 +134,7 @@ impl<C: Seats + Drop, K: Tagged + Drop> Machine<C, K> {
     }
 
     /// Returns the ledgers' sums, the locks' histories, and the number of orders carried out. The error is the first
-    /// fault of a worker, if any has failed.
+    /// fault of a worker, if any has failed, or `Token` if not all tokens (rights) are back or a thread is left.
     pub(crate) fn close<H: Wait, T>(
         self,
         rt: &H,
@@ -143,7 +147,7 @@ impl<C: Seats + Drop, K: Tagged + Drop> Machine<C, K> {
         requires { IfSome tokens (AreIdle C.sits C.idle self) }
         ensures sound { IfOk result (λ closed. (closed.1 ≤ self.orders) × AreOfLocks (length self.resources.locks) closed.0.histories.items) }
         ensures applied { IfOk result (λ closed. IfSome tokens (λ tokens. IfSome tokens.arbiter (λ progress. closed.1 ≡ progress.applied))) }
-        ensures words { IfOk result (λ closed. IfSome tokens (λ tokens. closed.0.words.items ≡ map (λ sum. sum % 2 ^ 64) tokens.holdings.share.sums)) }
+        ensures sums { IfOk result (λ closed. IfSome tokens (λ tokens. closed.0.sums.items ≡ map (λ sum. sum % 2 ^ 64) tokens.holdings.share.sums)) }
         ensures back { IsOk result → IsSome tokens × IfSome tokens (AreAllBack C.weight) }
     {
         let first = self.shared.first_fault.into_inner();
@@ -250,7 +254,7 @@ fn all_of<C: Seats, K: Tagged + Drop>(
     }
 }
 
-/// Returns the fault `Token` if a thread is left in the table.
+/// Closes the table. Returns the fault `Token` if a thread is left in it.
 fn end_table<H: Wait, T: Tagged + Drop, C: Contexts<T> + Drop>(
     rt: &H,
     alloc: Global,
@@ -274,6 +278,7 @@ fn end_table<H: Wait, T: Tagged + Drop, C: Contexts<T> + Drop>(
     }
 }
 
+/// Drops the tickets that are left in the queue. Their children no longer wait if all threads have ended.
 fn empty<H: Wait, K: Tagged + Drop>(rt: &H, tickets: &SpillQueue<K>, pass: SpillPass<K>)
     requires { IsPassOf tickets.now pass }
 {

@@ -46,19 +46,19 @@ impl Report {
         requires { outcome.name ≡ [] }
         ensures meaning { IfOk result (λ report. meaning_in report ≡ meaning_of (source_of outcome.program)) }
         ensures tags { IfOk result (λ report. AreDistinct (tags_of report)) }
-        ensures totals { IfOk result (λ report. report.totals ≡ remains.words.items) }
+        ensures totals { IfOk result (λ report. report.totals ≡ remains.sums.items) }
         ensures histories { IfOk result (λ report. report.histories ≡ remains.histories) }
         ensures grants { IfOk result (λ report. GrantsAreHolds report.threads (histories_in report)) }
         ensures applied { IfOk result (λ report. report.applied ≡ applied) }
         ensures fault { IfErr result (λ fault. ((fault ≡ Memory) ⊎ (fault ≡ Threads)) ⊎ (fault ≡ Ledgers)) }
-        ensures sums { result ≡ Err Ledgers → outcome.sums ≢ remains.words.items }
-        ensures threads { result ≡ Err Threads → outcome.sums ≡ remains.words.items }
+        ensures sums { result ≡ Err Ledgers → outcome.sums ≢ remains.sums.items }
+        ensures threads { result ≡ Err Threads → outcome.sums ≡ remains.sums.items }
     {
         let Ok(parts) = outcome.into_parts() else {
             return Err(WorkerFault::Memory);
         };
-        let Remains { words, histories } = remains;
-        if parts.sums.as_slice() != words.as_slice() {
+        let Remains { sums, histories } = remains;
+        if parts.sums.as_slice() != sums.as_slice() {
             return Err(WorkerFault::Ledgers);
         }
         let Some(marks) = marks_of(alloc, &parts.lines)? else {
@@ -69,7 +69,7 @@ impl Report {
         }
         Ok(Report {
             value: parts.value,
-            totals: Sequence::from(words),
+            totals: Sequence::from(sums),
             threads: parts.lines,
             histories,
             applied,
@@ -77,7 +77,8 @@ impl Report {
     }
 }
 
-/// Returns a list that is true at each thread's tag, or `None` if two tags are equal or one is `u64::MAX`.
+/// Returns a list that is true at each thread's tag, or `None` if two tags are equal or one is `u64::MAX`, which has no
+/// next number and so can't be an index.
 fn marks_of(alloc: Global, threads: &ThreadLines) -> Result<Option<Vec<bool>>, AllocError>
     ensures distinct { IfOk result (λ found. IfSome found (λ marks. AreDistinct (map (λ line. line.tag) threads.now))) }
     ensures marks { IfOk result (λ found. IfSome found (λ marks. AreMarksOf (map (λ line. line.tag) threads.now) marks.items)) }
@@ -86,23 +87,23 @@ fn marks_of(alloc: Global, threads: &ThreadLines) -> Result<Option<Vec<bool>>, A
     let mut marks = Vec::new(alloc);
     marks.resize(threads.len(), false)?;
     for line in threads.iter() {
-        let place = place_of(&line);
-        if place == usize::MAX {
+        let tag = tag_index(&line);
+        if tag == usize::MAX {
             return Ok(None);
         }
-        if place >= marks.len() {
-            marks.resize(place + 1, false)?;
+        if tag >= marks.len() {
+            marks.resize(tag + 1, false)?;
         }
-        if marks[place] {
+        if marks[tag] {
             return Ok(None);
         }
-        marks[place] = true;
+        marks[tag] = true;
     }
     Ok(Some(marks))
 }
 
 #[inline(always)]
-fn place_of(line: &LineView<'_>) -> usize
+fn tag_index(line: &LineView<'_>) -> usize
     ensures { result ≡ line.now.tag }
 {
     line.tag() as usize
@@ -126,6 +127,8 @@ fn are_grants_holds(
     Ok(true)
 }
 
+/// Returns true if the lock of this number was granted to each thread as often as the thread's line says, and to no
+/// other. `marks` is true at each thread's tag.
 fn is_granted_as_held(
     alloc: Global,
     threads: &ThreadLines,
@@ -172,10 +175,11 @@ fn grants_by_tag(
     Ok(Some(grants))
 }
 
-fn number_at(numbers: &[u64], place: usize) -> u64
-    ensures { result ≡ slice_index numbers.now place }
+/// Returns the number at `index`. A list without that index has no grant or hold to count there, so 0.
+fn number_at(numbers: &[u64], index: usize) -> u64
+    ensures { result ≡ slice_index numbers.now index }
 {
-    match numbers.get(place) {
+    match numbers.get(index) {
         Some(number) => *number,
         None => 0,
     }

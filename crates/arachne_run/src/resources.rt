@@ -16,15 +16,17 @@ pub(crate) struct Resources {
     pub(crate) locks: SleepLocks,
 }
 
+/// A worker's rights to use the ledgers and locks: its share of the ledgers' sums, and its seat at each lock.
 #[derive(Drop)]
 pub(crate) struct Holdings {
     pub(crate) share: Share,
     pub(crate) lock_seats: LockSeats,
 }
 
+/// What the ledgers and locks leave for the report: each ledger's sum modulo 2^64, and each lock's history.
 #[derive(Drop)]
 pub(crate) struct Remains {
-    pub(crate) words: Vec<u64>,
+    pub(crate) sums: Vec<u64>,
     pub(crate) histories: Vec<History>,
 }
 
@@ -56,21 +58,21 @@ impl Resources {
         Ok((own, others))
     }
 
-    /// Requires all rights to use the ledgers and locks.
+    /// Closes the ledgers and locks, for which all rights to use them are required.
     pub(crate) fn close(self, alloc: Global, holdings: Holdings) -> Result<Remains, AllocError>
         requires holdings { AreHoldingsOf self holdings }
         requires all { IsWholeShare holdings.share × All IsWholeSeat holdings.lock_seats }
         ensures count { IfOk result (λ remains. length remains.histories.items ≡ length self.locks) }
         ensures sound { IfOk result (λ remains. All (λ history. IsSound history.items) remains.histories.items) }
         ensures one_holder { IfOk result (λ remains. All (λ history. HasOneHolderAtATime history.items) remains.histories.items) }
-        ensures words { IfOk result (λ remains. remains.words.items ≡ map (λ sum. sum % 2 ^ 64) holdings.share.sums) }
+        ensures sums { IfOk result (λ remains. remains.sums.items ≡ map (λ sum. sum % 2 ^ 64) holdings.share.sums) }
     {
         let Ok(histories) = self.locks.close(alloc, holdings.lock_seats) else {
             return Err(AllocError);
         };
-        let Ok(words) = self.ledgers.close(alloc, holdings.share) else {
+        let Ok(sums) = self.ledgers.close(alloc, holdings.share) else {
             return Err(AllocError);
         };
-        Ok(Remains { words, histories })
+        Ok(Remains { sums, histories })
     }
 }

@@ -6,7 +6,7 @@ ghost use Rattle.arachne_run.specs.Tokens.{AreIdle, IsSetUp, ground_of};
 
 use crate::access::Access;
 use crate::fault::WorkerFault;
-use crate::forking::{ForkSupplies, free_place, give_place_back, go_on, post_at, post_waiting};
+use crate::forking::{ForkSupplies, claim_slot, give_place_back, go_on, post_at, post_waiting};
 use crate::gate::Gate;
 use crate::granted::Granted;
 use crate::machine::{Machine, Tokens};
@@ -24,6 +24,7 @@ use std::marker::Model;
 use std::sync::Wait;
 use std::time::Clock;
 
+/// A worker's tokens (rights to use the shared objects), its current thread, and the slots that it keeps claimed.
 #[derive(Drop)]
 pub(crate) struct RunSeat<'a, H, T: RunJob, C: Contexts<T>, R, G> {
     pub(crate) rt: &'a H,
@@ -33,20 +34,23 @@ pub(crate) struct RunSeat<'a, H, T: RunJob, C: Contexts<T>, R, G> {
     pub(crate) core: u8,
     /// True if the table has rejected a slot or a thread that it had given to the worker.
     ///
-    /// `held` and `kept` may then be wrong, so the worker ends.
+    /// `held` and `kept` may then be wrong, so the worker ends. A method that could leave them wrong sets this first,
+    /// and clears it if all went well, so that each early return leaves it set.
     pub(crate) is_broken: bool,
-    /// The seat that holds the thread that the worker runs now.
+    /// The seat that holds the current thread, the one that the worker runs now, which is `held`.
     pub(crate) seat: C::Seat,
     pub(crate) held: Option<InHand<T, C::Hold>>,
     /// The seat that holds the slots in `kept`, which are claimed for threads forked later.
     pub(crate) spare: C::Seat,
     pub(crate) kept: Vec<C::Claim>,
     pub(crate) pass: SpillPass<T::Ticket>,
+    /// Carries out orders to close or open cores. Only core 0's worker has it.
     pub(crate) arbiter: Option<Arbiter>,
     pub(crate) forks: ForkSupplies<R, T::Spares>,
     pub(crate) access: Access<'a>,
 }
 
+/// A thread that the worker has taken from the table.
 #[derive(Drop)]
 pub(crate) struct InHand<T, H> {
     pub(crate) held: Held<T, H>,
@@ -135,7 +139,7 @@ impl<'a, H: Wait, T: RunJob, C: Contexts<T>, R: Rng + Drop, G: Gate> RunSeat<'a,
         self.is_broken = true;
         let (rt, machine) = (self.rt, self.machine);
         let (spare, kept) = (&mut self.spare, &mut self.kept);
-        let Some(claim) = free_place::<H, T, C>(rt, machine, spare, kept, self.core)? else {
+        let Some(claim) = claim_slot::<H, T, C>(rt, machine, spare, kept, self.core)? else {
             return Err(WorkerFault::Token);
         };
         let index = claim.place().index;
@@ -168,6 +172,7 @@ impl<'a, H: Wait + Clock, T: RunJob, C: Contexts<T>, R: Rng + Drop, G: Gate> Dis
     for RunSeat<'a, H, T, C, R, G> {
     ghost largest_quantum = { λ seat. seat.quantum };
 
+    /// A broken seat takes no thread. The next call that can return an error ends the worker.
     #[inline(always)]
     fn take(&mut self, place: Place) -> Grip {
         let Place { core, index } = place;
@@ -352,6 +357,7 @@ impl<'a, H: Wait + Clock, T: RunJob, C: Contexts<T>, R: Rng + Drop, G: Gate> Dis
         may_take_ticket(self.look(), kept, machine.slots)
     }
 
+    /// If the core has no free slot, the ticket is lost, and its child waits until the parent runs it.
     fn take_ticket(&mut self) -> Result<TicketResult, Halt> {
         if self.is_broken {
             return Err(Halt::Token);
@@ -366,7 +372,7 @@ impl<'a, H: Wait + Clock, T: RunJob, C: Contexts<T>, R: Rng + Drop, G: Gate> Dis
         }
         self.is_broken = true;
         let (spare, kept) = (&mut self.spare, &mut self.kept);
-        let Some(claim) = free_place::<H, T, C>(rt, machine, spare, kept, self.core)? else {
+        let Some(claim) = claim_slot::<H, T, C>(rt, machine, spare, kept, self.core)? else {
             self.is_broken = false;
             return Ok(TicketResult::Gone);
         };
@@ -413,6 +419,7 @@ impl<'a, H: Wait + Clock, T: RunJob, C: Contexts<T>, R: Rng + Drop, G: Gate> Dis
     }
 }
 
+/// Returns the result of taking a ticket, by the thread that was posted for its child, if any.
 #[inline(always)]
 fn of_ticket(posted: Option<PostedThread>) -> TicketResult
     ensures { MatchOption posted (result ≡ TicketResult.Gone) (λ post. result ≡ TicketResult.Posted post) }
@@ -423,6 +430,7 @@ fn of_ticket(posted: Option<PostedThread>) -> TicketResult
     }
 }
 
+/// Returns true if there is a current thread, and evidence that it holds a lock.
 #[inline(always)]
 fn has_lock<T, H>(in_hand: &Option<InHand<T, H>>) -> bool
     ensures { MatchOption in_hand.now (result ≡ false) (λ thread. result ≡ is_some thread.grant) }

@@ -15,6 +15,7 @@ pub(crate) struct SharedState {
     /// The words that say whether slots are free and children wait.
     pub(crate) room: Room,
     pub(crate) first_fault: Mutex<Option<WorkerFault>>,
+    /// The words by which workers sleep, wake one another and stop.
     pub(crate) workers: SharedWords,
 }
 

@@ -20,6 +20,7 @@ use std::sync::Wait;
 use std::thread::Threads;
 use std::time::Clock;
 
+/// The team of a run's workers, one for each core.
 #[derive(Drop)]
 struct Workers<'a, C, K: Tagged + Drop, G> {
     alloc: Global,
@@ -61,6 +62,7 @@ impl<'a, T: RunJob, C: Contexts<T>, R: Rng + Drop, G: Gate> Team<WorkerShare<C::
         self.machine.cores
     }
 
+    /// Splits off the share of the next worker, with the next chooser. Returns `None` for it if memory is refused.
     fn part_off<H: Wait>(
         &self,
         rt: &H,
@@ -143,6 +145,7 @@ impl<'a, T: RunJob, C: Contexts<T>, R: Rng + Drop, G: Gate> Team<WorkerShare<C::
     }
 }
 
+/// Runs a worker on each core. Returns the tokens (rights) of all workers joined, or `None` if any are missing.
 pub(crate) fn work_all<
     H: Threads + Wait + Clock + Sync,
     T: RunJob + Send,
@@ -187,7 +190,8 @@ where
 
 /// Makes the worker of a core, and posts the root thread on that core if this worker has it.
 ///
-/// If the worker has no chooser, or the root thread can't be posted, stops all workers.
+/// If the root thread can't be posted, or there is no chooser, stops all workers. `run` has checked that there are as
+/// many choosers as cores.
 fn open_worker<'a, H: Wait, T: RunJob, C: Contexts<T>, R: Rng + Drop, G: Gate>(
     rt: &'a H,
     alloc: Global,

@@ -202,7 +202,7 @@ pub enum Cause {
     IsServed,
 }
 
-/// Frees all slots that the worker keeps claimed for threads that are forked later.
+/// Frees all slots (at most `SLOTS`) that the worker keeps claimed for threads that are forked later.
 pub fn give_all_back<D: Dispatch>(dispatch: &mut D) -> Result<(), Halt>
     ensures { dispatch.new ≡ dispatch.old }
 {
@@ -214,6 +214,7 @@ pub fn give_all_back<D: Dispatch>(dispatch: &mut D) -> Result<(), Halt>
     Ok(())
 }
 
+/// Frees the slots that the worker keeps claimed, if so few of its core's slots have a thread that it needs none.
 #[inline(always)]
 pub(crate) fn thin_out<D: Dispatch>(dispatch: &mut D, slots: u8) -> Result<(), Halt>
     ensures { dispatch.new ≡ dispatch.old }

@@ -13,8 +13,10 @@ use std::sync::atomic::{AtomicU64, Ordering};
 /// The worker waits on the low 32 bits of the word (by a futex), so this bit must be one of them.
 pub(crate) const SLEEPS: u64 = 1;
 
+/// In a core's word, the bit of slot 0 is bit 1, and so on, since bit 0 is `SLEEPS`.
 const INDEX_SHIFT: u32 = 1;
 
+/// Returns a mask with the bit of slot `index`, or 0 if no core has such a slot.
 pub(crate) fn bit_of(index: u8) -> u64
     ensures there { index < SLOTS → result ≡ 2 ^ index }
     ensures none { SLOTS ≤ index → result ≡ 0 }
@@ -96,7 +98,7 @@ impl Hints {
 
     /// Clears the word of `core`, and returns the slots' bits that were set.
     ///
-    /// Also clears the bit for a sleeping worker.
+    /// Also clears the bit for a sleeping worker. If no bit is set, only reads the word, which costs less.
     pub(crate) fn take(&self, core: u8) -> u64 {
         match self.word(core) {
             Some(word) if word.load(Ordering::SeqCst) != 0 => {
@@ -116,6 +118,7 @@ impl Hints {
         says_sleeps(self.now(core))
     }
 
+    /// Returns the value of the word of `core`, or 0 if there is no such core.
     fn now(&self, core: u8) -> u64 {
         match self.word(core) {
             Some(word) => word.load(Ordering::SeqCst),
@@ -137,6 +140,7 @@ impl Hints {
         }
     }
 
+    /// Clears the bit that says that the worker of `core` sleeps, and wakes the worker if it does.
     pub(crate) fn end_sleep(&self, core: u8) {
         if let Some(word) = self.word(core) {
             // Clears the bit first, so that a worker that is only about to sleep finds the word changed, and doesn't

@@ -4,10 +4,11 @@ ghost use Rattle.std.specs.Prelude.{◌≡◌, ◌≤◌, ◌+◌, false, max};
 use crate::dispatch::Dispatch;
 use crate::shared::SharedWords;
 
-/// The steps that a worker's threads made since it last checked for a stop (`unread`), and for orders to open or close
-/// cores (`untended`).
+/// Counts the steps of all threads that a worker runs: `unread` since it last read the stop word as clear, `untended`
+/// since it last called `tend` for the orders to open or close cores, or found that the run has no orders.
 ///
-/// Neither exceeds `most`, the largest quantum (steps per slice) so far.
+/// Neither exceeds `most`, the largest quantum (steps per slice) so far. So before a slice the worker reads the stop
+/// word and carries out orders by the calls of this type, which restart the counts.
 #[derive(Drop)]
 pub(crate) struct Lag {
     unread: u32,
@@ -28,6 +29,7 @@ impl Lag {
         }
     }
 
+    /// Raises `most` to `quantum`, before a thread with that quantum runs.
     #[inline(always)]
     pub(crate) fn allow(&mut self, quantum: u32)
         ensures most { self.new.most ≡ max self.old.most quantum }
@@ -36,6 +38,7 @@ impl Lag {
         self.most = self.most.max(quantum);
     }
 
+    /// Adds steps that the current thread has made to both counts.
     #[inline(always)]
     pub(crate) fn add(&mut self, steps: u32)
         requires reads { self.old.unread + steps ≤ self.old.most }
@@ -47,6 +50,7 @@ impl Lag {
         self.untended += steps;
     }
 
+    /// Reads the stop word; if it is clear, restarts the count of steps since the last read.
     #[inline(always)]
     pub(crate) fn is_stopped(&mut self, shared: &SharedWords) -> bool
         ensures read { result ≡ false → self.new.unread ≡ 0 }
@@ -59,6 +63,7 @@ impl Lag {
         false
     }
 
+    /// Returns true if the run has orders, so that the caller must call `tend`. If not, restarts the count for orders.
     #[inline(always)]
     pub(crate) fn has_orders<D: Dispatch>(&mut self, dispatch: &D) -> bool
         ensures none { result ≡ false → self.new.untended ≡ 0 }
@@ -71,6 +76,7 @@ impl Lag {
         false
     }
 
+    /// Calls `Dispatch::tend`, and restarts the count of steps since the last such call.
     #[inline(always)]
     pub(crate) fn tend<D: Dispatch>(&mut self, dispatch: &mut D) -> (Option<usize>, u64)
         ensures dispatch { dispatch.new ≡ dispatch.old }

@@ -86,11 +86,11 @@ pub(crate) fn may_go_on(now: OccWord, holds: bool, others: bool, takes_ticket: b
 
 /// Returns how many of the `left` steps of its slice a thread may still make after it has released a lock.
 ///
-/// At most `STEPS_PAST_FREE` if the lock's next holder runs next on this core (`goes_next`).
-pub(crate) fn left_past_free(left: u32, goes_next: bool) -> u32
-    ensures { result ≡ (if goes_next then min left STEPS_PAST_FREE else left) }
+/// At most `STEPS_PAST_FREE` if the lock's next holder runs next on this core (`runs_next`).
+pub(crate) fn left_past_free(left: u32, runs_next: bool) -> u32
+    ensures { result ≡ (if runs_next then min left STEPS_PAST_FREE else left) }
 {
-    if goes_next {
+    if runs_next {
         left.min(STEPS_PAST_FREE)
     } else {
         left
@@ -130,6 +130,7 @@ pub(crate) fn spins(round: u32, may_yield: bool) -> bool
     round <= last
 }
 
+/// Returns how often a worker spins in its idle round (pass without work) `round`: doubled each time, up to a limit.
 #[inline(always)]
 pub(crate) fn spins_of(round: u32) -> u32
     ensures { result ≡ 2 ^ min round LAST_SPIN_ALONE }

@@ -32,8 +32,11 @@ pub struct RunQueue {
     posts: Vec<PostedThread>,
     /// The number of steps after which this worker must make all delayed wakes.
     patience: u32,
+    /// The number of threads that this worker has put on other cores so far.
     posted: u32,
+    /// The number of scans since `take_look_due` last returned true.
     scans: u32,
+    /// Counts steps since this worker last read the stop word, and since it last carried out due orders.
     pub(crate) lag: Lag,
 }
 
@@ -69,6 +72,7 @@ impl RunQueue {
         self.ready |= bit_of(index);
     }
 
+    /// Begins a scan of the slots in `indexes`, and of those that `note` has recorded since the last scan began.
     pub(crate) fn begin_scan(&mut self, indexes: u64)
         ensures begun { (self.new.scan ≡ bit_or self.old.ready indexes) × (self.new.ready ≡ 0) }
         ensures counted { self.new.scans ≡ min (self.old.scans + 1) u32.MAX }
@@ -79,8 +83,8 @@ impl RunQueue {
         self.scans = self.scans.saturating_add(1);
     }
 
-    /// Returns true, and restarts the count of scans, if the next scan must visit all occupied slots.
-    pub(crate) fn is_look_due(&mut self) -> bool
+    /// Returns true, and restarts the count of scans, if the next scan must visit all occupied slots, recorded or not.
+    pub(crate) fn take_look_due(&mut self) -> bool
         ensures due { IsTrue result ↔ SCANS_BETWEEN_LOOKS ≤ self.old.scans }
         ensures counted { self.new ≡ record self.old { scans = if result then 0 else self.old.scans } }
     {
@@ -91,6 +95,7 @@ impl RunQueue {
         is_due
     }
 
+    /// Removes the lowest of the slots that the current scan must still visit, and returns its index.
     pub(crate) fn next_index(&mut self) -> Option<u8>
         ensures lowest { MatchOption result (self.old.scan ≡ 0) (λ index. IsLowest self.old.scan index) }
         ensures fewer { MatchOption result (self.new.scan ≡ 0) (λ _. self.new.scan < self.old.scan) }
@@ -104,6 +109,7 @@ impl RunQueue {
         Some(index)
     }
 
+    /// Returns true if this or the next scan has a slot to visit, or a thread is to run before all others.
     pub(crate) fn is_any(&self) -> bool
         ensures { IsTrue result ↔ (bit_or self.now.scan self.now.ready ≢ 0) ⊎ IsSome self.now.next }
     {
@@ -111,7 +117,7 @@ impl RunQueue {
     }
 
     /// Makes the thread in slot `place` run before all others, or returns false if another must already run first.
-    pub(crate) fn goes_next(&mut self, place: Place) -> bool
+    pub(crate) fn try_set_next(&mut self, place: Place) -> bool
         ensures will { IsTrue result ↔ (self.old.next ≡ None) }
         ensures next { self.new ≡ record self.old { next = if result then Some place else self.old.next } }
     {
@@ -157,6 +163,7 @@ impl RunQueue {
         None
     }
 
+    /// Removes and returns the newest of the threads whose workers were not woken yet.
     pub(crate) fn take_newest(&mut self) -> Option<PostedThread>
         ensures newest { MatchOption result ((self.old.posts.items ≡ []) × (self.new.posts.items ≡ [])) (λ newest. self.old.posts.items ≡ self.new.posts.items ++ newest ∷ []) }
         ensures others { self.new ≡ record self.old { posts = self.new.posts } }
@@ -175,6 +182,7 @@ impl RunQueue {
         }
     }
 
+    /// Returns how many of the `left` steps may be made until delayed wakes are due: at least 1, so that some are made.
     #[inline(always)]
     pub(crate) fn stretch(&self, left: u32) -> u32
         ensures { result ≡ min left (max 1 self.now.patience) }
@@ -182,7 +190,7 @@ impl RunQueue {
         left.min(self.patience.max(1))
     }
 
-    /// Returns true if `steps` more steps make all delayed wakes due.
+    /// Returns true if `steps` more steps make all delayed wakes due. Later ones may then be delayed as long again.
     pub(crate) fn spend(&mut self, steps: u32) -> bool
         ensures due { IsTrue result ↔ self.old.patience ≤ steps }
         ensures left { self.new ≡ record self.old { patience = if result then PATIENCE else self.old.patience - steps } }
@@ -197,6 +205,7 @@ impl RunQueue {
     }
 }
 
+/// Appends `post`, and removes and returns the oldest of `posts`, so that the list needs no more memory.
 fn for_oldest(posts: &mut Vec<PostedThread>, post: PostedThread) -> PostedThread
     ensures all { result ∷ posts.new.items ≡ posts.old.items ++ post ∷ [] }
     ensures many { length posts.new.items ≡ length posts.old.items }

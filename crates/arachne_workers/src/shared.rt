@@ -16,6 +16,7 @@ use std::time::Duration;
 /// counts of ended slices, and the parkers by which the kernel threads of closed cores sleep.
 #[derive(Drop)]
 pub struct SharedWords {
+    /// 1 if all workers must stop, which is never taken back, and otherwise 0.
     stop: AtomicU64,
     pub(crate) hints: Hints,
     slices: SliceCounts,
@@ -112,7 +113,7 @@ impl SharedWords {
     }
 
     /// Sleeps until a thread of `core` may be ready, `stop` is called or `spell` is over. Only that core's worker may
-    /// call this.
+    /// call this. The wait ends at once if the core's word is no longer `SLEEPS`, as after a hint.
     pub(crate) fn sleep<H: Wait>(&self, rt: &H, core: u8, spell: Duration) {
         // The stop word is read last: a thread that sets it later sees that this worker sleeps, and wakes it.
         if !self.hints.is_about_to_sleep(core) || self.is_stopped() {

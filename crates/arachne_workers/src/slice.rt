@@ -1,4 +1,5 @@
-//! Runs a thread that the worker has taken, slice after slice, until the worker puts the thread back or ends it.
+//! Runs a thread that the worker has taken, slice after slice, until the worker puts the thread back or ends it. The
+//! worker's `queue.lag` counts the steps since the worker last read the stop word, and since it last looked for orders.
 ghost use Rattle.std.specs.Prelude.{◌≡◌, ◌≤◌, ◌<◌, ◌+◌, true, min, IfOk, IsTrue};
 ghost use Rattle.arachne_workers.specs.RunQueues.{HasLooked, LooksWithin};
 
@@ -55,7 +56,8 @@ impl<'a, H: Wait + Clock, D: Dispatch> CoreWorker<'a, H, D> {
 
     /// Returns true if the current thread gets another slice at once.
     ///
-    /// None does after `stop`. A thread that `holds` a lock goes on while it has some `grace` (extra steps) left.
+    /// None does after `stop`. A thread that `holds` a lock goes on while it has some `grace` (extra steps) left. Any
+    /// other goes on only if no thread here (`others`) and no waiting child (`takes_ticket`) seems to need the core.
     fn goes_on(&mut self, holds: bool, grace: u32) -> bool
         ensures dispatch { self.new.dispatch ≡ self.old.dispatch }
         ensures same { (self.new.queue ≡ record self.old.queue { lag = self.new.queue.lag }) × (self.new.slices ≡ self.old.slices) }
@@ -94,6 +96,9 @@ impl<'a, H: Wait + Clock, D: Dispatch> CoreWorker<'a, H, D> {
 
     /// Runs at most `most` steps of the current thread, and makes the delayed wakes of other workers when they are due.
     /// Returns the number of steps made, and how the slice ends.
+    ///
+    /// Each call of `advance` gets the steps until wakes are due (`stretch`). A thread that releases a lock gets few
+    /// more steps if this worker runs the lock's next holder next, since others may wait for the lock.
     fn spend(&mut self, most: u32) -> Result<(u32, SliceEnd), Halt>
         requires looked { HasLooked self.old.queue }
         requires most { most ≤ self.old.queue.lag.most }
@@ -110,9 +115,9 @@ impl<'a, H: Wait + Clock, D: Dispatch> CoreWorker<'a, H, D> {
                 break;
             }
             let stretch = self.queue.stretch(left);
-            let mut rest = stretch;
-            let stop = self.dispatch.advance(&mut self.backoff, &mut rest)?;
-            let steps = stretch - rest;
+            let mut unused = stretch;
+            let stop = self.dispatch.advance(&mut self.backoff, &mut unused)?;
+            let steps = stretch - unused;
             left -= steps;
             made += steps;
             self.queue.lag.add(steps);

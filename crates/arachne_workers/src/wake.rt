@@ -20,7 +20,7 @@ impl<'a, H: Wait + Clock, D: Dispatch> CoreWorker<'a, H, D> {
     ///
     /// If the thread was granted a lock, this worker may run it next, even in a slot of another core, since other
     /// threads may wait for the lock. Moves any other thread to this core if the worker of the thread's core sleeps,
-    /// since to move a thread is cheaper than to wake a kernel thread.
+    /// since to move a thread is cheaper than to wake a kernel thread. A context without a mark has no slot to note.
     pub(crate) fn wake(&mut self, id: ThreadId, cause: Cause)
         ensures dispatch { self.new.dispatch ≡ self.old.dispatch }
         ensures others { (self.new.queue ≡ record self.old.queue { ready = self.new.queue.ready; next = self.new.queue.next }) × (self.new.slices ≡ self.old.slices) }
@@ -36,7 +36,7 @@ impl<'a, H: Wait + Clock, D: Dispatch> CoreWorker<'a, H, D> {
         let is_served = cause == Cause::IsServed;
         let mut place = mark.place();
         let is_elsewhere = place.core != self.core;
-        if is_served && (self.helps || !is_elsewhere) && self.queue.goes_next(place) {
+        if is_served && (self.helps || !is_elsewhere) && self.queue.try_set_next(place) {
             if is_elsewhere {
                 self.dispatch.told(WorkerEvent::Helps(id, place.core));
             }
@@ -61,7 +61,7 @@ impl<'a, H: Wait + Clock, D: Dispatch> CoreWorker<'a, H, D> {
         }
     }
 
-    /// Wakes the thread `id`, and returns true if it was blocked.
+    /// Wakes the thread `id`, and returns true if it was blocked. Repeats an attempt that a concurrent call made fail.
     fn try_wake(&mut self, id: ThreadId) -> bool
         ensures dispatch { self.new.dispatch ≡ self.old.dispatch }
         ensures same { (self.new.queue ≡ self.old.queue) × (self.new.slices ≡ self.old.slices) }
@@ -74,7 +74,8 @@ impl<'a, H: Wait + Clock, D: Dispatch> CoreWorker<'a, H, D> {
         unreachable!()
     }
 
-    /// Returns the thread's slot after an attempt to move it from slot `from` of another core to this one.
+    /// Returns the thread's slot after an attempt to move it from slot `from` of another core to this one. The slot is
+    /// read after the move, since another worker may have moved the thread again.
     #[inline(always)]
     fn pull(&mut self, id: ThreadId, from: Place) -> Place
         ensures dispatch { self.new.dispatch ≡ self.old.dispatch }
@@ -158,6 +159,7 @@ pub(crate) fn posted(queue: &mut RunQueue, shared: &SharedWords, core: u8, post:
     }
 }
 
+/// Makes all delayed wakes, of which there are at most `MOST_KEPT_BACK`.
 pub(crate) fn tell_all(queue: &mut RunQueue, shared: &SharedWords)
     ensures others { queue.new ≡ record queue.old { posts = queue.new.posts } }
     ensures all { length queue.old.posts.items ≤ MOST_KEPT_BACK → queue.new.posts.items ≡ [] }

@@ -1,4 +1,5 @@
-//! The worker's loop: runs ready threads, opens and closes cores, waits and parks.
+//! The worker's loop: runs ready threads, opens and closes cores, waits and parks. Before each slice, it reads the stop
+//! word and carries out due orders by `queue.lag`, which counts the steps between two such looks.
 ghost use Rattle.std.specs.Prelude.{◌≡◌, IsOk};
 ghost use Rattle.arachne_workers.specs.RunQueues.{LooksWithin};
 
@@ -19,13 +20,14 @@ pub struct CoreWorker<'a, H, D> {
     pub rt: &'a H,
     pub shared: &'a SharedWords,
     pub core: u8,
+    /// The number of thread slots of the core.
     pub slots: u8,
     /// True if the worker is allowed to run a thread that was granted a lock and stays in a slot of another core.
     pub helps: bool,
     pub queue: RunQueue,
     /// The number of slices that this worker has begun.
     pub slices: u64,
-    /// Decides if the worker may yield its processor while it waits, by how long earlier yields took.
+    /// Decides if the worker may yield while it waits: after a yield that took long, not until it has found work often.
     pub backoff: Backoff,
     pub dispatch: D,
 }
@@ -55,6 +57,9 @@ impl<'a, H: Wait + Clock, D: Dispatch> CoreWorker<'a, H, D> {
     /// Makes one pass of the loop: runs each thread in the slots recorded as maybe ready, then gives a slot to a child
     /// that waits for one. Returns true if there was anything to do. `idle` is the number of passes in a row before
     /// this one that have found nothing.
+    ///
+    /// Kept slots are first freed if they aren't needed. In some rounds the scan visits all occupied slots, and in some
+    /// that find nothing (`looks`), `scan_all` does so, since a ready thread may be in a slot that is not recorded.
     pub fn round(&mut self, idle: u32) -> Result<bool, Halt>
         ensures dispatch { self.new.dispatch ≡ self.old.dispatch }
         ensures heeds { LooksWithin (D.largest_quantum self.old.dispatch) self.old.queue self.new.queue }
@@ -66,7 +71,7 @@ impl<'a, H: Wait + Clock, D: Dispatch> CoreWorker<'a, H, D> {
         let overslept = sleeps && self.shared.hints().is_asleep(self.core);
         thin_out(&mut self.dispatch, self.slots)?;
         let mut indexes = self.shared.hints().take(self.core);
-        if self.queue.is_look_due() {
+        if self.queue.take_look_due() {
             indexes |= self.dispatch.look().mask();
         }
         self.queue.begin_scan(indexes);
@@ -101,8 +106,8 @@ impl<'a, H: Wait + Clock, D: Dispatch> CoreWorker<'a, H, D> {
     }
 
     /// Runs each ready thread of the core, including those in slots not recorded as ready. If there is none, frees the
-    /// slots claimed for later threads, makes all delayed wakes, and parks if the core is closed and empty. Returns
-    /// true if a thread was ready, or the worker was parked.
+    /// slots claimed for later threads, makes all delayed wakes, and parks if the core is closed and empty and no order
+    /// or thread waits for this worker. Returns true if a thread was ready, or the worker was parked.
     fn scan_all(&mut self) -> Result<bool, Halt>
         ensures dispatch { self.new.dispatch ≡ self.old.dispatch }
         ensures ended { IsOk result → self.new.queue.scan ≡ 0 }
@@ -126,9 +131,8 @@ impl<'a, H: Wait + Clock, D: Dispatch> CoreWorker<'a, H, D> {
         Ok(true)
     }
 
-    /// Runs each ready thread in the slots of the current scan, and after it those that `Self::next` finds.
-    ///
-    /// Returns true if it has run any.
+    /// Runs each ready thread in the slots of the current scan, and after it those that `Self::next` finds, at most
+    /// `MOST_IN_TURN` in all. `waits` is true if the last thread has blocked. Returns true if it has run any.
     fn run_each(&mut self) -> Result<bool, Halt>
         ensures dispatch { self.new.dispatch ≡ self.old.dispatch }
         ensures ended { IsOk result → self.new.queue.scan ≡ 0 }
@@ -199,6 +203,7 @@ impl<'a, H: Wait + Clock, D: Dispatch> CoreWorker<'a, H, D> {
         }
     }
 
+    /// Carries out due orders. Wakes all workers if there were any, and those to whose cores it has moved threads.
     fn apply_orders(&mut self)
         ensures dispatch { self.new.dispatch ≡ self.old.dispatch }
         ensures same { (self.new.queue ≡ record self.old.queue { lag = self.new.queue.lag }) × (self.new.slices ≡ self.old.slices) }
