@@ -1,7 +1,7 @@
 //! A worker's access to the table, by which it takes, runs and puts back threads, and claims slots in advance. The
 //! worker has two seats (rights to use the table). Between two calls, one seat holds only the thread that the worker
 //! runs, and the other only the slots that the worker keeps claimed for threads that are forked later.
-ghost use Rattle.std.specs.Prelude.{◌≡◌, ◌≢◌, ◌↔◌, ◌<◌, ◌≤◌, false, true, IfOk, IsSome, IsTrue, MatchOption, None, is_some};
+ghost use Rattle.std.specs.Prelude.{◌≡◌, ◌≢◌, ◌↔◌, ◌<◌, ◌≤◌, false, true, IfOk, IsSome, IsTrue, MatchOption, None};
 ghost use Rattle.arachne_run.specs.Tokens.{AreIdle, IsSetUp, ground_of};
 
 use crate::access::Access;
@@ -73,15 +73,6 @@ impl<'a, H, T: RunJob, C: Contexts<T>, R, G> Model for RunSeat<'a, H, T, C, R, G
         × (s.is_broken ≡ false → C.has s.machine.now.table s.seat (in_hand T.tag_of s.held))
         × (s.is_broken ≡ false → C.has s.machine.now.table s.spare (map a_claim (reverse s.kept.items)))
         × IsPassOf s.machine.now.tickets s.pass × IsArbiterOf s.machine.now s.arbiter × (s.access.resources ≡ s.machine.now.resources) };
-}
-
-impl<T, H> InHand<T, H> {
-    #[inline(always)]
-    fn taken(held: Held<T, H>) -> InHand<T, H>
-        ensures { result ≡ record { held = held; grant = None } }
-    {
-        InHand { held, grant: None }
-    }
 }
 
 impl<'a, H: Wait, T: RunJob, C: Contexts<T>, R: Rng + Drop, G: Gate> RunSeat<'a, H, T, C, R, G> {
@@ -186,7 +177,7 @@ impl<'a, H: Wait + Clock, T: RunJob, C: Contexts<T>, R: Rng + Drop, G: Gate> Dis
         match table.take(self.rt, &mut self.seat, core, index) {
             Taken::Run(held) => {
                 self.gate.turn(self.core, held.id(), held.value.name());
-                self.held = Some(InHand::taken(held));
+                self.held = Some(InHand { held, grant: None });
                 Grip::Taken
             }
             Taken::NotReady(_) => Grip::None,
@@ -229,7 +220,10 @@ impl<'a, H: Wait + Clock, T: RunJob, C: Contexts<T>, R: Rng + Drop, G: Gate> Dis
 
     #[inline(always)]
     fn holds(&self) -> bool {
-        has_lock(&self.held)
+        match &self.held {
+            Some(thread) => thread.grant.is_some(),
+            None => false,
+        }
     }
 
     #[inline(always)]
@@ -431,12 +425,3 @@ fn of_ticket(posted: Option<PostedThread>) -> TicketResult
 }
 
 /// Returns true if there is a current thread, and evidence that it holds a lock.
-#[inline(always)]
-fn has_lock<T, H>(in_hand: &Option<InHand<T, H>>) -> bool
-    ensures { MatchOption in_hand.now (result ≡ false) (λ thread. result ≡ is_some thread.grant) }
-{
-    match in_hand {
-        Some(thread) => thread.grant.is_some(),
-        None => false,
-    }
-}
