@@ -423,5 +423,3 @@ fn of_ticket(posted: Option<PostedThread>) -> TicketResult
         None => TicketResult::Gone,
     }
 }
-
-/// Returns true if there is a current thread, and evidence that it holds a lock.
