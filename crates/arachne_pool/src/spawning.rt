@@ -171,7 +171,7 @@ impl<C: Seats> Pool<C> {
     }
 }
 
-impl<S, J: PoolJob> Worker<S, J> {
+impl<S: Drop, J: PoolJob> Worker<S, J> {
     /// Gives the seat (the right to use the table) back to the worker, and returns the job with the reason.
     fn refuse(&mut self, seat: S, job: J, why: Refusal) -> Refused<J>
         ensures seat { self.new ≡ record self.old { seat = Some seat } }
