@@ -27,7 +27,7 @@ pub struct Left<J: PoolJob> {
 }
 
 impl<J: PoolJob> Left<J> {
-    /// Returns true if there are no unfinished jobs.
+    /// Returns true if no job is left in a slot or the queue.
     pub fn is_empty(&self) -> bool
         ensures { IsTrue result → count_of self.now ≡ 0 }
     {

@@ -27,7 +27,8 @@ use thiserror::Error;
 /// The reason why a call with a worker has failed.
 #[derive(Clone, Copy, Debug, PartialEq, Eq, Error)]
 pub enum PoolFault {
-    /// Memory was refused. No job is lost, and the worker can be used again.
+    /// Memory was refused. No job is lost, except by `Unfinished::Lost`. A worker whose call returns this can be used
+    /// again.
     #[error("out of memory")]
     Memory,
     /// The table has rejected a slot or a job that it had given to the worker. The worker can't use the table any more.

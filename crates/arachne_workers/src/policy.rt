@@ -17,7 +17,7 @@ pub(crate) const MOST_ALONE: u32 = 64;
 /// The number of scans of the slots recorded as ready after which a worker scans all occupied slots.
 pub(crate) const SCANS_BETWEEN_LOOKS: u32 = 64;
 
-/// The most steps that a thread makes in a slice after it has released a lock whose next holder runs next on this core.
+/// The most steps that a thread makes in a slice after it has released a lock, if a lock's next holder runs next here.
 pub(crate) const STEPS_PAST_FREE: u32 = 50;
 
 /// The most steps that a thread gets in a row, after its first slice, because it holds a lock (the thread's *grace*).
@@ -86,7 +86,7 @@ pub(crate) fn may_go_on(now: OccWord, holds: bool, others: bool, takes_ticket: b
 
 /// Returns how many of the `left` steps of its slice a thread may still make after it has released a lock.
 ///
-/// At most `STEPS_PAST_FREE` if the lock's next holder runs next on this core (`runs_next`).
+/// At most `STEPS_PAST_FREE` if a lock's next holder runs next on this core (`runs_next`).
 pub(crate) fn left_past_free(left: u32, runs_next: bool) -> u32
     ensures { result ≡ (if runs_next then min left STEPS_PAST_FREE else left) }
 {

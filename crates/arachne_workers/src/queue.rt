@@ -128,6 +128,7 @@ impl RunQueue {
         true
     }
 
+    /// Returns true if this worker runs the next holder of a lock next.
     pub(crate) fn has_next(&self) -> bool
         ensures { IsTrue result ↔ IsSome self.now.next }
     {

@@ -98,7 +98,7 @@ impl<'a, H: Wait + Clock, D: Dispatch> CoreWorker<'a, H, D> {
     /// Returns the number of steps made, and how the slice ends.
     ///
     /// Each call of `advance` gets the steps until wakes are due (`stretch`). A thread that releases a lock gets few
-    /// more steps if this worker runs the lock's next holder next, since others may wait for the lock.
+    /// more steps if this worker runs a lock's next holder next, since others may wait for that lock.
     fn spend(&mut self, most: u32) -> Result<(u32, SliceEnd), Halt>
         requires looked { HasLooked self.old.queue }
         requires most { most ≤ self.old.queue.lag.most }

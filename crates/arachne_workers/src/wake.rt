@@ -98,7 +98,8 @@ impl<'a, H: Wait + Clock, D: Dispatch> CoreWorker<'a, H, D> {
     ///
     /// A thread that was granted a lock comes first. Without one, and if the last thread has blocked (`waits`) and no
     /// other may be ready here, moves here the newest thread that this worker has put on another core without waking
-    /// that core's worker. If it can't be moved, wakes that worker, and tries the next newest.
+    /// that core's worker. If it can't be moved, wakes that worker, and tries the next newest. One that another worker
+    /// has moved here meanwhile is left to the next scan.
     pub(crate) fn next(&mut self, waits: bool) -> Option<Place>
         ensures dispatch { self.new.dispatch ≡ self.old.dispatch }
         ensures next { IsSome self.old.queue.next → HasGivenNext result self.old.queue self.new.queue }
