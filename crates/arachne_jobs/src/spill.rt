@@ -28,8 +28,9 @@ use std::sync::Wait;
 /// The greatest number of items in a queue.
 pub const CAPACITY: usize = 256;
 
-/// The tags of the items that were pushed, and of those that were popped, with a pass (a right to use the queue). Exists
-/// only in contracts.
+/// The tags of the items that were pushed, and of those that were popped, with a pass (a right to use the queue).
+///
+/// Exists only in contracts.
 pub struct Known {
     pub pushed: LinkedList<u64>,
     pub popped: LinkedList<u64>,
