@@ -61,13 +61,14 @@ impl<'p> Job<'p> {
     {
         let wanted = Wanted::of(&thread, parent);
         let mut parts = spares.boxes.take(alloc)?;
-        let mut ties = spares.ties.take(alloc, parent)?;
+        let mut ends = spares.ends.take(alloc)?;
         let contents = spares.threads.take_contents()?;
         let (receiver, sender) = spares.cells.open(alloc, &wanted)?;
-        ties.ends.push_reserved(End::Leaves(sender));
+        ends.push_reserved(End::Leaves(sender));
         *parts = Some(Parts {
             thread,
-            ties,
+            ends,
+            parent,
             contents,
             waits: Vec::new(alloc),
         });
@@ -213,8 +214,8 @@ impl<'p> RunJob for Job<'p> {
         Ok(job)
     }
 
-    /// A waiting child gets two entries: `End::Waits` in `ties`, which keeps the order of the forks, and its cell in
-    /// `waits`, since `ties`, which a job of any program may reuse, can't own a thread.
+    /// A waiting child gets two entries: `End::Waits` in `ends`, which keeps the order of the forks, and its cell in
+    /// `waits`.
     fn put_aside(
         &mut self,
         alloc: Global,
@@ -241,14 +242,14 @@ impl<'p> RunJob for Job<'p> {
             return Ok(None);
         }
         // Memory is reserved first, because the child can't be taken back when its ticket is in the queue.
-        if reserve_both(&mut parts.ties.ends, &mut parts.waits).is_err() {
+        if reserve_both(&mut parts.ends, &mut parts.waits).is_err() {
             parts.run_inside(child)?;
             return Ok(None);
         }
         match WaitCell::wait(alloc, child, me) {
             Ok((cell, ticket)) => {
                 parts.waits.push_reserved(WaitEnd { cell, end: None });
-                parts.ties.ends.push_reserved(End::Waits);
+                parts.ends.push_reserved(End::Waits);
                 parts.thread.forked();
                 Ok(Some(ticket))
             }
@@ -267,26 +268,26 @@ impl<'p> RunJob for Job<'p> {
     {
         let mut parts = spares.boxes.take(alloc).ok()?;
         let mut waits = Vec::with_capacity(alloc, 1).ok()?;
-        let mut ties = spares.ties.take(alloc, None).ok()?;
+        let mut ends = spares.ends.take(alloc).ok()?;
         let contents = spares.threads.take_contents().ok()?;
         // The child is taken out of its cell last, so that it still waits for its parent if memory was refused before.
         let Some((waiting, cell, end)) = ticket.take() else {
             spares.boxes.keep(parts);
-            spares.ties.keep(ties);
+            spares.ends.keep(ends);
             spares.threads.keep_contents(contents);
             return None;
         };
         let Waiting { mut thread, parent } = waiting;
         thread.set_spilled();
-        ties.ends.push_reserved(End::Waits);
+        ends.push_reserved(End::Waits);
         waits.push_reserved(WaitEnd {
             cell,
             end: Some(end),
         });
-        ties.parent = Some(parent);
         *parts = Some(Parts {
             thread,
-            ties,
+            ends,
+            parent: Some(parent),
             contents,
             waits,
         });
@@ -303,14 +304,15 @@ impl<'p> RunJob for Job<'p> {
         spares.boxes.keep(parts);
         let Parts {
             thread,
-            mut ties,
+            mut ends,
+            parent,
             contents,
             mut waits,
         } = left;
         if thread.pending() != Some(Pending::Ended) {
             return Err(JobFault::Foreign);
         }
-        let Some(end) = ties.ends.pop() else {
+        let Some(end) = ends.pop() else {
             return Err(JobFault::Foreign);
         };
         let outcome = thread.finish_into(contents, &mut spares.threads);
@@ -328,8 +330,7 @@ impl<'p> RunJob for Job<'p> {
             }
             End::Awaits(_) => return Err(JobFault::Foreign),
         }
-        let parent = ties.parent;
-        spares.ties.keep(ties);
+        spares.ends.keep(ends);
         Ok(parent)
     }
 }
