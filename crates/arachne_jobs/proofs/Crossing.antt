@@ -14,8 +14,9 @@ use Rattle.arachne_jobs.specs.contracts.left.LeftInCell as left
 use Rattle.arachne_jobs.specs.contracts.left.Waiting as waiting
 use Rattle.arachne_jobs.specs.contracts.parts.Parts as parts
 use Rattle.arachne_jobs.specs.contracts.parts.SpareBoxes as spare_boxes
-use Rattle.arachne_jobs.specs.contracts.spare_ends.SpareEnds as spare_ends
 use Rattle.arachne_jobs.specs.contracts.spares.JobSpares as spares
+use Rattle.arachne_jobs.specs.contracts.ties.SpareTies as spare_ties
+use Rattle.arachne_jobs.specs.contracts.ties.Ties as ties
 use Rattle.arachne_jobs.specs.contracts.waiting.Ticket as ticket
 use Rattle.arachne_jobs.specs.contracts.waiting.WaitCell as wait_cell
 use Rattle.arachne_jobs.specs.contracts.wanted.Wanted as wanted
@@ -48,8 +49,11 @@ wait_end_send κ = search (sendable, std.crosses, wait_cell_field_send, sending_
 end_send : IsSend an_end.the_row
 end_send = search (sendable, std.crosses, sender_send, receiver_send, detached_send, wanted_send, wanted_sync) depth 40
 
+ties_send : IsSend ties.the_row
+ties_send = search (sendable, std.crosses, end_send, id.the_field_send) depth 30
+
 parts_send : (κ : NamedLft) → IsSend (parts.the_row κ)
-parts_send κ = search (sendable, std.crosses, thread_field_send, end_send, id.the_field_send, contents_send, wait_end_send) depth 40
+parts_send κ = search (sendable, std.crosses, thread_field_send, ties_send, contents_send, wait_end_send) depth 30
 
 pub job_send : (κ : NamedLft) → IsSend (job.the_row κ)
 job_send κ = search (sendable, std.crosses, parts_send) depth 30
@@ -57,8 +61,8 @@ job_send κ = search (sendable, std.crosses, parts_send) depth 30
 spare_boxes_send : (κ : NamedLft) → IsSend (spare_boxes.the_field κ).row
 spare_boxes_send κ = search (sendable, std.crosses, parts_send) depth 30
 
-spare_ends_send : IsSend spare_ends.the_field.row
-spare_ends_send = search (sendable, std.crosses, end_send) depth 30
+spare_ties_send : IsSend spare_ties.the_field.row
+spare_ties_send = search (sendable, std.crosses, ties_send) depth 30
 
 pub spares_send : (κ : NamedLft) → IsSend (spares.the_row κ)
-spares_send κ = search (sendable, std.crosses, spares_field_send, spare_ends_send, spare_boxes_send, unused_send, detached_send) depth 30
+spares_send κ = search (sendable, std.crosses, spares_field_send, spare_ties_send, spare_boxes_send, unused_send, detached_send) depth 30

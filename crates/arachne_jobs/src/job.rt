@@ -61,14 +61,13 @@ impl<'p> Job<'p> {
     {
         let wanted = Wanted::of(&thread, parent);
         let mut parts = spares.boxes.take(alloc)?;
-        let mut ends = spares.ends.take(alloc)?;
+        let mut ties = spares.ties.take(alloc, parent)?;
         let contents = spares.threads.take_contents()?;
         let (receiver, sender) = spares.cells.open(alloc, &wanted)?;
-        ends.push_reserved(End::Leaves(sender));
+        ties.ends.push_reserved(End::Leaves(sender));
         *parts = Some(Parts {
             thread,
-            ends,
-            parent,
+            ties,
             contents,
             waits: Vec::new(alloc),
         });
@@ -214,8 +213,8 @@ impl<'p> RunJob for Job<'p> {
         Ok(job)
     }
 
-    /// A waiting child gets two entries: `End::Waits` in `ends`, which keeps the order of the forks, and its cell in
-    /// `waits`.
+    /// A waiting child gets two entries: `End::Waits` in `ties`, which keeps the order of the forks, and its cell in
+    /// `waits`, since `ties`, which a job of any program may reuse, can't own a thread.
     fn put_aside(
         &mut self,
         alloc: Global,
@@ -242,14 +241,14 @@ impl<'p> RunJob for Job<'p> {
             return Ok(None);
         }
         // Memory is reserved first, because the child can't be taken back when its ticket is in the queue.
-        if reserve_both(&mut parts.ends, &mut parts.waits).is_err() {
+        if reserve_both(&mut parts.ties.ends, &mut parts.waits).is_err() {
             parts.run_inside(child)?;
             return Ok(None);
         }
         match WaitCell::wait(alloc, child, me) {
             Ok((cell, ticket)) => {
                 parts.waits.push_reserved(WaitEnd { cell, end: None });
-                parts.ends.push_reserved(End::Waits);
+                parts.ties.ends.push_reserved(End::Waits);
                 parts.thread.forked();
                 Ok(Some(ticket))
             }
@@ -268,26 +267,26 @@ impl<'p> RunJob for Job<'p> {
     {
         let mut parts = spares.boxes.take(alloc).ok()?;
         let mut waits = Vec::with_capacity(alloc, 1).ok()?;
-        let mut ends = spares.ends.take(alloc).ok()?;
+        let mut ties = spares.ties.take(alloc, None).ok()?;
         let contents = spares.threads.take_contents().ok()?;
         // The child is taken out of its cell last, so that it still waits for its parent if memory was refused before.
         let Some((waiting, cell, end)) = ticket.take() else {
             spares.boxes.keep(parts);
-            spares.ends.keep(ends);
+            spares.ties.keep(ties);
             spares.threads.keep_contents(contents);
             return None;
         };
         let Waiting { mut thread, parent } = waiting;
         thread.set_spilled();
-        ends.push_reserved(End::Waits);
+        ties.ends.push_reserved(End::Waits);
         waits.push_reserved(WaitEnd {
             cell,
             end: Some(end),
         });
+        ties.parent = Some(parent);
         *parts = Some(Parts {
             thread,
-            ends,
-            parent: Some(parent),
+            ties,
             contents,
             waits,
         });
@@ -304,15 +303,14 @@ impl<'p> RunJob for Job<'p> {
         spares.boxes.keep(parts);
         let Parts {
             thread,
-            mut ends,
-            parent,
+            mut ties,
             contents,
             mut waits,
         } = left;
         if thread.pending() != Some(Pending::Ended) {
             return Err(JobFault::Foreign);
         }
-        let Some(end) = ends.pop() else {
+        let Some(end) = ties.ends.pop() else {
             return Err(JobFault::Foreign);
         };
         let outcome = thread.finish_into(contents, &mut spares.threads);
@@ -330,7 +328,8 @@ impl<'p> RunJob for Job<'p> {
             }
             End::Awaits(_) => return Err(JobFault::Foreign),
         }
-        spares.ends.keep(ends);
+        let parent = ties.parent;
+        spares.ties.keep(ties);
         Ok(parent)
     }
 }

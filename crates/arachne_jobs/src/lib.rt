@@ -15,9 +15,9 @@ mod openings;
 mod parts;
 mod room;
 mod slice;
-mod spare_ends;
 mod spares;
 mod spill;
+mod ties;
 mod waiting;
 mod wanted;
 

@@ -15,8 +15,8 @@ use crate::openings::{ForkPlacing, Openings};
 use crate::room::Room;
 use crate::slice::Slice;
 use crate::spares::JobSpares;
+use crate::ties::Ties;
 use crate::wanted::OutcomeReceiver;
-use arachne_core::ThreadId;
 use arachne_machine::{Contents, Pause, Thread};
 use std::alloc::{AllocError, Global};
 use std::marker::Model;
@@ -28,13 +28,12 @@ use std::marker::Model;
 #[derive(Drop)]
 pub struct Parts<'p> {
     pub(crate) thread: Thread<'p>,
-    /// The job's ends of join cells, the newest last.
-    pub(crate) ends: Vec<End>,
-    pub(crate) parent: Option<ThreadId>,
+    /// The type `Ties` has no lifetime parameter, so that any later job can reuse the box.
+    pub(crate) ties: Box<Ties>,
     /// The box for the thread's outcome, allocated in advance, so that the end of the thread needs no memory.
     pub(crate) contents: Box<Contents>,
     /// The join cells of threads that were queued for a slot (children, or this job), one for each `End::Waits` in
-    /// `ends`, in the same order.
+    /// `ties`, in the same order.
     pub(crate) waits: Vec<WaitEnd<'p>>,
 }
 
@@ -50,9 +49,9 @@ impl<'p> Model for Parts<'p> {
 
     ghost coded = { Prim.hlevel (codes, expr.the_row.coded) };
 
-    ghost view = { λ p. record { thread = p.thread; parent = p.parent } };
+    ghost view = { λ p. record { thread = p.thread; parent = p.ties.value.parent } };
 
-    ghost invariant = { λ p. All (IsEnd (program_of p.thread) (name_of p.thread)) p.ends.items
+    ghost invariant = { λ p. All (IsEnd (program_of p.thread) (name_of p.thread)) p.ties.value.ends.items
         × All (IsWaitEnd (program_of p.thread) (name_of p.thread)) p.waits.items };
 }
 
@@ -155,8 +154,8 @@ impl<'p> Parts<'p> {
         requires { IsOf (program_of self.old.thread) receiver.opening.key }
         ensures { self.new ≡ self.old }
     {
-        self.ends.try_reserve(1)?;
-        self.ends.push_reserved(End::Awaits(receiver));
+        self.ties.ends.try_reserve(1)?;
+        self.ties.ends.push_reserved(End::Awaits(receiver));
         Ok(())
     }
 
@@ -190,7 +189,7 @@ impl<'p> Parts<'p> {
         ensures same { self.new ≡ self.old }
         ensures found { IfOk result (IsFoundOf (program_of self.old.thread)) }
     {
-        let Some(end) = self.ends.pop() else {
+        let Some(end) = self.ties.ends.pop() else {
             return Err(JobFault::Foreign);
         };
         match end {
@@ -200,7 +199,7 @@ impl<'p> Parts<'p> {
                     Ok(Found::Outcome(outcome))
                 }
                 Err(receiver) => {
-                    self.ends.push_reserved(End::Awaits(receiver));
+                    self.ties.ends.push_reserved(End::Awaits(receiver));
                     Ok(Found::Nothing)
                 }
             },
@@ -209,7 +208,7 @@ impl<'p> Parts<'p> {
                     Ok(found) => Ok(found),
                     Err(_) => {
                         self.waits.push_reserved(WaitEnd { cell, end: None });
-                        self.ends.push_reserved(End::Waits);
+                        self.ties.ends.push_reserved(End::Waits);
                         Ok(Found::Nothing)
                     }
                 },

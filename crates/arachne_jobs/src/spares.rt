@@ -1,7 +1,7 @@
 //! Memory of ended threads, which a worker keeps for new threads.
 use crate::parts::SpareBoxes;
 use crate::slice::RunSpares;
-use crate::spare_ends::SpareEnds;
+use crate::ties::SpareTies;
 use crate::wanted::Wanted;
 use arachne_join::SpareCells;
 use arachne_machine::{DetachedOutcome, Spares as SpareThreads};
@@ -11,7 +11,7 @@ use std::alloc::Global;
 #[derive(Drop)]
 pub struct JobSpares<'p> {
     pub(crate) threads: SpareThreads<'p>,
-    pub(crate) ends: SpareEnds,
+    pub(crate) ties: SpareTies,
     pub(crate) cells: SpareCells<DetachedOutcome, Wanted>,
     pub(crate) boxes: SpareBoxes<'p>,
 }
@@ -20,8 +20,8 @@ impl<'p> RunSpares for JobSpares<'p> {
     fn none(alloc: Global) -> JobSpares<'p> {
         JobSpares {
             threads: SpareThreads::new(alloc),
-            ends: SpareEnds {
-                lists: Vec::new(alloc),
+            ties: SpareTies {
+                ties: Vec::new(alloc),
             },
             cells: SpareCells::new(alloc),
             boxes: SpareBoxes {
