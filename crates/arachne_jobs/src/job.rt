@@ -214,7 +214,7 @@ impl<'p> RunJob for Job<'p> {
     }
 
     /// A waiting child gets two entries: `End::Waits` in `ties`, which keeps the order of the forks, and its cell in
-    /// `waits`, since `ties`, which a job of any program may reuse, can't own a thread.
+    /// `waits`.
     fn put_aside(
         &mut self,
         alloc: Global,

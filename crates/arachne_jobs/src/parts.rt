@@ -28,7 +28,8 @@ use std::marker::Model;
 #[derive(Drop)]
 pub struct Parts<'p> {
     pub(crate) thread: Thread<'p>,
-    /// The type `Ties` has no lifetime parameter, so that any later job can reuse the box.
+    /// In a box, which later jobs reuse, since `Parts` is moved at a job's begin and end: with five words in place of one
+    /// a thread of a chain takes 36 instructions more of some 2,960.
     pub(crate) ties: Box<Ties>,
     /// The box for the thread's outcome, allocated in advance, so that the end of the thread needs no memory.
     pub(crate) contents: Box<Contents>,
