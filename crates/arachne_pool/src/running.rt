@@ -274,13 +274,17 @@ fn end<C: Contexts<Spawned<J>> + Drop, R: Wait, J: PoolJob>(
     ensures all { IfOk result (λ done. done.tally.ended ≡ done.tally.spawned) }
     ensures handed_back { IfErr result (HandsBackRun as_spawned.now.value) }
 {
-    let share = share.ok_or(Unfinished::<J>::Lost(why))?;
-    if let Some(job) = share.job {
+    let Share {
+        worker,
+        job,
+        handle,
+    } = share.ok_or(Unfinished::<J>::Lost(why))?;
+    if let Some(job) = job {
         return Err(Unfinished::NotSpawned(why, job));
     }
-    let handle = share.handle.ok_or(Unfinished::<J>::Lost(why))?;
-    let tally = share.worker.tally();
-    let Ok(left) = pool.close(rt, alloc, share.worker) else {
+    let handle = handle.ok_or(Unfinished::<J>::Lost(why))?;
+    let tally = worker.tally();
+    let Ok(left) = pool.close(rt, alloc, worker) else {
         return Err(Unfinished::Lost(why));
     };
     match handle.poll() {

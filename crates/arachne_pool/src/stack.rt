@@ -293,8 +293,8 @@ impl<J: PoolJob> Stack<J> {
             return JobStop::Goes;
         };
         self.top.awaited = awaited;
-        self.below
-            .push_reserved(replace(&mut self.top, JobFrame::begin(child)));
+        let frame = replace(&mut self.top, JobFrame::begin(child));
+        self.below.push_reserved(frame);
         JobStop::Goes
     }
 
@@ -308,11 +308,12 @@ impl<J: PoolJob> Stack<J> {
         if self.top.awaited > 0 {
             return JobStop::LetsGo;
         }
-        let Some(frame) = self.below.pop() else {
-            return JobStop::Ends;
-        };
         let Some(output) = self.ended.take() else {
-            unreachable!()
+            return JobStop::Goes;
+        };
+        let Some(frame) = self.below.pop() else {
+            self.ended = Some(output);
+            return JobStop::Ends;
         };
         self.top = frame;
         self.top.job.joined(output);

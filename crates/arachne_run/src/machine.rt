@@ -150,15 +150,27 @@ impl<C: Seats + Drop, K: Tagged + Drop> Machine<C, K> {
         ensures sums { IfOk result (λ closed. IfSome tokens (λ tokens. closed.0.sums.items ≡ map (λ sum. sum % 2 ^ 64) tokens.holdings.share.sums)) }
         ensures back { IsOk result → IsSome tokens × IfSome tokens (AreAllBack C.weight) }
     {
-        let first = self.shared.first_fault.into_inner();
-        let locks = &self.resources.locks;
-        let tokens = all_of(first, tokens, &self.table, &self.tickets, locks)?;
-        let Some(arbiter) = tokens.arbiter else {
+        let Machine {
+            shared,
+            resources,
+            tickets,
+            table,
+            ..
+        } = self;
+        let SharedState { first_fault, .. } = shared;
+        let first = first_fault.into_inner();
+        let Tokens {
+            seat,
+            pass,
+            holdings,
+            arbiter,
+        } = all_of(first, tokens, &table, &tickets, &resources.locks)?;
+        let Some(arbiter) = arbiter else {
             return Err(WorkerFault::Token);
         };
-        empty(rt, &self.tickets, tokens.pass);
-        end_table(rt, alloc, self.table, tokens.seat)?;
-        let remains = self.resources.close(alloc, tokens.holdings)?;
+        empty(rt, &tickets, pass);
+        end_table(rt, alloc, table, seat)?;
+        let remains = resources.close(alloc, holdings)?;
         Ok((remains, arbiter.applied()))
     }
 }

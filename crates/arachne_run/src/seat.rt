@@ -292,10 +292,11 @@ impl<'a, H: Wait + Clock, T: RunJob, C: Contexts<T>, R: Rng + Drop, G: Gate> Dis
         let Some(claim) = self.kept.pop() else {
             return Ok(false);
         };
+        let (rt, machine) = (self.rt, self.machine);
         self.is_broken = true;
-        give_place_back::<H, T, C>(self.rt, self.machine, &mut self.spare, claim)?;
+        give_place_back::<H, T, C>(rt, machine, &mut self.spare, claim)?;
         self.is_broken = false;
-        self.machine.shared.room.place_was_left();
+        machine.shared.room.place_was_left();
         Ok(true)
     }
 

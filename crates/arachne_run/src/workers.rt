@@ -4,6 +4,7 @@ ghost use Rattle.arachne_run.specs.Choosers.{IsLastOf};
 ghost use Rattle.arachne_run.specs.Tokens.{AreIdle, IsSetUp, ground_of};
 ghost use Rattle.arachne_run.specs.declared.fault.WorkerFault.TheVariants.{KernelThread, Token};
 
+use crate::access::Access;
 use crate::fault::WorkerFault;
 use crate::gate::Gate;
 use crate::machine::{Machine, Tokens};
@@ -241,15 +242,26 @@ fn into_tokens<'a, H: Wait, T: RunJob, C: Contexts<T>, R: Rng + Drop, G: Gate>(
     ensures idle { IfOk result (AreIdle C.sits C.idle machine.now) }
     ensures fault { IfErr result (λ failed. failed.fault.value ≡ Token) }
 {
-    if dispatch.is_broken || dispatch.held.is_some() || !dispatch.kept.is_empty() {
-        return Err(machine.shared.fail(dispatch.rt, WorkerFault::Token));
+    let RunSeat {
+        rt,
+        is_broken,
+        seat,
+        held,
+        spare,
+        kept,
+        pass,
+        arbiter,
+        access,
+        ..
+    } = dispatch;
+    let Access { holdings, .. } = access;
+    if is_broken || held.is_some() || !kept.is_empty() {
+        return Err(machine.shared.fail(rt, WorkerFault::Token));
     }
     Ok(Tokens {
-        seat: machine
-            .table
-            .join_seats(dispatch.rt, dispatch.seat, dispatch.spare),
-        pass: dispatch.pass,
-        holdings: dispatch.access.holdings,
-        arbiter: dispatch.arbiter,
+        seat: machine.table.join_seats(rt, seat, spare),
+        pass,
+        holdings,
+        arbiter,
     })
 }
