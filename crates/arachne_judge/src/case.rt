@@ -64,7 +64,8 @@ pub fn judge(alloc: Global, log: &Log, run: Run<'_>) -> Result<Verdict, AllocErr
         case.look(entry);
     }
     case.settle();
-    case.breaks_if(Rule::Waits, case.unwoken.iter().any(|id| id.is_some()));
+    let is_unwoken = case.unwoken.iter().any(|id| id.is_some());
+    case.breaks_if(Rule::Waits, is_unwoken);
     Ok(Verdict {
         counts: case.counts,
         broken: case.broken,
@@ -269,11 +270,8 @@ impl<'r> Case<'r> {
             self.breaks_if(Rule::OwnCore, self.run.has_exclusive || self.untold > most);
         }
         self.breaks_if(Rule::Parks, known.owes_close || known.owes_return);
-        let ends = u64::from(self.is_over);
-        self.breaks_if(
-            Rule::Unparks,
-            known.unparks > known.grants.saturating_add(ends),
-        );
+        let granted = known.grants.saturating_add(u64::from(self.is_over));
+        self.breaks_if(Rule::Unparks, known.unparks > granted);
         (known.owes_move, known.owes_close, known.owes_return) = (false, false, false);
         self.set_core(core, known);
     }
@@ -283,10 +281,8 @@ impl<'r> Case<'r> {
         ensures { self.new.broken ≡ broken_by_turn self.old core id }
     {
         let known = self.core(core);
-        self.breaks_if(
-            Rule::InHand,
-            known.is_in_slice || (self.root.is_none() && core > 0),
-        );
+        let is_first_elsewhere = self.root.is_none() && core > 0;
+        self.breaks_if(Rule::InHand, known.is_in_slice || is_first_elsewhere);
         self.breaks_if(Rule::Alone, known.alone.is_some_and(|other| other != id));
     }
 
