@@ -12,21 +12,14 @@ fn each_growth_is_refused_in_turn(rt: HostRuntime) -> Result<(), Fail> {
     let (executor, mut seat) = Executor::new(rt.alloc(), 1)?;
     executor.spawn(&mut seat, 0, 7);
     let mut hoard = Hoard::take(rt.alloc())?;
-    let Err((executor, seat)) = executor.close(rt.alloc(), seat) else {
-        panic!(rt; "there was memory")
-    };
-    let mut refused = 0usize;
-    for _ in 0..TRIES {
-        if Executor::new(rt.alloc(), 1).is_ok() {
-            break;
-        }
-        refused = refused.wrapping_add(1);
+    let (executor, seat) = executor.close(rt.alloc(), seat).err().ok_or("closed")?;
+    let mut refused = 0;
+    while refused < TRIES && Executor::new(rt.alloc(), 1).is_err() {
+        refused += 1;
         hoard.give_back(BYTES);
     }
     assert!(rt; refused > 0 && refused < TRIES);
-    match executor.close(rt.alloc(), seat) {
-        Ok(left) => assert!(rt; left.len() == 1 && left[0] == 7),
-        Err(_) => panic!(rt; "no memory"),
-    }
+    let left = executor.close(rt.alloc(), seat).ok().ok_or("no memory")?;
+    assert!(rt; left.len() == 1 && left[0] == 7);
     Ok(())
 }

@@ -1,5 +1,6 @@
 //! Tests that jobs that become ready again at once don't make other jobs wait forever.
 ghost use Rattle.std.specs.Prelude.{◌≡◌, ◌*◌, ◌<◌};
+ghost use Rattle.arachne_exec.specs.Calls.{KeepsHand};
 
 use arachne_exec::{ExecSeat, Executor, Next};
 use std::test::Fail;
@@ -7,10 +8,11 @@ use std::test::Fail;
 /// Takes a job of `block`, and makes it ready again at once.
 ///
 /// Returns the bit of the job's slot in the block, or 0 if no job was ready.
-fn take_again(executor: &Executor, seat: &mut ExecSeat, block: usize) -> u64
+pub(super) fn take_again(executor: &Executor, seat: &mut ExecSeat, block: usize) -> u64
     requires own { seat.old.table ≡ executor.now.table }
     requires block { block < 64 * executor.now.shards }
-    ensures { seat.new.table ≡ executor.now.table }
+    ensures own { seat.new.table ≡ executor.now.table }
+    ensures hand { KeepsHand seat.old.known seat.new.known }
 {
     let Some(job) = executor.take(seat, block) else {
         return 0;
