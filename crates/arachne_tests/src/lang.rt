@@ -1,5 +1,6 @@
 //! Tests that read and print texts of programs, and tests of the limits of programs.
 use arachne_lang::{CheckFault, Expr, Operation, Program, TextFault, check, parse, print};
+use arachne_policy::{BadSample, OrderFault, OrderFaultKind};
 use std::alloc::{AllocError, Global};
 
 const TEXTS: &[&[u8]] = &[
@@ -15,6 +16,9 @@ locks 10\n\
 (add (sweep add 1 (num 0) (num 1) (var 0)) (add (sweep mul 2 (num 0) (num 1) (var 0)) (add (sweep xor 3 (num 0) (num 1) (var 0)) (add (sweep min 4 (num 0) (num 1) (var 0)) (sweep max 50 (num 0) (num 1) (var 0))))))))\n",
     b"arachne 1\nledgers 3\nlocks 4\n(xor (num 18446744073709551615) (len 18446744073709551615))\n",
 ];
+
+const WRITTEN: &str =
+    "node 3: a fork, a sweep or a hold within a hold|order 3: core 0 is never released|the sample cannot have been measured";
 
 /// Returns true if `text` is printed as it was read, or the fault if it can't be read or printed.
 fn is_read_and_printed(alloc: Global, text: &[u8]) -> Result<bool, TextFault> {
@@ -72,5 +76,18 @@ fn take_apart(mut expr: Expr) {
 fn nesting_is_judged_before_all_else(rt: HostRuntime) -> Result<(), AllocError> {
     let nested = judged_when_nested(rt.alloc(), 17, 100_000)?;
     assert!(rt; nested == Err(CheckFault::Nesting));
+    Ok(())
+}
+
+/// The texts that the derived `Display` writes.
+#[test]
+fn faults_are_written(rt: HostRuntime) -> Result<(), AllocError> {
+    let (nested, sample) = (CheckFault::WithinHold(3), BadSample);
+    let order = OrderFault {
+        index: 3,
+        kind: OrderFaultKind::ReleasesCoreZero,
+    };
+    let text = format!(in rt.alloc(); "{nested}|{order}|{sample}")?;
+    assert!(rt; text.as_str() == WRITTEN);
     Ok(())
 }

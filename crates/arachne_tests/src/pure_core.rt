@@ -8,6 +8,15 @@ fn claim(context: u32) -> Event {
     Event::Claim { carrier, context }
 }
 
+fn post(tag: u64) -> Event {
+    let (carrier, context) = (0, 0);
+    Event::Post {
+        carrier,
+        context,
+        tag,
+    }
+}
+
 fn take(carrier: u32) -> Event {
     let context = 0;
     Event::Take { carrier, context }
@@ -28,25 +37,15 @@ fn shown(world: &World) -> Option<(u64, u64)> {
 /// A core that is closed must refuse a claim, but the thread that was put there before can be taken, once.
 #[test]
 fn a_world_makes_the_events_that_it_allows(rt: HostRuntime) -> Result<(), AllocError> {
-    let (carrier, context, tag) = (0, 0, 7);
-    let post = Event::Post {
-        carrier,
-        context,
-        tag,
-    };
+    let refused = Err(NotApplied::NotAllowed);
     let mut world = World::new(rt.alloc(), 1, 56, 0)?;
     world.reserve(1, 0)?;
-    let made = [
-        (world.apply(claim(0)), Ok(())),
-        (world.apply(post), Ok(())),
-        (world.apply(Event::CloseCore { core: 0 }), Ok(())),
-        (world.apply(claim(1)), Err(NotApplied::NotAllowed)),
-        (world.apply(take(1)), Ok(())),
-        (world.apply(take(0)), Err(NotApplied::NotAllowed)),
-    ];
-    for (answer, expected) in made {
-        assert!(rt; answer == expected);
-    }
+    assert!(rt; world.apply(claim(0)) == Ok(()));
+    assert!(rt; world.apply(post(7)) == Ok(()));
+    assert!(rt; world.apply(Event::CloseCore { core: 0 }) == Ok(()));
+    assert!(rt; world.apply(claim(1)) == refused);
+    assert!(rt; world.apply(take(1)) == Ok(()));
+    assert!(rt; world.apply(take(0)) == refused);
     assert!(rt; shown(&world) == Some((0x4100_0000_0000_0001, 0x3)));
     Ok(())
 }

@@ -1,5 +1,5 @@
 //! Runs the program and compares its exit status, its output and its error messages with the expected ones.
-use super::fakes::{Script, Tray};
+use super::fakes::{Script, Streams};
 use arachne_commands::drive;
 use std::alloc::{AllocError, Global};
 use std::process::Abort;
@@ -17,10 +17,20 @@ pub(super) struct Told<'a> {
     pub(super) faults: &'a [u8],
 }
 
-pub(super) fn fault(line: &[u8]) -> Told<'_> {
+impl Told<'_> {
+    /// Returns true if a run that ended with this exit status, and has written to these streams, ended as expected.
+    pub(super) fn is_end(self, status: u8, streams: &Streams<'_>) -> bool {
+        status == self.status
+            && streams.output.kept.as_slice() == self.output
+            && shown(status, streams.faults.kept.as_slice()) == self.faults
+    }
+}
+
+/// Returns the end of a run that writes `output`, and then fails with this error message.
+pub(super) fn fault<'a>(output: &'a [u8], line: &'a [u8]) -> Told<'a> {
     Told {
         status: 1,
-        output: b"",
+        output,
         faults: line,
     }
 }
@@ -40,7 +50,7 @@ pub(super) fn told_by(row: &str) -> Told<'_> {
     }
 }
 
-pub(super) fn shown(status: u8, faults: &[u8]) -> &[u8] {
+fn shown(status: u8, faults: &[u8]) -> &[u8] {
     if status == 2 && !faults.starts_with(b"fault") && !b"fault".starts_with(faults) {
         return b"usage";
     }
@@ -52,10 +62,13 @@ pub(super) fn status_of<R: Threads + Wait + Clock + Sync>(
     rt: &R,
     alloc: Global,
     words: &[&str],
-    input: &mut Script<'_>,
-    output: &mut Tray,
-    faults: &mut Tray,
+    streams: &mut Streams<'_>,
 ) -> u8 {
+    let Streams {
+        input,
+        output,
+        faults,
+    } = streams;
     drive(rt, alloc, words, input, output, faults)
 }
 
@@ -67,31 +80,28 @@ pub(super) fn ends<R: Threads + Wait + Clock + Sync>(
     rt: &R,
     alloc: Global,
     words: &str,
-    input: &mut Script<'_>,
-    output: &mut Tray,
-    faults: &mut Tray,
+    streams: &mut Streams<'_>,
     told: Told<'_>,
 ) -> Result<bool, AllocError> {
     let words: Vec<&str> = words.split(' ').collect(alloc)?;
-    let status = status_of(rt, alloc, words.as_slice(), input, output, faults);
+    let status = status_of(rt, alloc, words.as_slice(), streams);
     Ok(
-        status == told.status
-            && output.kept.as_slice() == told.output
-            && shown(status, faults.kept.as_slice()) == told.faults
-            && (status != 0 || output.is_flushed_once())
-            && (status != 2 || input.reads == 0),
+        told.is_end(status, streams)
+            && (status != 0 || streams.output.is_flushed_once())
+            && (status != 2 || streams.input.reads == 0),
     )
 }
 
-pub(super) fn assert_ends<R: Abort + Threads + Wait + Clock + Sync>(
+/// Returns the input as the run leaves it.
+pub(super) fn assert_ends<'a, R: Abort + Threads + Wait + Clock + Sync>(
     rt: &R,
     alloc: Global,
     words: &str,
-    input: &mut Script<'_>,
+    input: Script<'a>,
     told: Told<'_>,
-) -> Result<(), AllocError> {
-    let (mut output, mut faults) = (Tray::new(alloc), Tray::new(alloc));
-    let is_right = ends(rt, alloc, words, input, &mut output, &mut faults, told)?;
+) -> Result<Script<'a>, AllocError> {
+    let mut streams = Streams::of(alloc, input)?;
+    let is_right = ends(rt, alloc, words, &mut streams, told)?;
     assert!(rt; is_right, "{words}");
-    Ok(())
+    Ok(streams.input)
 }

@@ -2,7 +2,7 @@
 ghost use Rattle.std.specs.Prelude.{◌≡◌, Some, false, IsTrue};
 ghost use Rattle.arachne_lang.specs.Program.{source_of};
 ghost use Rattle.arachne_machine.specs.declared.pause.Pending.TheVariants as pause;
-ghost use Rattle.arachne_machine.specs.Nested.{IsChildOf, pending_in};
+ghost use Rattle.arachne_machine.specs.Nested.{IsChildOf, pending_in, whole};
 
 use super::shortage::Memory;
 use arachne_lang::{Class, Program};
@@ -96,121 +96,125 @@ fn make_family<'p>(alloc: Global) -> Option<Family<'p>> {
     })
 }
 
-fn are_same(some: &Program, other: &Program) -> bool
-    ensures { IsTrue result → source_of some.now ≡ source_of other.now }
+/// Returns true if a thread waits to join a child, and is of the same program as the child.
+fn awaits(thread: &Thread, program: &Program) -> bool
+    ensures joins { IsTrue result → pending_in thread.now ≡ Some pause.Joins }
+    ensures same { IsTrue result → source_of program.now ≡ source_of (whole thread.now).program }
 {
-    *some == *other
+    thread.pending() == Some(Pending::Joins) && *program == *thread.program()
 }
 
-/// Puts a child inside its parent's slot, with the next tag (number). Returns true if this succeeds, at the second
-/// attempt if memory is refused.
-fn place<'p>(thread: &mut Thread<'p>, child: Thread<'p>, round: &mut Round) -> bool
+/// Puts a child inside its parent's slot, with the next tag (number). If memory is refused, tries it once more. Returns
+/// `None` if this fails.
+fn place<'p>(thread: &mut Thread<'p>, child: Thread<'p>, round: &mut Round) -> Option<()>
     requires forks { pending_in thread.old ≡ Some pause.Forks }
     requires child { IsChildOf thread.old child }
 {
     let mut child = child;
     child.set_tag(round.next_tag());
-    if round.memory.take_again().is_none() {
-        return false;
-    }
+    round.memory.take_again()?;
     match thread.in_place(child) {
-        Ok(()) => true,
+        Ok(()) => Some(()),
         Err(NotPlaced::Memory(child)) => {
             round.memory.spare_much();
-            thread.in_place(child).is_ok()
+            thread.in_place(child).ok()
         }
-        Err(NotPlaced::Foreign(_)) => false,
+        Err(NotPlaced::Foreign(_)) => None,
     }
 }
 
 /// Runs a thread to its next pause, and puts the child inside its slot if it has forked one.
 ///
-/// Returns false if `round.budget` is 0, if the test has not answered the last pause, or if the child can't be put
+/// Returns `None` if `round.budget` is 0, if the test has not answered the last pause, or if the child can't be put
 /// there.
-fn go_on_in_place(thread: &mut Thread, round: &mut Round) -> bool {
+fn go_on_in_place(thread: &mut Thread, round: &mut Round) -> Option<()> {
     if round.budget == 0 || thread.pending().is_some() {
-        return false;
+        return None;
     }
     let Ok(pause) = thread.advance(round.budget) else {
         round.memory.spare();
-        return true;
+        return Some(());
     };
     round.hear(&pause, thread.running_tag());
     match pause {
         Pause::Forks(_, child) => place(thread, child, round),
-        _ => true,
+        _ => Some(()),
     }
 }
 
 /// Runs a thread to its next pause, and adds the child to `children` if it has forked one.
 ///
-/// Returns false if `round.budget` is 0, if the test has not answered the last pause, or if there is no memory for the
+/// Returns `None` if `round.budget` is 0, if the test has not answered the last pause, or if there is no memory for the
 /// child.
 fn go_on_apart<'p>(
     alloc: Global,
     thread: &mut Thread<'p>,
     children: &mut Vec<Thread<'p>>,
     round: &mut Round,
-) -> bool {
+) -> Option<()> {
     if round.budget == 0 || thread.pending().is_some() {
-        return false;
+        return None;
     }
     let (mut left, mut spares, mut way) = (round.budget, Spares::new(alloc), round.way);
     let Ok(pause) = thread.advance_within(&mut left, &mut spares, &mut way) else {
         round.memory.spare();
-        return true;
+        return Some(());
     };
     round.hear(&pause, thread.running_tag());
     match pause {
-        Pause::Forks(_, child) => children.push(child).is_ok(),
-        _ => true,
+        Pause::Forks(_, child) => children.push(child).ok(),
+        _ => Some(()),
     }
 }
 
-/// Answers a thread's request, such as for a lock, if the request concerns no other thread.
-fn answer(thread: &mut Thread) {
+/// Answers a thread's request, such as for a lock. Returns `None` if it has no request, or one that concerns another
+/// thread.
+fn answer(thread: &mut Thread) -> Option<()> {
     match thread.pending() {
         Some(Pending::Asks(_)) => thread.granted(),
         Some(Pending::Frees(_)) => thread.freed(),
         Some(Pending::Tallies(_, _)) => thread.tallied(),
         Some(Pending::Forks) => thread.forked(),
-        _ => {}
+        _ => return None,
     }
+    Some(())
 }
 
 // If a call fails, a function of its own drops the value, instead of each exit.
 
-fn lose_thread(_thread: Thread) -> bool {
-    false
+fn lose_thread(_thread: Thread) -> Option<()> {
+    None
 }
 
-fn lose_outcome(_outcome: Outcome) -> bool {
-    false
+fn lose_outcome(_outcome: Outcome) -> Option<()> {
+    None
 }
 
-/// Puts the newest child inside the slot of the thread that awaits it, where the child then runs. Returns false if the
+/// Puts the newest child inside the slot of the thread that awaits it, where the child then runs. Returns `None` if the
 /// thread awaits no child, or there is no child that may run there.
 ///
 /// If memory is refused, puts the child back among `children`.
-fn begin<'p>(thread: &mut Thread<'p>, children: &mut Vec<Thread<'p>>, round: &mut Round) -> bool {
-    let (Some(Pending::Joins), Some(child)) = (thread.pending(), children.pop()) else {
-        return false;
-    };
-    if child.pending().is_some() || !are_same(child.program(), thread.program()) {
+fn begin<'p>(
+    thread: &mut Thread<'p>,
+    children: &mut Vec<Thread<'p>>,
+    round: &mut Round,
+) -> Option<()> {
+    let child = children.pop()?;
+    if child.pending().is_some() || !awaits(thread, child.program()) {
         return lose_thread(child);
     }
     match thread.in_place(child) {
-        Ok(()) => true,
+        Ok(()) => Some(()),
         Err(NotPlaced::Memory(child)) => {
             round.memory.spare();
-            children.push(child).is_ok()
+            children.push(child).ok()
         }
         Err(NotPlaced::Foreign(child)) => lose_thread(child),
     }
 }
 
-/// Gives a child's outcome (result) to the thread that awaits it. Returns false if the thread awaits no outcome, or the
-/// outcome is of another program.
+/// Gives a child's outcome (result) to the thread that awaits it. Returns `None` if the thread awaits no outcome, or
+/// the outcome is of another program.
 ///
 /// If memory is refused, puts the outcome back among `outcomes`.
 fn join<'p>(
@@ -218,80 +222,67 @@ fn join<'p>(
     outcome: Outcome<'p>,
     outcomes: &mut Vec<Outcome<'p>>,
     round: &mut Round,
-) -> bool {
-    let Some(Pending::Joins) = thread.pending() else {
-        return lose_outcome(outcome);
-    };
-    if !are_same(outcome.program(), thread.program()) {
+) -> Option<()> {
+    if !awaits(thread, outcome.program()) {
         return lose_outcome(outcome);
     }
     match thread.joined(outcome) {
-        Ok(()) => true,
+        Ok(()) => Some(()),
         Err(NotJoined::Memory(outcome)) => {
             round.memory.spare();
-            outcomes.push(outcome).is_ok()
+            outcomes.push(outcome).ok()
         }
         Err(NotJoined::Foreign(outcome)) => lose_outcome(outcome),
     }
 }
 
-/// Returns false if there is no child or memory is refused.
-fn begin_apart(family: &mut Family) -> bool {
-    match family.children.pop() {
-        Some(child) => family.threads.push(child).is_ok(),
-        None => false,
-    }
+/// Returns `None` if there is no child or memory is refused.
+fn begin_apart(family: &mut Family) -> Option<()> {
+    let child = family.children.pop()?;
+    family.threads.push(child).ok()
 }
 
-/// Returns false if there is no child, or it can't begin.
-fn await_child(family: &mut Family, round: &mut Round) -> bool {
-    if round.way == Way::Alone || round.way == Way::AloneIfExclusive {
-        return begin_apart(family);
-    }
-    let Family {
-        threads,
-        children,
-        ..
-    } = family;
-    match threads.last_mut() {
-        Some(thread) => begin(thread, children, round),
-        None => false,
-    }
-}
-
-/// Returns false if the last thread has not ended, or memory is refused.
-fn end(family: &mut Family) -> bool {
-    let Some(thread) = family.threads.pop() else {
-        return false;
-    };
-    let Some(Pending::Ended) = thread.pending() else {
-        return lose_thread(thread);
-    };
-    family.outcomes.push(thread.finish()).is_ok()
-}
-
-/// Makes one call on the last thread of `family`. Returns false if the call fails, so that the run can't continue.
-fn step(alloc: Global, family: &mut Family, round: &mut Round) -> bool {
+/// Gives the last thread its child's outcome, or begins the child if it has not run. Returns `None` if there is no
+/// child, or it can't begin.
+fn await_child(family: &mut Family, round: &mut Round) -> Option<()> {
     let Family {
         threads,
         children,
         outcomes,
     } = family;
-    let Some(thread) = threads.last_mut() else {
-        return false;
-    };
+    let thread = threads.last_mut()?;
     if let Some(outcome) = outcomes.pop() {
         return join(thread, outcome, outcomes, round);
     }
+    match round.way {
+        Way::AtFork | Way::AtJoin => begin(thread, children, round),
+        Way::Alone | Way::AloneIfExclusive => begin_apart(family),
+    }
+}
+
+/// Returns `None` if the last thread has not ended, or memory is refused.
+fn end(family: &mut Family) -> Option<()> {
+    let thread = family.threads.pop()?;
+    let Some(Pending::Ended) = thread.pending() else {
+        return lose_thread(thread);
+    };
+    family.outcomes.push(thread.finish()).ok()
+}
+
+/// Makes one call on the last thread of `family`. Returns `None` if the call fails, so that the run can't continue.
+fn step(alloc: Global, family: &mut Family, round: &mut Round) -> Option<()> {
+    let Family {
+        threads,
+        children,
+        ..
+    } = family;
+    let thread = threads.last_mut()?;
     match thread.pending() {
         None if round.way == Way::AtFork => go_on_in_place(thread, round),
         None => go_on_apart(alloc, thread, children, round),
         Some(Pending::Joins) => await_child(family, round),
         Some(Pending::Ended) => end(family),
-        _ => {
-            answer(thread);
-            true
-        }
+        _ => answer(thread),
     }
 }
 
@@ -325,9 +316,7 @@ fn run(alloc: Global, family: &mut Family, round: &mut Round) -> Option<OutcomeP
         if family.threads.is_empty() {
             return parts(family.outcomes.pop()?, round);
         }
-        if !step(alloc, family, round) {
-            return None;
-        }
+        step(alloc, family, round)?;
     }
     None
 }
