@@ -72,24 +72,16 @@ impl Adding {
         ensures ok { IfOk result (λ parts. (parts.0 ≡ first_of self) × (parts.1 ≡ second_of self)) }
         ensures err { IfErr result (λ same. same ≡ self) }
     {
-        let Ok(ledgers) = Arc::try_clone(&self.ledgers) else {
+        let Ok(theirs) = Arc::try_clone(&self.ledgers) else {
             return Err(self);
         };
-        let Adding {
-            ledgers: mine,
-            share,
-        } = self;
-        let (first, second) = mine.split(share);
-        Ok((
-            Adding {
-                ledgers: mine,
-                share: first,
-            },
-            Adding {
-                ledgers,
-                share: second,
-            },
-        ))
+        let Adding { ledgers, share } = self;
+        let (share, second) = ledgers.split(share);
+        let other = Adding {
+            ledgers: theirs,
+            share: second,
+        };
+        Ok((Adding { ledgers, share }, other))
     }
 
     pub(crate) fn join(self, other: Adding) -> Adding
@@ -121,8 +113,7 @@ pub(crate) fn cut(mine: &mut Option<Adding>, theirs: &mut Option<Adding>) -> boo
     };
     match adding.split() {
         Ok((first, second)) => {
-            *mine = Some(first);
-            *theirs = Some(second);
+            (*mine, *theirs) = (Some(first), Some(second));
             true
         }
         Err(same) => {

@@ -151,13 +151,10 @@ pub extern "C" fn arachne_exec_register(alloc: Global, exec: &mut ArachneExec, w
     let Some(mut value) = exec.take(alloc) else {
         return REFUSED;
     };
+    let worker = worker as usize;
     let told = match &mut *value {
-        Some(seat) if !seat.is_worker() && worker < WORKERS as u32 => {
-            if seat.register(worker as usize) {
-                DONE
-            } else {
-                LOST
-            }
+        Some(seat) if !seat.is_worker() && worker < WORKERS => {
+            if seat.register(worker) { DONE } else { LOST }
         }
         _ => REFUSED,
     };
@@ -466,15 +463,13 @@ pub extern "C" fn arachne_exec_finish(alloc: Global, exec: &mut ArachneExec) -> 
     let Some(mut value) = exec.take(alloc) else {
         return REFUSED;
     };
-    let told = match &mut *value {
-        Some(seat) => match seat.hand() {
-            Some(place) => {
-                seat.finish(place);
-                DONE
-            }
-            None => REFUSED,
-        },
-        None => REFUSED,
+    let told = if let Some(seat) = &mut *value
+        && let Some(place) = seat.hand()
+    {
+        seat.finish(place);
+        DONE
+    } else {
+        REFUSED
     };
     exec.put(value);
     told

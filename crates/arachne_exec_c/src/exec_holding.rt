@@ -88,16 +88,12 @@ pub(crate) fn join_held(mine: &mut Option<Executing>, theirs: &mut Option<Execut
     if !is_idle_held(theirs) {
         return REFUSED;
     }
-    match (mine.take(), theirs.take()) {
-        (Some(mut exec), Some(spent)) => {
-            exec.join(spent);
-            *mine = Some(exec);
-            DONE
-        }
-        (old, other) => {
-            *mine = old;
-            *theirs = other;
-            REFUSED
-        }
-    }
+    let Some(exec) = mine else {
+        return REFUSED;
+    };
+    let Some(spent) = theirs.take() else {
+        return REFUSED;
+    };
+    exec.join(spent);
+    DONE
 }

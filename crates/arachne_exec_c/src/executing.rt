@@ -296,27 +296,9 @@ impl Executing {
         let Ok(list) = Vec::with_capacity(alloc, places) else {
             return Err((self, NO_MEMORY));
         };
-        let Executing {
-            executor,
-            seat,
-            hand,
-            more,
-            worker,
-            apart,
-        } = self;
-        match Arc::try_unwrap(executor) {
-            Ok(executor) => Ok(executor.close_into(seat, list)),
-            Err(executor) => Err((
-                Executing {
-                    executor,
-                    seat,
-                    hand,
-                    more,
-                    worker,
-                    apart,
-                },
-                REFUSED,
-            )),
+        match Arc::try_unwrap(self.executor) {
+            Ok(executor) => Ok(executor.close_into(self.seat, list)),
+            Err(executor) => Err((Executing { executor, ..self }, REFUSED)),
         }
     }
 

@@ -83,13 +83,11 @@ pub extern "C" fn arachne_ledger_total(
         None => None,
     };
     adder.put(value);
-    match found {
-        Some(number) => {
-            *total = number;
-            true
-        }
-        None => false,
-    }
+    let Some(number) = found else {
+        return false;
+    };
+    *total = number;
+    true
 }
 
 /// Splits the share of `adder` (a thread's right to add), and puts a new share for another thread into `other`.

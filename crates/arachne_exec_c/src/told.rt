@@ -50,18 +50,13 @@ pub(crate) fn told_freed(answer: Attempt<Result<Released, NotOwner>>) -> Arachne
     match answer {
         Attempt::Contended => code_alone(CONTENDED),
         Attempt::Answered(Err(_)) => code_alone(NOT_HOLDER),
-        Attempt::Answered(Ok(Released { next: None, at })) => code_at(FREED, at),
-        Attempt::Answered(
-            Ok(
-                Released {
-                    next: Some(next),
-                    at,
-                },
-            ),
-        ) => ArachneLockTold {
-            at,
-            next,
-            code: HANDED_ON,
+        Attempt::Answered(Ok(Released { next, at })) => match next {
+            None => code_at(FREED, at),
+            Some(next) => ArachneLockTold {
+                at,
+                next,
+                code: HANDED_ON,
+            },
         },
     }
 }
