@@ -1,5 +1,5 @@
 //! Runs the program and compares its exit status, its output and its error messages with the expected ones.
-use super::fakes::{Script, Streams};
+use super::fakes::{Script, Tray};
 use arachne_commands::drive;
 use std::alloc::{AllocError, Global};
 use std::process::Abort;
@@ -17,20 +17,10 @@ pub(super) struct Told<'a> {
     pub(super) faults: &'a [u8],
 }
 
-impl Told<'_> {
-    /// Returns true if a run that ended with this exit status, and has written to these streams, ended as expected.
-    pub(super) fn is_end(self, status: u8, streams: &Streams<'_>) -> bool {
-        status == self.status
-            && streams.output.kept.as_slice() == self.output
-            && shown(status, streams.faults.kept.as_slice()) == self.faults
-    }
-}
-
-/// Returns the end of a run that writes `output`, and then fails with this error message.
-pub(super) fn fault<'a>(output: &'a [u8], line: &'a [u8]) -> Told<'a> {
+pub(super) fn fault(line: &[u8]) -> Told<'_> {
     Told {
         status: 1,
-        output,
+        output: b"",
         faults: line,
     }
 }
@@ -50,7 +40,7 @@ pub(super) fn told_by(row: &str) -> Told<'_> {
     }
 }
 
-fn shown(status: u8, faults: &[u8]) -> &[u8] {
+pub(super) fn shown(status: u8, faults: &[u8]) -> &[u8] {
     if status == 2 && !faults.starts_with(b"fault") && !b"fault".starts_with(faults) {
         return b"usage";
     }
@@ -62,13 +52,10 @@ pub(super) fn status_of<R: Threads + Wait + Clock + Sync>(
     rt: &R,
     alloc: Global,
     words: &[&str],
-    streams: &mut Streams<'_>,
+    input: &mut Script<'_>,
+    output: &mut Tray,
+    faults: &mut Tray,
 ) -> u8 {
-    let Streams {
-        input,
-        output,
-        faults,
-    } = streams;
     drive(rt, alloc, words, input, output, faults)
 }
 
@@ -80,28 +67,31 @@ pub(super) fn ends<R: Threads + Wait + Clock + Sync>(
     rt: &R,
     alloc: Global,
     words: &str,
-    streams: &mut Streams<'_>,
+    input: &mut Script<'_>,
+    output: &mut Tray,
+    faults: &mut Tray,
     told: Told<'_>,
 ) -> Result<bool, AllocError> {
     let words: Vec<&str> = words.split(' ').collect(alloc)?;
-    let status = status_of(rt, alloc, words.as_slice(), streams);
+    let status = status_of(rt, alloc, words.as_slice(), input, output, faults);
     Ok(
-        told.is_end(status, streams)
-            && (status != 0 || streams.output.is_flushed_once())
-            && (status != 2 || streams.input.reads == 0),
+        status == told.status
+            && output.kept.as_slice() == told.output
+            && shown(status, faults.kept.as_slice()) == told.faults
+            && (status != 0 || output.is_flushed_once())
+            && (status != 2 || input.reads == 0),
     )
 }
 
-/// Returns the input as the run leaves it.
-pub(super) fn assert_ends<'a, R: Abort + Threads + Wait + Clock + Sync>(
+pub(super) fn assert_ends<R: Abort + Threads + Wait + Clock + Sync>(
     rt: &R,
     alloc: Global,
     words: &str,
-    input: Script<'a>,
+    input: &mut Script<'_>,
     told: Told<'_>,
-) -> Result<Script<'a>, AllocError> {
-    let mut streams = Streams::of(alloc, input)?;
-    let is_right = ends(rt, alloc, words, &mut streams, told)?;
+) -> Result<(), AllocError> {
+    let (mut output, mut faults) = (Tray::new(alloc), Tray::new(alloc));
+    let is_right = ends(rt, alloc, words, input, &mut output, &mut faults, told)?;
     assert!(rt; is_right, "{words}");
-    Ok(streams.input)
+    Ok(())
 }

@@ -2,9 +2,6 @@
 use std::alloc::{AllocError, Global};
 use std::io::{self, ErrorKind, Read, Write};
 
-/// More bytes than a run writes while memory is used up.
-const ROOM: usize = 2_000;
-
 #[derive(Clone, Copy, Debug)]
 pub(super) struct Failure {
     pub(super) at: u64,
@@ -47,14 +44,6 @@ impl<'a> Script<'a> {
             reads: 0,
         }
     }
-
-    /// Returns a reader that gives at most `step` bytes at a time.
-    pub(super) fn in_steps(bytes: &'a [u8], step: usize) -> Script<'a> {
-        Script {
-            step,
-            ..Script::of(bytes)
-        }
-    }
 }
 
 impl Read for Script<'_> {
@@ -88,17 +77,23 @@ pub(super) struct Tray {
 }
 
 impl Tray {
-    /// Returns a writer that takes all bytes, and has memory for `ROOM` bytes from the start.
-    pub(super) fn new(alloc: Global) -> Result<Tray, AllocError> {
-        Ok(Tray {
-            kept: Vec::with_capacity(alloc, ROOM)?,
+    pub(super) fn new(alloc: Global) -> Tray {
+        Tray {
+            kept: Vec::new(alloc),
             step: usize::MAX,
             failure: None,
             flush_failure: None,
             writes: 0,
             flushes: 0,
             flushed: 0,
-        })
+        }
+    }
+
+    /// Returns a writer that takes all bytes, and has memory for `room` bytes from the start.
+    pub(super) fn with_room(alloc: Global, room: usize) -> Result<Tray, AllocError> {
+        let mut tray = Tray::new(alloc);
+        tray.kept.try_reserve(room)?;
+        Ok(tray)
     }
 
     /// Returns true if the writer was flushed exactly once, after its last byte.
@@ -129,24 +124,5 @@ impl Write for Tray {
         }
         self.flushed = self.kept.len();
         Ok(())
-    }
-}
-
-/// What a run of the program reads, and what it writes.
-#[derive(Drop)]
-pub(super) struct Streams<'a> {
-    pub(super) input: Script<'a>,
-    pub(super) output: Tray,
-    pub(super) faults: Tray,
-}
-
-impl<'a> Streams<'a> {
-    pub(super) fn of(alloc: Global, input: Script<'a>) -> Result<Streams<'a>, AllocError> {
-        let (output, faults) = (Tray::new(alloc)?, Tray::new(alloc)?);
-        Ok(Streams {
-            input,
-            output,
-            faults,
-        })
     }
 }

@@ -1,7 +1,7 @@
 //! Tests of the program in a process whose memory is used up; each run has a little more memory than the run before.
-use super::endings::{status_of, told_by};
-use super::fakes::{Script, Streams};
-use super::spelling::Row;
+use super::endings::{Told, shown, status_of, told_by};
+use super::fakes::{Script, Tray};
+use super::spelling::{parts_of, spelled};
 use arachne_shortage::Hoard;
 use std::alloc::{AllocError, Global};
 use std::process::Abort;
@@ -15,26 +15,30 @@ const BYTES: usize = 100;
 
 const WANTS: &[&[u8]] = &[b"fault 30\n", b"fault 35\n"];
 
-/// Returns true if the run ends as expected, and false if memory or a kernel thread was refused. It may end in no other
-/// way.
-fn is_told<'a, R: Abort + Threads + Wait + Clock + Sync>(
+/// Returns true if the run ends as expected.
+///
+/// Returns false if memory or a kernel thread was refused, and `None` if it ends in any other way.
+fn is_told<R: Threads + Wait + Clock + Sync>(
     rt: &R,
     alloc: Global,
     words: &[&str],
-    row: &'a Row<'_>,
-    streams: &mut Streams<'a>,
-) -> bool {
-    streams.input = Script::of(row.input.as_bytes());
-    streams.output.kept.clear();
-    streams.faults.kept.clear();
-    let status = status_of(rt, alloc, words, streams);
-    if told_by(row.told.as_str()).is_end(status, streams) {
-        return true;
+    input: &[u8],
+    told: Told<'_>,
+    output: &mut Tray,
+    faults: &mut Tray,
+) -> Option<bool> {
+    output.kept.clear();
+    faults.kept.clear();
+    let status = status_of(rt, alloc, words, &mut Script::of(input), output, faults);
+    let (output, faults) = (output.kept.as_slice(), faults.kept.as_slice());
+    if status == told.status && output == told.output && shown(status, faults) == told.faults {
+        return Some(true);
     }
-    let faults = streams.faults.kept.as_slice();
-    let is_short = status == 1 && streams.output.kept.is_empty() && WANTS.contains(&faults);
-    assert!(rt; is_short, "{}", row.words);
-    false
+    let wants = WANTS.contains(&faults);
+    if status == 1 && output.is_empty() && wants {
+        return Some(false);
+    }
+    None
 }
 
 const ROWS: &[&str] = &[
@@ -62,19 +66,26 @@ fn ends_at_last<R: Abort + Threads + Wait + Clock + Sync>(
     row: &str,
     most: u64,
 ) -> Result<u64, AllocError> {
-    let row = Row::of(alloc, row)?;
-    let words: Vec<&str> = row.words.split(' ').collect(alloc)?;
-    let mut streams = Streams::of(alloc, Script::of(b""))?;
-    let with_memory = is_told(rt, alloc, words.as_slice(), &row, &mut streams);
-    assert!(rt; with_memory, "{}", row.words);
+    let (words, input, told) = parts_of(row);
+    let (input, told) = (spelled(alloc, input)?, spelled(alloc, told)?);
+    let parts: Vec<&str> = words.split(' ').collect(alloc)?;
+    let (parts, input, told) = (parts.as_slice(), input.as_bytes(), told_by(told.as_str()));
+    let mut output = Tray::with_room(alloc, 1_000)?;
+    let mut faults = Tray::with_room(alloc, 2_000)?;
+    let with_memory = is_told(rt, alloc, parts, input, told, &mut output, &mut faults);
+    assert!(rt; with_memory == Some(true), "{words}");
     let mut hoard = Hoard::take(alloc)?;
-    for runs in 1..=most {
-        if is_told(rt, alloc, words.as_slice(), &row, &mut streams) {
-            return Ok(runs);
+    let mut runs = 0u64;
+    for _ in 0..most {
+        runs = runs.wrapping_add(1);
+        let ended = is_told(rt, alloc, parts, input, told, &mut output, &mut faults);
+        assert!(rt; ended.is_some(), "{words}: {runs}");
+        if ended == Some(true) {
+            break;
         }
         hoard.give_back(BYTES);
     }
-    Ok(most)
+    Ok(runs)
 }
 
 /// Each test case must need more than ten runs. On one core, it must at last end as with enough memory.

@@ -1,4 +1,5 @@
-//! Reads the rows of tests.
+//! Reads the rows of tests: a command line, an input and the expected end, as `arachne eval < INPUT => 0
+//! OUTPUT!FAULTS`.
 use std::alloc::{AllocError, Global};
 
 /// Appends one piece of a text in the short notation. A piece `PART*N]TAIL` (without a `[`) stands for PART, N times,
@@ -15,7 +16,7 @@ fn append(text: &mut String, piece: &str) -> Result<(), AllocError> {
 }
 
 /// Expands a text in the short notation: each `|` stands for the end of a line, and `[PART*N]` for PART, N times.
-fn spelled(alloc: Global, row: &str) -> Result<String, AllocError> {
+pub(super) fn spelled(alloc: Global, row: &str) -> Result<String, AllocError> {
     let lines = row.replace(alloc, '|', "\n")?;
     let mut text = String::new(alloc);
     for piece in lines.split('[') {
@@ -24,20 +25,8 @@ fn spelled(alloc: Global, row: &str) -> Result<String, AllocError> {
     Ok(text)
 }
 
-/// A row of a test: a command line, its input, and the expected end.
-#[derive(Drop)]
-pub(super) struct Row<'a> {
-    pub(super) words: &'a str,
-    pub(super) input: String,
-    pub(super) told: String,
-}
-
-impl<'a> Row<'a> {
-    /// Reads a row such as `arachne eval < INPUT => 0 OUTPUT!FAULTS`. What follows ` < ` is in the short notation.
-    pub(super) fn of(alloc: Global, row: &'a str) -> Result<Row<'a>, AllocError> {
-        let (words, rest) = row.split_once(" < ").unwrap_or((row, ""));
-        let (input, told) = rest.split_once(" => ").unwrap_or((rest, ""));
-        let (input, told) = (spelled(alloc, input)?, spelled(alloc, told)?);
-        Ok(Row { words, input, told })
-    }
+pub(super) fn parts_of(row: &str) -> (&str, &str, &str) {
+    let (words, rest) = row.split_once(" < ").unwrap_or((row, ""));
+    let (input, told) = rest.split_once(" => ").unwrap_or((rest, ""));
+    (words, input, told)
 }

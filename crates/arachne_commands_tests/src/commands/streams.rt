@@ -1,7 +1,7 @@
 //! Tests with streams that fail, that give or take few bytes at a time, and that never end.
 use super::endings::{Told, assert_ends, ends, fault, status_of, told_by};
-use super::fakes::{Failure, Script, Streams, Tray};
-use super::spelling::Row;
+use super::fakes::{Failure, Script, Tray};
+use super::spelling::{parts_of, spelled};
 use arachne_cli::{Fault, INPUT_LIMIT, refuse};
 use std::alloc::{AllocError, Global};
 use std::io::ErrorKind;
@@ -36,13 +36,13 @@ const REFUSED: &[&str] = &[
 const STEPS: &[usize] = &[1, 7, usize::MAX];
 
 /// Errors that a stream returns, only once if the second field is true.
-const ERRORS: &[(Option<ErrorKind>, bool)] = &[
-    (Some(ErrorKind::Interrupted), true),
-    (Some(ErrorKind::Interrupted), false),
-    (Some(ErrorKind::WouldBlock), true),
-    (Some(ErrorKind::WouldBlock), false),
-    (Some(ErrorKind::Other), true),
-    (Some(ErrorKind::Other), false),
+const ERRORS: &[(ErrorKind, bool)] = &[
+    (ErrorKind::Interrupted, true),
+    (ErrorKind::Interrupted, false),
+    (ErrorKind::WouldBlock, true),
+    (ErrorKind::WouldBlock, false),
+    (ErrorKind::Other, true),
+    (ErrorKind::Other, false),
 ];
 
 /// Makes each read of a test case fail, one after another, and checks that the program reads no more.
@@ -54,15 +54,23 @@ fn each_read_fails<R: Abort + Threads + Wait + Clock + Sync>(
     row: &str,
     step: usize,
 ) -> Result<u64, AllocError> {
-    let Row { words, input, told } = Row::of(alloc, row)?;
-    let whole = Script::in_steps(input.as_bytes(), step);
-    let whole = assert_ends(rt, alloc, words, whole, told_by(told.as_str()))?;
-    for at in 1..=whole.reads {
+    let (words, input, told) = parts_of(row);
+    let (input, told) = (spelled(alloc, input)?, spelled(alloc, told)?);
+    let mut whole = Script::of(input.as_bytes());
+    whole.step = step;
+    assert_ends(rt, alloc, words, &mut whole, told_by(told.as_str()))?;
+    for before in 0..whole.reads {
+        let at = before.wrapping_add(1);
         for &(error, once) in ERRORS {
-            let mut script = Script::in_steps(input.as_bytes(), step);
-            script.failure = Some(Failure { at, error, once });
-            let script = assert_ends(rt, alloc, words, script, fault(b"", b"fault 37\n"))?;
-            assert!(rt; script.reads == at, "{words}: {at} {error:?} {once}");
+            let mut input = Script::of(input.as_bytes());
+            input.step = step;
+            input.failure = Some(Failure {
+                at,
+                error: Some(error),
+                once,
+            });
+            assert_ends(rt, alloc, words, &mut input, fault(b"fault 37\n"))?;
+            assert!(rt; input.reads == at, "{words}: {at} {error:?} {once}");
         }
     }
     Ok(whole.reads)
@@ -96,7 +104,7 @@ fn readers_that_never_end(rt: HostRuntime) -> Result<(), AllocError> {
         let text = text.repeat(rt.alloc(), 2_000)?;
         let mut input = Script::of(b"");
         input.again = text.as_bytes();
-        let input = assert_ends(&rt, rt.alloc(), words, input, fault(b"", b"fault 36\n"))?;
+        assert_ends(&rt, rt.alloc(), words, &mut input, fault(b"fault 36\n"))?;
         assert!(rt; input.given == INPUT_LIMIT as u64 + 1);
     }
     Ok(())
@@ -121,23 +129,24 @@ enum Stream {
     Faults,
 }
 
-/// Returns streams with this input, of which the writers take `step` bytes at a time, and `stream` fails.
-fn failing(
-    alloc: Global,
-    input: &[u8],
+#[derive(Clone, Copy)]
+struct Case<'a> {
+    words: &'a str,
+    input: &'a [u8],
+    row: &'a str,
     step: usize,
-    stream: Stream,
-    failure: Option<Failure>,
-) -> Result<Streams<'_>, AllocError> {
-    let mut streams = Streams::of(alloc, Script::of(input))?;
-    streams.output.step = step;
-    streams.faults.step = step;
+}
+
+fn trays(alloc: Global, step: usize, stream: Stream, failure: Option<Failure>) -> (Tray, Tray) {
+    let (mut output, mut faults) = (Tray::new(alloc), Tray::new(alloc));
+    output.step = step;
+    faults.step = step;
     match stream {
-        Stream::Output => streams.output.failure = failure,
-        Stream::Flush => streams.output.flush_failure = failure,
-        Stream::Faults => streams.faults.failure = failure,
+        Stream::Output => output.failure = failure,
+        Stream::Flush => output.flush_failure = failure,
+        Stream::Faults => faults.failure = failure,
     }
-    Ok(streams)
+    (output, faults)
 }
 
 /// Returns the bytes that were taken before write number `at`, if each earlier write took `step` bytes.
@@ -146,14 +155,21 @@ fn taken(bytes: &[u8], at: u64, step: usize) -> &[u8] {
     &bytes[..count.min(bytes.len())]
 }
 
-/// Returns the expected end of a run in which call number `at` on `stream` fails, if `row` is that of the others.
-fn told_of(row: &str, step: usize, stream: Stream, at: u64) -> Told<'_> {
-    let told = told_by(row);
+fn told_of<'a>(case: &Case<'a>, stream: Stream, at: u64) -> Told<'a> {
+    let told = told_by(case.row);
     match stream {
-        Stream::Output => fault(taken(told.output, at, step), b"fault 38\n"),
-        Stream::Flush => fault(told.output, b"fault 38\n"),
+        Stream::Output => Told {
+            status: 1,
+            output: taken(told.output, at, case.step),
+            faults: b"fault 38\n",
+        },
+        Stream::Flush => Told {
+            status: 1,
+            faults: b"fault 38\n",
+            ..told
+        },
         Stream::Faults => Told {
-            faults: taken(told.faults, at, step),
+            faults: taken(told.faults, at, case.step),
             ..told
         },
     }
@@ -163,41 +179,39 @@ fn told_of(row: &str, step: usize, stream: Stream, at: u64) -> Told<'_> {
 fn calls_of<R: Abort + Threads + Wait + Clock + Sync>(
     rt: &R,
     alloc: Global,
-    row: &Row<'_>,
-    step: usize,
+    case: &Case<'_>,
     stream: Stream,
     failure: Option<Failure>,
 ) -> Result<u64, AllocError> {
-    let mut streams = failing(alloc, row.input.as_bytes(), step, stream, failure)?;
+    let (mut output, mut faults) = trays(alloc, case.step, stream, failure);
+    let mut script = Script::of(case.input);
     let told = match failure {
-        Some(failure) => told_of(row.told.as_str(), step, stream, failure.at),
-        None => told_by(row.told.as_str()),
+        Some(failure) => told_of(case, stream, failure.at),
+        None => told_by(case.row),
     };
-    let is_right = ends(rt, alloc, row.words, &mut streams, told)?;
-    assert!(rt; is_right, "{}: {stream:?} {failure:?}", row.words);
+    let (words, output_end, faults_end) = (case.words, &mut output, &mut faults);
+    let is_right = ends(rt, alloc, words, &mut script, output_end, faults_end, told)?;
+    assert!(rt; is_right, "{words}: {stream:?} {failure:?}");
     Ok(match stream {
-        Stream::Output => streams.output.writes,
-        Stream::Flush => streams.output.flushes,
-        Stream::Faults => streams.faults.writes,
+        Stream::Output => output.writes,
+        Stream::Flush => output.flushes,
+        Stream::Faults => faults.writes,
     })
 }
 
-/// Makes each call on each stream fail, one after another, in each way. Checks that no later call on that stream is
-/// made.
+/// Makes each call on `stream` fail, one after another, in each way. Checks that no later call on `stream` is made.
 fn each_call_fails<R: Abort + Threads + Wait + Clock + Sync>(
     rt: &R,
     alloc: Global,
-    row: &Row<'_>,
-    step: usize,
+    case: &Case<'_>,
+    stream: Stream,
 ) -> Result<(), AllocError> {
-    for stream in [Stream::Output, Stream::Flush, Stream::Faults] {
-        let calls = calls_of(rt, alloc, row, step, stream, None)?;
-        for at in 1..=calls {
-            for &(error, once) in FAILS {
-                let failure = Some(Failure { at, error, once });
-                let made = calls_of(rt, alloc, row, step, stream, failure)?;
-                assert!(rt; made == at, "{failure:?}");
-            }
+    let calls = calls_of(rt, alloc, case, stream, None)?;
+    for at in 1..=calls {
+        for &(error, once) in FAILS {
+            let failure = Some(Failure { at, error, once });
+            let made = calls_of(rt, alloc, case, stream, failure)?;
+            assert!(rt; made == at, "{failure:?}");
         }
     }
     Ok(())
@@ -207,11 +221,21 @@ fn each_call_fails<R: Abort + Threads + Wait + Clock + Sync>(
 /// the message can't be written, the output and the exit status must not change.
 #[test]
 fn a_failed_write_is_not_tried_again(rt: HostRuntime) -> Result<(), AllocError> {
+    let alloc = rt.alloc();
     for rows in [COMMANDS, REFUSED] {
         for &row in rows {
-            let row = Row::of(rt.alloc(), row)?;
+            let (words, input, told) = parts_of(row);
+            let (input, text) = (spelled(alloc, input)?, spelled(alloc, told)?);
             for &step in STEPS {
-                each_call_fails(&rt, rt.alloc(), &row, step)?;
+                let case = Case {
+                    words,
+                    input: input.as_bytes(),
+                    row: text.as_str(),
+                    step,
+                };
+                for stream in [Stream::Output, Stream::Flush, Stream::Faults] {
+                    each_call_fails(&rt, alloc, &case, stream)?;
+                }
             }
         }
     }
@@ -221,20 +245,31 @@ fn a_failed_write_is_not_tried_again(rt: HostRuntime) -> Result<(), AllocError> 
 /// Command lines that `clap` (the parser of arguments) answers with a text.
 const USAGE: &[&str] = &["arachne", "arachne eval --cores 4", "arachne run --help"];
 
-/// The one way to fail in which `std` would not end: it repeats an interrupted write of a usage text.
-const ALWAYS_INTERRUPTED: (Option<ErrorKind>, bool) = (Some(ErrorKind::Interrupted), false);
-
 /// Tests that, if the arguments are refused, the exit status is the same even if the usage text can't be written.
+///
+/// No test interrupts every write: `std` repeats an interrupted write of that text, and would not end.
 #[test]
 fn a_usage_that_fails_changes_nothing(rt: HostRuntime) -> Result<(), AllocError> {
+    let alloc = rt.alloc();
     for &words in USAGE {
-        let words: Vec<&str> = words.split(' ').collect(rt.alloc())?;
+        let words: Vec<&str> = words.split(' ').collect(alloc)?;
         for at in 1..40 {
-            for &(error, once) in FAILS.iter().filter(|way| **way != ALWAYS_INTERRUPTED) {
+            for &(error, once) in FAILS {
+                if error == Some(ErrorKind::Interrupted) && !once {
+                    continue;
+                }
+                let mut script = Script::of(b"");
                 let failure = Some(Failure { at, error, once });
-                let mut streams = failing(rt.alloc(), b"", 16, Stream::Faults, failure)?;
-                let status = status_of(&rt, rt.alloc(), words.as_slice(), &mut streams);
-                assert!(rt; status == 2 && streams.input.reads == 0 && streams.output.writes == 0);
+                let (mut output, mut faults) = trays(alloc, 16, Stream::Faults, failure);
+                let status = status_of(
+                    &rt,
+                    alloc,
+                    words.as_slice(),
+                    &mut script,
+                    &mut output,
+                    &mut faults,
+                );
+                assert!(rt; status == 2 && script.reads == 0 && output.writes == 0);
             }
         }
     }
@@ -243,13 +278,12 @@ fn a_usage_that_fails_changes_nothing(rt: HostRuntime) -> Result<(), AllocError>
 
 /// Tests that the longest error message is written whole, even if the writer takes one byte at a time.
 #[test]
-fn the_longest_fault_line_is_written_whole(rt: HostRuntime) -> Result<(), AllocError> {
+fn the_longest_fault_line_is_written_whole(rt: HostRuntime) {
     for &step in STEPS {
-        let mut faults = Tray::new(rt.alloc())?;
+        let mut faults = Tray::new(rt.alloc());
         faults.step = step;
         let status = refuse(&mut faults, Fault::NoOrder { index: usize::MAX }.line());
         let line = b"fault 26 order 18446744073709551615\n";
         assert!(rt; status == 1 && faults.kept.as_slice() == line.as_slice());
     }
-    Ok(())
 }
