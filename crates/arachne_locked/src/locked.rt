@@ -129,17 +129,13 @@ impl<T: Tagged + Drop> Seats for LockedContexts<T> {
         let mut last = self.last_carrier.lock(rt);
         let carrier = next_carrier(*last, seat.carrier);
         *last = carrier;
-        let (first, second) = seat.weight.split();
-        let own = LockedSeat {
-            weight: first,
-            ..seat
-        };
+        let (weight, other) = seat.weight.split();
         let other = LockedSeat {
             carrier,
-            weight: second,
+            weight: other,
             out: 0,
         };
-        (own, other)
+        (LockedSeat { weight, ..seat }, other)
     }
 
     fn join_seats<R: Wait>(&self, rt: &R, seat: LockedSeat, other: LockedSeat) -> LockedSeat {
@@ -325,22 +321,11 @@ impl<T: Tagged + Drop> Contexts<T> for LockedContexts<T> {
         seat: LockedSeat,
     ) -> Result<Vec<(ThreadId, T)>, (LockedContexts<T>, LockedSeat)> {
         let _ = rt;
-        let LockedContexts {
-            state,
-            last_carrier,
-            cores,
-            slots,
-        } = self;
-        match state.into_inner().close(alloc) {
+        match self.state.into_inner().close(alloc) {
             Ok(rest) => Ok(rest),
             Err(state) => {
-                let table = LockedContexts {
-                    state: Mutex::new(state),
-                    last_carrier,
-                    cores,
-                    slots,
-                };
-                Err((table, seat))
+                let state = Mutex::new(state);
+                Err((LockedContexts { state, ..self }, seat))
             }
         }
     }

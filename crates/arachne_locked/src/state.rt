@@ -398,12 +398,11 @@ impl<T: Tagged + Drop> TableState<T> {
         }
         let from = self.homes.world().context_at(place);
         match self.homes.world().state(from) {
-            State::Free | State::Claimed { .. } | State::Spent => return Moved::Unposted,
-            State::Held { .. } if !occ.is_exclusive() => return Moved::Running,
-            State::Ready { .. } | State::Blocked { .. } if !occ.is_exclusive() => {}
-            _ => return Moved::Alone,
+            State::Free | State::Claimed { .. } | State::Spent => Moved::Unposted,
+            _ if occ.is_exclusive() => Moved::Alone,
+            State::Held { .. } => Moved::Running,
+            State::Ready { .. } | State::Blocked { .. } => self.move_to(carrier, from, place, to),
         }
-        self.move_to(carrier, from, place, to)
     }
 
     /// No kernel thread may run the thread, and it must not have its core for itself.
@@ -419,10 +418,7 @@ impl<T: Tagged + Drop> TableState<T> {
         let Some(occ) = self.look(to) else {
             return Moved::NoRoom(no_core(self.slots()).word());
         };
-        if occ.is_closed() {
-            return Moved::NoRoom(occ.word());
-        }
-        if occ.is_exclusive() {
+        if occ.is_closed() || occ.is_exclusive() {
             return Moved::NoRoom(occ.word());
         }
         let Some(index) = occ.lowest_free_below(self.slots()) else {

@@ -4,7 +4,7 @@
 mod relay;
 
 use crate::relay::Relay;
-use anyhow::{Result, bail};
+use anyhow::{Context, Result};
 use arachne_team::work_together;
 
 /// The number of jobs that the relay has for each kernel thread.
@@ -12,16 +12,11 @@ const JOBS: usize = 500;
 
 fn main(rt: HostRuntime) -> Result<()> {
     for team in [2, 4] {
-        let Ok((relay, seat)) = Relay::new(rt.alloc(), team, JOBS) else {
-            bail!("memory was refused");
-        };
-        let Some(seat) = work_together(&rt, rt.alloc(), &relay, seat) else {
-            bail!("a kernel thread was refused");
-        };
+        let (relay, seat) = Relay::new(rt.alloc(), team, JOBS)?;
+        let joined = work_together(&rt, rt.alloc(), &relay, seat);
+        let seat = joined.context("a kernel thread was refused")?;
         let ended = relay.ended();
-        let Some(left) = relay.close(rt.alloc(), seat) else {
-            bail!("memory was refused");
-        };
+        let left = relay.close(rt.alloc(), seat).context("memory was refused")?;
         println!(rt;
             "{team} kernel threads: {ended} jobs ended, each after the one before it; {left} are left"
         )?;

@@ -57,10 +57,7 @@ impl Relay {
         ensures seat { IfOk result (λ made. IsFree made.0.executor made.1) }
         ensures team { IfOk result (λ made. made.0.team ≡ team) }
     {
-        let mut parkers = Vec::new(alloc);
-        for _ in 0..team {
-            parkers.push(Parker::new())?;
-        }
+        let parkers: Vec<Parker> = (0..team).map(|_| Parker::new()).collect(alloc)?;
         let (executor, mut seat) = Executor::new(alloc, usize::from(team))?;
         let names = spawn_all(alloc, &executor, &mut seat, jobs)?;
         let relay = Relay {
@@ -108,10 +105,7 @@ impl Relay {
         for _ in rt.forever() {
             match self.executor.wake(seat, name) {
                 JobWoken::Lost => {}
-                JobWoken::Ready { unpark: true } => {
-                    self.unpark(place_of(name));
-                    return;
-                }
+                JobWoken::Ready { unpark: true } => return self.unpark(place_of(name)),
                 _ => return,
             }
         }

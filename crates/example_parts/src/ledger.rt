@@ -3,7 +3,7 @@
 ghost use Rattle.std.specs.Prelude.{◌≡◌, ◌%◌, ◌^◌, [], ◌∷◌, IfSome, sum};
 ghost use Rattle.arachne_ledger.specs.Views.{IsShareOf};
 
-use anyhow::{Result, bail};
+use anyhow::{Context, Result};
 use arachne_ledger::{Ledgers, Share};
 use std::alloc::Global;
 use std::thread;
@@ -37,17 +37,12 @@ fn sum_of<R: Threads>(rt: &R, alloc: Global, numbers: &[u64]) -> Option<u64>
     );
     let mut share = ledgers.join_shares(first, second);
     // The sum is final only if this share is whole, so that nobody else can still add.
-    if !share.is_whole() {
-        return None;
-    }
-    Some(ledgers.read(&mut share, 0))
+    share.is_whole().then(|| ledgers.read(&mut share, 0))
 }
 
 pub fn show<R: Threads + Sync + Print>(rt: &R, alloc: Global) -> Result<()> {
     let numbers: Vec<u64> = (0..10_000u64).collect(alloc)?;
-    let Some(total) = sum_of(rt, alloc, numbers.as_slice()) else {
-        bail!("memory was refused");
-    };
+    let total = sum_of(rt, alloc, numbers.as_slice()).context("memory was refused")?;
     println!(rt; "{total}")?;
     Ok(())
 }

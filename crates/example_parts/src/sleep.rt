@@ -4,7 +4,7 @@ ghost use Rattle.std.specs.Prelude.{IfSome};
 ghost use Rattle.arachne_sleep.specs.OneHolder.{HasOneHolderAtATime};
 ghost use Rattle.arachne_sleep.specs.Views.{IsSeatOf};
 
-use anyhow::{Result, bail};
+use anyhow::{Context, Result};
 use arachne_core::ThreadId;
 use arachne_sleep::{Asked, History, LockSeat, SleepLock, Tried, Who};
 use std::alloc::Global;
@@ -94,13 +94,9 @@ pub fn show<R: Threads + Wait + Clock + Sync + Print>(rt: &R, alloc: Global) -> 
         || take_turns(rt, &lock, first, 1),
         || take_turns(rt, &lock, second, 2),
     );
-    let (Some(first), Some(second)) = (first, second) else {
-        bail!("memory was refused");
-    };
+    let (first, second) = first.zip(second).context("memory was refused")?;
     let seat = lock.join_seats(first, second);
-    let Some(history) = history(lock, seat) else {
-        bail!("a seat is missing");
-    };
+    let history = history(lock, seat).context("a seat is missing")?;
     println!(rt; "{} events", history.len())?;
     Ok(())
 }

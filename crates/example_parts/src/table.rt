@@ -3,7 +3,7 @@
 
 ghost use Rattle.std.specs.Prelude.{◌≡◌, ◌<◌, IfSome};
 
-use anyhow::{Result, bail};
+use anyhow::{Context, Result, ensure};
 use arachne_table::{Claimed, Contexts, Tagged, Taken, WordContexts};
 use std::alloc::Global;
 use std::sync::Wait;
@@ -92,16 +92,10 @@ pub fn show<R: Threads + Wait + Clock + Sync + Print>(rt: &R, alloc: Global) -> 
         || post::<WordContexts<Parcel>, R>(rt, &table, first),
         || take_all::<WordContexts<Parcel>, R>(rt, &table, second),
     );
-    let (Some(first), Some((second, sum))) = (first, second) else {
-        bail!("memory was refused");
-    };
+    let (first, (second, sum)) = first.zip(second).context("memory was refused")?;
     let seat = table.join_seats(first, second);
-    if !table.is_whole(&seat) {
-        bail!("a seat is missing");
-    }
-    let Ok(left) = table.close(alloc, seat) else {
-        bail!("memory was refused");
-    };
+    ensure!(table.is_whole(&seat), "a seat is missing");
+    let left = table.close(alloc, seat).ok().context("memory was refused")?;
     println!(rt; "the sum is {sum}, and {} are left", left.len())?;
     Ok(())
 }
