@@ -28,34 +28,44 @@ fn is_held_and_freed(locks: &Locks, seat: &mut LockSetSeat, lock: usize) -> bool
     )
 }
 
-/// Asks for `lock` for each task of the crowd, until there is memory for the request.
+/// Asks for `lock` for the task `who`, again with a little more memory after each refusal, until the lock takes it in.
 ///
 /// Returns the number of refusals, or `None` if one of them changed the lock.
+fn asks_at_last(
+    locks: &Locks,
+    seat: &mut LockSetSeat,
+    lock: usize,
+    who: u64,
+    hoard: &mut Hoard,
+) -> Option<u64>
+    requires { IsLockAt locks.now seat.old.table lock }
+    ensures { IsSeatOf locks.now seat.new }
+{
+    for refused in 0..TRIES {
+        match locks.ask(seat, lock, who) {
+            Attempt::Answered(Ok(_)) => return Some(refused),
+            Attempt::Answered(Err(AskRefusal::Memory)) => hoard.give_back(FEW),
+            _ => return None,
+        }
+        let Attempt::Answered(Withdrawn::Outside) = locks.withdraw(seat, lock, who) else {
+            return None;
+        };
+    }
+    None
+}
+
+/// Asks for `lock` for each task of the crowd. Returns the number of refusals, or `None` if one of them changed the
+/// lock.
 fn all_ask(locks: &Locks, seat: &mut LockSetSeat, lock: usize, hoard: &mut Hoard) -> Option<u64>
     requires { IsLockAt locks.now seat.old.table lock }
     ensures { IsSeatOf locks.now seat.new }
 {
-    let (mut who, mut refused) = (0u64, 0u64);
-    for _ in 0..TRIES {
-        if who == CROWD {
-            return Some(refused);
-        }
-        match locks.ask(seat, lock, who) {
-            Attempt::Answered(Ok(_)) => {
-                who = who.wrapping_add(1);
-                hoard.take_again().ok()?;
-            }
-            Attempt::Answered(Err(AskRefusal::Memory)) => {
-                let Attempt::Answered(Withdrawn::Outside) = locks.withdraw(seat, lock, who) else {
-                    return None;
-                };
-                refused = refused.wrapping_add(1);
-                hoard.give_back(FEW);
-            }
-            _ => return None,
-        }
+    let mut refused = 0u64;
+    for who in 0..CROWD {
+        refused = refused.wrapping_add(asks_at_last(locks, seat, lock, who, hoard)?);
+        hoard.take_again().ok()?;
     }
-    None
+    Some(refused)
 }
 
 /// Frees the lock for each task of the crowd, which needs no memory, and returns the number of releases.
